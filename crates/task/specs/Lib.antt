@@ -1,0 +1,4 @@
+pub mod Meaning
+pub mod Factors
+pub mod Centre
+pub mod Valid

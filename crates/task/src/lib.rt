@@ -1,0 +1,72 @@
+// The task as the reader hands it over, and the centre state. What a task means stands in specs/: Meaning first, then Factors.
+ghost use mathlib.Core.Path.{_≡_};
+ghost use lib.ListN.{getD};
+ghost use Rattle.task.specs.Centre.{blankCentre, withValue, centreAfter, centreMeets};
+
+// In a condition, an effect or the goal: the variable is not named. No value is 16.
+pub const FREE: u8 = 16;
+
+// A task. Entries behind the last variable or action hold one fixed value: 0, or 16 in factors, goal, conditions and effects.
+// What an action names of variable v stands at 32 times the action plus v.
+pub struct Task {
+    pub variables: u8,
+    pub leaves: u8,
+    pub actions: u8,
+    pub sizes: [u8; 32],
+    pub factors: [u8; 32],
+    pub initial: [u8; 32],
+    pub goal: [u8; 32],
+    pub handling: [u16; 256],
+    pub distance: [u16; 256],
+    pub conditions: [u8; 8192],
+    pub effects: [u8; 8192],
+}
+
+// A centre state: the value of each centre variable at its number, 0 elsewhere.
+pub struct Centre {
+    pub values: [u8; 32],
+}
+
+impl Centre {
+    // Every entry 0, before any value is set.
+    pub fn blank() -> Centre
+        ensures { λ r. ⌜ r ≡ blankCentre ⌝ }
+    {
+        Centre { values: [0; 32] }
+    }
+
+    // The state with one value set.
+    pub fn with(mut self, variable: usize, value: u8) -> Centre
+        ensures { λ r. ⌜ r ≡ withValue self variable value ⌝ }
+    {
+        if variable < 32 {
+            self.values[variable] = value;
+        }
+        self
+    }
+
+    // The next centre state: each centre variable that the effects name takes its value from them.
+    pub fn after(self, factors: [u8; 32], effects: [u8; 32]) -> Centre
+        ensures { λ r. ⌜ r ≡ centreAfter (λ v. getD factors v 0) (λ v. getD effects v 0) self ⌝ }
+    {
+        let mut next = self;
+        for v in 0..32 {
+            if factors[v] == 0 && effects[v] != FREE {
+                next = next.with(v, effects[v]);
+            }
+        }
+        next
+    }
+
+    // Whether the pairs on centre variables hold.
+    pub fn meets(self, factors: [u8; 32], pairs: [u8; 32]) -> bool
+        ensures { λ r. ⌜ r ≡ centreMeets (λ v. getD factors v 0) (λ v. getD pairs v 0) self ⌝ }
+    {
+        for v in 0..32 {
+            if factors[v] == 0 && pairs[v] != FREE && pairs[v] != self.values[v] {
+                return false;
+            }
+        }
+        true
+    }
+}
