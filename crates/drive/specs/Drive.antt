@@ -1,4 +1,5 @@
 -- Drive times in hundredths of a second, by distance in cm. Follows "Drive times".
+pub mod Laws
 use mathlib.Core.Path.{_≡_}
 use mathlib.Core.Bool.{Bool, true, false}
 use Prim.Native.Nat.{ℕ, zero, suc, _+_, _*_, _/_, _≤_, _<_}
