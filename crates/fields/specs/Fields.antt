@@ -1,0 +1,32 @@
+-- The fields of a record: "Bit-packed, most significant bit first. The width of every field stands in one table."
+pub mod Laws
+use Prim.Native.Nat.{ℕ, zero, suc, _+_, _-_, _*_, _/_, _%_, _^_}
+use mathlib.Core.List.{List, [], _∷_}
+use mathlib.Core.Bool.{cond}
+use lib.ListN.{length, getD}
+use lib.Dec.{leb}
+use Rattle.loops.specs.Parsed.{got, refused}
+use Rattle.fields.specs.Answers.{Reading}
+use Rattle.fields.specs.declared.Refusal.the-variants.{RecordEnds}
+
+-- variables minus 1, leaves minus 1, actions; size minus 1, factor, initial value; number of pairs; handling, distance; variable, value
+abbrev pub widths : List ℕ
+widths = 5 ∷ 3 ∷ 8 ∷ 4 ∷ 4 ∷ 4 ∷ 6 ∷ 12 ∷ 10 ∷ 5 ∷ 4 ∷ []
+
+-- the width of the fields of a kind
+abbrev pub width : ℕ → ℕ
+width kind = getD widths kind 0
+
+-- bit k of the record
+unfoldable pub bitOf : List ℕ → ℕ → ℕ
+bitOf rec k = getD rec (k / 8) 0 / 2 ^ (7 - k % 8) % 2
+
+-- the number that the w bits from bit k on write
+unfoldable pub fieldOf : List ℕ → ℕ → ℕ → ℕ
+fieldOf rec k zero = 0
+fieldOf rec k (suc w) = fieldOf rec k w * 2 + bitOf rec (k + w)
+
+-- the next field of a kind, at bit k: "1 record ends inside a field"
+unfoldable pub nextField : List ℕ → ℕ → ℕ → Reading ℕ
+nextField rec kind k =
+    cond (leb (k + width kind) (8 * length rec)) (got (fieldOf rec k (width kind)) (k + width kind)) (refused RecordEnds)

@@ -1,0 +1,99 @@
+// The fields of a task record, most significant bit first, and what a record can be refused for.
+ghost use mathlib.Core.Path.{_≡_};
+ghost use Prim.Native.Nat.{_+_, _*_, _<_, _≤_, _^_};
+ghost use lib.ListN.{length};
+ghost use Rattle.fields.specs.Fields.{fieldOf, nextField};
+ghost use Rattle.fields.specs.Answers.{numberOf, fieldTold};
+
+// The width of every field in bits, by its kind.
+pub const WIDTHS: [usize; 11] = [5, 3, 8, 4, 4, 4, 6, 12, 10, 5, 4];
+
+// The kinds of fields, in the order in which a record first has them.
+pub const VARIABLES: usize = 0;
+
+pub const LEAVES: usize = 1;
+
+pub const ACTIONS: usize = 2;
+
+pub const SIZE: usize = 3;
+
+pub const FACTOR: usize = 4;
+
+pub const INITIAL: usize = 5;
+
+pub const PAIRS: usize = 6;
+
+pub const HANDLING: usize = 7;
+
+pub const DISTANCE: usize = 8;
+
+pub const VARIABLE: usize = 9;
+
+pub const VALUE: usize = 10;
+
+// Why a record is refused, in the order of the numbers 1 to 11.
+pub enum Refusal {
+    RecordEnds,
+    SizeOne,
+    FactorUnknown,
+    InitialOutside,
+    PairVariable,
+    PairValue,
+    NoEffects,
+    NotFilled,
+    FactorEmpty,
+    TooManyStates,
+    NotStar,
+}
+
+// The refusal's number.
+pub fn number(r: Refusal) -> u8
+    ensures { λ n. ⌜ n ≡ numberOf r ⌝ }
+{
+    match r {
+        Refusal::RecordEnds => 1,
+        Refusal::SizeOne => 2,
+        Refusal::FactorUnknown => 3,
+        Refusal::InitialOutside => 4,
+        Refusal::PairVariable => 5,
+        Refusal::PairValue => 6,
+        Refusal::NoEffects => 7,
+        Refusal::NotFilled => 8,
+        Refusal::FactorEmpty => 9,
+        Refusal::TooManyStates => 10,
+        Refusal::NotStar => 11,
+    }
+}
+
+// A field's number and the bit behind it, or that the record ends inside the field.
+pub enum FieldRead {
+    Bits(u16, usize),
+    Ends,
+}
+
+// The number that `width` bits from bit `at` on write; the record has them.
+pub fn bits(rec: &[u8], at: usize, width: usize) -> u16
+    requires { ⌜ (at < 2 ^ 32) × (width ≤ 12) × (at + width ≤ 8 * length (now rec)) ⌝ }
+    ensures { λ r. ⌜ r ≡ fieldOf (now (rec .entry)) at width ⌝ }
+{
+    let mut value: u16 = 0;
+    for i in 0..width {
+        let k = at + i;
+        let bit = (rec[k / 8] >> (7 - k % 8)) % 2;
+        value = value * 2 + bit as u16;
+    }
+    value
+}
+
+// The field of a kind that begins at bit `at`.
+pub fn field(rec: &[u8], at: usize, kind: usize) -> FieldRead
+    requires { ⌜ (at < 2 ^ 32) × (kind < 11) ⌝ }
+    ensures { λ r. ⌜ nextField (now (rec .entry)) kind at ≡ fieldTold r ⌝ }
+{
+    let width = WIDTHS[kind];
+    if (at + width + 7) / 8 > rec.len() {
+        return FieldRead::Ends;
+    }
+    let value = bits(rec, at, width);
+    FieldRead::Bits(value, at + width)
+}
