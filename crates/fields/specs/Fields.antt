@@ -17,6 +17,40 @@ widths = 5 ∷ 3 ∷ 8 ∷ 4 ∷ 4 ∷ 4 ∷ 6 ∷ 12 ∷ 10 ∷ 5 ∷ 4 ∷ []
 abbrev pub width : ℕ → ℕ
 width kind = getD widths kind 0
 
+-- the kinds of fields, in the order in which a record first has them
+abbrev pub VARIABLES : ℕ
+VARIABLES = 0
+
+abbrev pub LEAVES : ℕ
+LEAVES = 1
+
+abbrev pub ACTIONS : ℕ
+ACTIONS = 2
+
+abbrev pub SIZE : ℕ
+SIZE = 3
+
+abbrev pub FACTOR : ℕ
+FACTOR = 4
+
+abbrev pub INITIAL : ℕ
+INITIAL = 5
+
+abbrev pub PAIRS : ℕ
+PAIRS = 6
+
+abbrev pub HANDLING : ℕ
+HANDLING = 7
+
+abbrev pub DISTANCE : ℕ
+DISTANCE = 8
+
+abbrev pub VARIABLE : ℕ
+VARIABLE = 9
+
+abbrev pub VALUE : ℕ
+VALUE = 10
+
 -- bit k of the record
 unfoldable pub bitOf : List ℕ → ℕ → ℕ
 bitOf rec k = getD rec (k / 8) 0 / 2 ^ (7 - k % 8) % 2

@@ -89,3 +89,7 @@ gate false y = 0
 -- Two conditions on one leaf are met by one leaf state: they are tested together.
 unfoldable pub to : Task → ℕ → ℕ → ℕ → ℕ
 to t l a x = gate (meetsIn t l (condition t a) (valuesOf t l x)) (number t l (put (effect t a) (valuesOf t l x)))
+
+-- the state with the centre's values of c and leaf l in state xs l
+unfoldable pub assemble : Task → State → (ℕ → ℕ) → State
+assemble t c xs v = cond (eqb (factor t v) 0) (c v) (valuesOf t (factor t v) (xs (factor t v)) v)

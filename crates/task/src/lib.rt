@@ -1,6 +1,10 @@
 // The task as the reader hands it over, and the centre state. What a task means stands in specs/: Meaning first, then Factors.
 ghost use mathlib.Core.Path.{_≡_};
+ghost use mathlib.Core.Bool.{cond, not, _&&_, _||_};
+ghost use lib.Dec.{eqb};
 ghost use lib.ListN.{getD};
+ghost use Rattle.task.specs.Meaning.{met};
+ghost use Rattle.task.specs.Factors.{named};
 ghost use Rattle.task.specs.Centre.{blankCentre, withValue, centreAfter, centreMeets};
 
 // In a condition, an effect or the goal: the variable is not named. No value is 16.
@@ -27,6 +31,31 @@ pub struct Centre {
     pub values: [u8; 32],
 }
 
+// A variable's next value: the effect's, where the variable is the centre's and the effect names it.
+fn next_value(factor: u8, effect: u8, value: u8) -> u8
+    ensures { λ r. ⌜ r ≡ cond (eqb factor 0 && named effect) effect value ⌝ }
+{
+    if factor == 0 {
+        if effect != FREE {
+            return effect;
+        }
+    }
+    value
+}
+
+// Whether a pair holds of a variable's value; on a leaf's variable, or where there is no pair, nothing is asked.
+fn pair_holds(factor: u8, pair: u8, value: u8) -> bool
+    ensures { λ r. ⌜ r ≡ (not (eqb factor 0) || met pair value) ⌝ }
+{
+    if factor != 0 {
+        return true;
+    }
+    if pair == FREE {
+        return true;
+    }
+    pair == value
+}
+
 impl Centre {
     // Every entry 0, before any value is set.
     pub fn blank() -> Centre
@@ -49,11 +78,9 @@ impl Centre {
     pub fn after(self, factors: [u8; 32], effects: [u8; 32]) -> Centre
         ensures { λ r. ⌜ r ≡ centreAfter (λ v. getD factors v 0) (λ v. getD effects v 0) self ⌝ }
     {
-        let mut next = self;
+        let mut next = Centre::blank();
         for v in 0..32 {
-            if factors[v] == 0 && effects[v] != FREE {
-                next = next.with(v, effects[v]);
-            }
+            next = next.with(v, next_value(factors[v], effects[v], self.values[v]));
         }
         next
     }
@@ -63,7 +90,7 @@ impl Centre {
         ensures { λ r. ⌜ r ≡ centreMeets (λ v. getD factors v 0) (λ v. getD pairs v 0) self ⌝ }
     {
         for v in 0..32 {
-            if factors[v] == 0 && pairs[v] != FREE && pairs[v] != self.values[v] {
+            if !pair_holds(factors[v], pairs[v], self.values[v]) {
                 return false;
             }
         }

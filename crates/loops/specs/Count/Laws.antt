@@ -8,8 +8,8 @@ use native.Mathlib.Nat.{not-suc-le-zero}
 use native.Mathlib.Numerals.{add-one}
 use native.Mathlib.Omega.{arith}
 use native.Mathlib.Decide.{ℕ-discrete}
-use lib.ListN.{length, getD, length-append, List·getD-append}
-use lib.Seq.{getD-at}
+use lib.ListN.{length, getD, set, drop, length-append, List·getD-append}
+use lib.Seq.{getD-at, set-at, drop-cons, append-snoc}
 use Rattle.loops.specs.Count.{all, any, sum, list}
 
 -- ---- tests joined
@@ -141,3 +141,8 @@ pub list-ext : (n : ℕ) (f g : ℕ → ℕ) → ((k : ℕ) → k < n → f k �
 unfolding list
 list-ext zero f g h = refl
 list-ext (suc n) f g h = ap₂ {C = List ℕ} (λ xs x. xs ++ (x ∷ [])) (list-ext n f g (λ k l. h k (omega arith))) (h n (omega arith))
+
+-- a turn of a loop that stores f at each place of xs
+pub list-more : (n : ℕ) (f : ℕ → ℕ) (xs : List ℕ) → n < length xs → set (list n f ++ drop n xs) n (f n) ≡ list (n + 1) f ++ drop (n + 1) xs
+unfolding list
+list-more n f xs l = rw (add-one, drop-cons xs n 0, append-snoc) (set-at (list n f) (getD xs n 0) (drop (suc n) xs) (f n) n (list-length n f))
