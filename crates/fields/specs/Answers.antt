@@ -3,7 +3,18 @@ use Prim.Native.Nat.{ℕ}
 use Rattle.loops.specs.Parsed.{Parsed, got, refused}
 use Rattle.fields.specs.declared.Refusal.{Refusal}
 use Rattle.fields.specs.declared.Refusal.the-variants.{
-  RecordEnds, SizeOne, FactorUnknown, InitialOutside, PairVariable, PairValue, NoEffects, NotFilled, FactorEmpty, TooManyStates, NotStar}
+  RecordEnds,
+  SizeOne,
+  FactorUnknown,
+  InitialOutside,
+  PairVariable,
+  PairValue,
+  NoEffects,
+  NotFilled,
+  FactorEmpty,
+  TooManyStates,
+  NotStar,
+}
 use Rattle.fields.specs.declared.FieldRead.{FieldRead}
 use Rattle.fields.specs.declared.FieldRead.the-variants.{Bits, Ends}
 

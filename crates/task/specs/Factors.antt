@@ -1,12 +1,12 @@
 -- Factors: centre and leaf actions, leaf states by their numbers, the centre state. Follows "The task" and section 3.1 of document 000.
 use mathlib.Core.Bool.{Bool, true, false, cond, not, _&&_, _||_}
-use mathlib.Core.List.{List}
+use mathlib.Core.List.{List, [], _∷_}
 use Prim.Native.Nat.{ℕ, zero, suc, _+_, _*_, _/_, _%_}
 use lib.Dec.{eqb}
 use lib.ListN.{getD}
 use Rattle.loops.specs.Count.{all, any, sum, list}
 use Rattle.task.specs.declared.Task.{Task}
-use Rattle.task.specs.Meaning.{State, Partial, free, size, factor, initial, goal, condition, effect, met, put}
+use Rattle.task.specs.Meaning.{State, Partial, free, size, factor, condition, effect, cost, met, put}
 
 -- the partial assignment has a pair here
 abbrev pub named : ℕ → Bool
@@ -93,3 +93,15 @@ to t l a x = gate (meetsIn t l (condition t a) (valuesOf t l x)) (number t l (pu
 -- the state with the centre's values of c and leaf l in state xs l
 unfoldable pub assemble : Task → State → (ℕ → ℕ) → State
 assemble t c xs v = cond (eqb (factor t v) 0) (c v) (valuesOf t (factor t v) (xs (factor t v)) v)
+
+-- ---- sequences
+
+-- the centre actions of a sequence, in their order
+unfoldable pub centreActions : Task → List ℕ → List ℕ
+centreActions t [] = []
+centreActions t (a ∷ acts) = cond (centreAction t a) (a ∷ centreActions t acts) (centreActions t acts)
+
+-- what its leaf actions cost
+unfoldable pub leafCost : Task → List ℕ → ℕ
+leafCost t [] = 0
+leafCost t (a ∷ acts) = cond (centreAction t a) (leafCost t acts) (cost t a + leafCost t acts)

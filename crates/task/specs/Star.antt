@@ -118,7 +118,7 @@ module _ (t : Task) (ok : Valid t) where
 
   -- an action leaves a value inside its size
   pub outcome-at : (s : State) (a v : ℕ) → a < t .actions → v < t .variables → s v < size t v → outcome t a s v < size t v
-  outcome-at s a v la l h = go (ok .effect-in a la v l) _ refl
+  outcome-at s a v la l h = go (ok .fields .effect-in a la v l) _ refl
     where
       go : PairIn (size t v) (effect t a v) → (b : Bool) → eqb (effect t a v) free ≡ b → outcome t a s v < size t v
       go k true e = rw e h
@@ -132,7 +132,7 @@ module _ (t : Task) (ok : Valid t) where
   -- a leaf state's values are inside their sizes
   pub values-inside : (l x v : ℕ) → v < t .variables → factor t v ≡ l → valuesOf t l x v < size t v
   unfolding valuesOf
-  values-inside l x v m f = dig-lt (factor t) (size t) l x v (t .variables) m f (omega (arith, ok .size-low v m))
+  values-inside l x v m f = dig-lt (factor t) (size t) l x v (t .variables) m f (omega (arith, ok .fields .size-low v m))
 
   -- a state put together has every value inside its size
   pub assemble-inside : (c : State) (xs : ℕ → ℕ) → ((v : ℕ) → v < t .variables → factor t v ≡ 0 → c v < size t v) → Inside t (assemble t c xs)
@@ -149,7 +149,7 @@ module _ (t : Task) (ok : Valid t) where
     where
       go : Dec (v < t .variables) → v < t .variables
       go (yes m) = m
-      go (no d) = absurd (omega (arith, ok .factor-unused v (omega arith) l))
+      go (no d) = absurd (omega (arith, ok .fields .factor-unused v (omega arith) l))
 
   -- a state is determined by its centre state and its leaves' numbers
   pub determined : {s s′ : State} → Inside t s → Inside t s′ → centre t s ≡ centre t s′
@@ -157,12 +157,12 @@ module _ (t : Task) (ok : Valid t) where
   determined {s} {s′} h h′ c ns v l = go (factor t v) refl
     where
       l′ : v < 32
-      l′ = omega (arith, ok .few-variables)
+      l′ = omega (arith, ok .fields .few-variables)
 
       go : (g : ℕ) → factor t v ≡ g → s v ≡ s′ v
       go zero f = sym (centre-at t s v l′ f) ∙ ap (λ (k : Centre). valueIn k v) c ∙ centre-at t s′ v l′ f
       go (suc i) f =
-          sym (value-number t (suc i) v h l f) ∙ ap (λ (x : ℕ). valuesOf t (suc i) x v) (ns i (omega (arith, ok .factor-known v l))) ∙ value-number t (suc i) v h′ l f
+          sym (value-number t (suc i) v h l f) ∙ ap (λ (x : ℕ). valuesOf t (suc i) x v) (ns i (omega (arith, ok .fields .factor-known v l))) ∙ value-number t (suc i) v h′ l f
 
   -- ---- conditions, seen from the centre state and the leaves' numbers
 
@@ -170,7 +170,7 @@ module _ (t : Task) (ok : Valid t) where
   pub centre-meets : (p : Partial) (s : State) → centreMeets (factor t) p (centre t s) ≡ meetsIn t 0 p s
   unfolding centreMeets meetsIn
   centre-meets p s =
-      holds-ext 32 (factor t) 0 p _ s (centre-at t s) ∙ holds-rest (t .variables) 32 (factor t) 0 p s (ok .few-variables) (λ v k l f. omega (arith, centre-known v l f))
+      holds-ext 32 (factor t) 0 p _ s (centre-at t s) ∙ holds-rest (t .variables) 32 (factor t) 0 p s (ok .fields .few-variables) (λ v k l f. omega (arith, centre-known v l f))
 
   -- pairs that hold in a state hold in its centre state and in each leaf's state
   pub pairs-split : {s : State} (p : Partial) → Inside t s → holds (t .variables) p s ≡ true
@@ -185,7 +185,7 @@ module _ (t : Task) (ok : Valid t) where
   pub pairs-join : {s : State} (p : Partial) → Inside t s → centreMeets (factor t) p (centre t s) ≡ true
       → ((i : ℕ) → i < t .leaves → meetsIn t (suc i) p (valuesOf t (suc i) (number t (suc i) s)) ≡ true) → holds (t .variables) p s ≡ true
   unfolding meetsIn
-  pairs-join {s} p h c ls = holds-join (t .variables) (factor t) p s (λ v l. each (factor t v) (ok .factor-known v l))
+  pairs-join {s} p h c ls = holds-join (t .variables) (factor t) p s (λ v l. each (factor t v) (ok .fields .factor-known v l))
     where
       each : (g : ℕ) → g ≤ t .leaves → meetsIn t g p s ≡ true
       each zero l = sym (centre-meets p s) ∙ c
@@ -233,7 +233,7 @@ module _ (t : Task) (ok : Valid t) where
   -- a leaf action belongs to one leaf
   pub leaf-one : (a i j : ℕ) → a < t .actions → leafAction t a (suc i) ≡ true → leafAction t a (suc j) ≡ true → i ≡ j
   leaf-one a i j l e e′ =
-      let w = ok .has-effect a l in
+      let w = ok .fields .has-effect a l in
       omega (arith, leaf-named t a (suc i) e (w .0) (w .1 .0) (w .1 .1), leaf-named t a (suc j) e′ (w .0) (w .1 .0) (w .1 .1))
 
   -- ---- the goal and the initial state
@@ -258,5 +258,5 @@ module _ (t : Task) (ok : Valid t) where
           → cond (eqb (factor t v) 0 && named (initial t v)) (initial t v) (valueIn blankCentre v) ≡ cond (eqb (factor t v) 0) (initial t v) 0
       go v l true e =
           let m = centre-known v l (eqb-true (factor t v) 0 e) in
-          rw (e, ne-eqb (initial t v) free (λ q. omega (arith, ok .initial-inside v m, ok .size-high v m)))
+          rw (e, ne-eqb (initial t v) free (λ q. omega (arith, ok .fields .initial-inside v m, ok .fields .size-high v m)))
       go v l false e = rw e (getD-replicate 32 v 0 0 l)

@@ -15,7 +15,8 @@ PairIn values x = (x ≡ free) ⊎ (x < values)
 abbrev pub Inside : Task → State → Type 0
 Inside t s = (v : ℕ) → v < t .variables → s v < size t v
 
-pub record Valid (t : Task) : Type 0 where
+-- what the fields of a record leave true: refusals 1 to 7
+pub record FieldsValid (t : Task) : Type 0 where
   -- counts
   pub some-variable : 1 ≤ t .variables
   pub few-variables : t .variables ≤ 32
@@ -33,10 +34,16 @@ pub record Valid (t : Task) : Type 0 where
   pub condition-in : (a : ℕ) → a < t .actions → (v : ℕ) → v < t .variables → PairIn (size t v) (condition t a v)
   pub effect-in : (a : ℕ) → a < t .actions → (v : ℕ) → v < t .variables → PairIn (size t v) (effect t a v)
   pub has-effect : (a : ℕ) → a < t .actions → (v : ℕ) × ((v < t .variables) × (named (effect t a v) ≡ true))
-  -- the whole
+  -- costs
+  pub cost-bound : (a : ℕ) → a < t .actions → cost t a ≤ 4807
+
+-- what the tests over the whole leave true: refusals 9 to 11
+pub record WholeValid (t : Task) : Type 0 where
   pub factor-used : (g : ℕ) → g ≤ t .leaves → (v : ℕ) × ((v < t .variables) × (factor t v ≡ g))
   pub few-states : (i : ℕ) → i < t .leaves → states t (suc i) ≤ 256
   pub few-all-states : allStates t ≤ 1024
   pub star : (a : ℕ) → a < t .actions → (centreAction t a ≡ true) ⊎ ((i : ℕ) × ((i < t .leaves) × (leafAction t a (suc i) ≡ true)))
-  -- costs
-  pub cost-bound : (a : ℕ) → a < t .actions → cost t a ≤ 4807
+
+pub record Valid (t : Task) : Type 0 where
+  pub fields : FieldsValid t
+  pub whole : WholeValid t

@@ -7,16 +7,17 @@ use Rattle.loops.specs.Parsed.{Parsed, got, refused, andThen, refuseIf, 
 
 -- ---- andThen, refuseIf
 
--- what was got in two steps was got in each
-pub got-then : {R S A B : Type 0} (p : Parsed R S A) (next : A → S → Parsed R S B) {b : B} {s′ : S} → andThen p next ≡ got b s′
-    → (a : A) × ((s : S) × ((p ≡ got a s) × (next a s ≡ got b s′)))
-got-then (got a s) next e = (a, (s, (refl, e)))
-got-then (refused r) next e = let z : _≡_ {A = ℕ} 0 1 = cc in absurd (omega arith)
+-- what was got in two steps: what follows from the two
+pub in-steps : {R S A B C : Type 0} (p : Parsed R S A) (next : A → S → Parsed R S B) {b : B} {s′ : S} → andThen p next ≡ got b s′
+    → ((a : A) (s : S) → p ≡ got a s → next a s ≡ got b s′ → C) → C
+in-steps (got a s) next e then = then a s refl e
+in-steps (refused r) next e then = let z : _≡_ {A = ℕ} 0 1 = cc in absurd (omega arith)
 
--- what was got was not refused
-pub got-unless : {R S A : Type 0} (b : Bool) (r : R) (p : Parsed R S A) {a : A} {s : S} → refuseIf b r p ≡ got a s → (b ≡ false) × (p ≡ got a s)
-got-unless true r p e = let z : _≡_ {A = ℕ} 0 1 = cc in absurd (omega arith)
-got-unless false r p e = (refl, e)
+-- what was got and not refused: what follows from both
+pub not-refused : {R S A C : Type 0} (b : Bool) (r : R) (p : Parsed R S A) {a : A} {s : S} → refuseIf b r p ≡ got a s
+    → (b ≡ false → p ≡ got a s → C) → C
+not-refused true r p e then = let z : _≡_ {A = ℕ} 0 1 = cc in absurd (omega arith)
+not-refused false r p e then = then refl e
 
 -- ---- turns
 
@@ -44,6 +45,6 @@ turns-keep P f step zero i a s {a′} {s′} p e =
     let es : s ≡ s′ = cc in
     rw (z, ← ea, ← es) p
 turns-keep P f step (suc n) i a s {a′} {s′} p e =
-    let w = got-then (f i a s) (λ a′ s′. turns f n (i + 1) a′ s′) e in
+    in-steps (f i a s) (λ a′ s′. turns f n (i + 1) a′ s′) e λ b u eb er.
     let z : i + suc n ≡ (i + 1) + n = omega arith in
-    rw z (turns-keep P f step n (i + 1) (w .0) (w .1 .0) (step i a s (w .0) (w .1 .0) p (w .1 .1 .0)) (w .1 .1 .1))
+    rw z (turns-keep P f step n (i + 1) b u (step i a s b u p eb) er)
