@@ -1,0 +1,4 @@
+pub mod Settle
+pub mod Pass
+pub mod Layer
+pub mod Board

@@ -1,0 +1,7 @@
+pub mod Path
+pub mod Demand
+pub mod Sums
+pub mod Sequences
+pub mod Ways
+pub mod Prices
+pub mod Demand2
