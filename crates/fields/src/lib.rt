@@ -79,7 +79,9 @@ pub fn bits(rec: &[u8], at: usize, width: usize) -> u16
     let mut value: u16 = 0;
     for i in 0..width {
         let k = at + i;
-        let bit = (rec[k / 8] >> (7 - k % 8)) % 2;
+        let low = k % 8;
+        let high = 7 - low;
+        let bit = (rec[k / 8] >> high) % 2;
         value = value * 2 + bit as u16;
     }
     value

@@ -232,12 +232,6 @@ pub fn read_record(rec: &[u8]) -> TaskRead
     let h = read_head(rec);
     match h {
         HeadRead::Refused(why) => refuse(why),
-        HeadRead::Is(variables, leaves, actions, at) => read_body(
-            rec,
-            variables,
-            leaves,
-            actions,
-            at,
-        ),
+        HeadRead::Is(n, leaves, m, at) => read_body(rec, n, leaves, m, at),
     }
 }

@@ -25,11 +25,11 @@ loop-holds c = search needs
 add-k : tie.Need-add-k Inv-loop μ-loop
 add-k c = search needs
 
+sub-high : tie.Need-sub-high Inv-loop μ-loop
+sub-high c = search needs
+
 shared-slice-read-bit : tie.Need-shared-slice-read-bit Inv-loop μ-loop
 shared-slice-read-bit c = omega arith
-
-sub-bit : tie.Need-sub-bit Inv-loop μ-loop
-sub-bit c = search needs
 
 cast-bit : tie.Need-cast-bit Inv-loop μ-loop
 cast-bit c = search needs
@@ -73,8 +73,8 @@ bits-spec =
     μ-loop
     loop-holds
     add-k
+    sub-high
     shared-slice-read-bit
-    sub-bit
     cast-bit
     shr-bit
     mul-value

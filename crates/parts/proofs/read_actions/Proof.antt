@@ -24,12 +24,18 @@ Inv-loop rec sizes n count at handling₀ distance₀ conditions₀ effects₀ k
 abbrev μ-loop : tie.MeasureT-loop
 μ-loop rec sizes n count at handling₀ distance₀ conditions₀ effects₀ k₀ i₀ handling distance conditions effects k i = count - i
 
--- places: the loop's head and the start, seen from where an action has been read
+-- places: the loop's head, the start, and the read of an action, where it was refused and where it was taken
 abbrev head : tie.After-read-action Inv-loop μ-loop → tie.At-loop Inv-loop μ-loop
 head c = c .before .before .before .before .before .before
 
 abbrev start : tie.At-loop Inv-loop μ-loop → tie.Start Inv-loop μ-loop
 start c = c .before .before .before .before .before .before .before
+
+abbrev refusal : tie.After-known-told Inv-loop μ-loop → tie.After-read-action Inv-loop μ-loop
+refusal c = c .before .before .before .before .before .before .before .before .before .before .before
+
+abbrev taken : tie.After-known-told2 Inv-loop μ-loop → tie.After-read-action Inv-loop μ-loop
+taken c = c .before .before .before .before .before .before .before .before .before .before .before
 
 -- the actions so far, and with the one that was read
 abbrev soFar : tie.At-loop Inv-loop μ-loop → Actions
@@ -41,13 +47,6 @@ abbrev after : tie.After-read-action Inv-loop μ-loop → Actions
 after c =
     let l = c .read-action .last .1 .1 .1 .1 .1 in
     record { handling = l .0; distance = l .1 .0; conditions = l .1 .1 .0; effects = l .1 .1 .1 .0 }
-
--- places: where the action was refused, and where it was read
-abbrev tried : tie.After-known-told Inv-loop μ-loop → tie.After-read-action Inv-loop μ-loop
-tried c = c .before .before .before .before .before .before .before .before .before .before .before
-
-abbrev taken : tie.After-known-told2 Inv-loop μ-loop → tie.After-read-action Inv-loop μ-loop
-taken c = c .before .before .before .before .before .before .before .before .before .before .before
 
 -- what the action read
 read : (c : tie.After-known-told2 Inv-loop μ-loop) → let r = taken c in let a = start (head r) .args in
@@ -77,7 +76,7 @@ same-length-4 c = omega arith
 
 returns : tie.Need-returns Inv-loop μ-loop
 returns c =
-    let r = tried c in
+    let r = refusal c in
     let l = head r .loop in
     let a = start (head r) .args in
     let f = actionOf (nextField (now (a .rec))) (now (a .sizes)) (a .n) in

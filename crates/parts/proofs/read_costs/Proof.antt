@@ -19,10 +19,11 @@ abbrev first : tie.After-known-told2 → tie.After-known-told
 first c = c .before .before .before .before
 
 -- what the two fields read
-read1 : (c : tie.After-known-told) → nextField (now (start c .args .rec)) HANDLING (start c .args .at) ≡ got (c .before .f .given .0 .0) (c .before .f .given .0 .1 .0)
+read1 : (c : tie.After-known-told) → let a = start c .args in let g = c .before .f .given .0 in nextField (now (a .rec)) HANDLING (a .at) ≡ got (g .0) (g .1 .0)
 read1 c = c .before .before .before .field .ensures ∙ ap fieldTold (c .before .f .given .1)
 
-read2 : (c : tie.After-known-told2) → nextField (now (start (first c) .args .rec)) DISTANCE (first c .before .f .given .0 .1 .0) ≡ got (c .before .g .given .0 .0) (c .before .g .given .0 .1 .0)
+read2 : (c : tie.After-known-told2) → let a = start (first c) .args in let g = c .before .g .given .0 in
+    nextField (now (a .rec)) DISTANCE (first c .before .f .given .0 .1 .0) ≡ got (g .0) (g .1 .0)
 read2 c = c .before .before .before .field2 .ensures ∙ ap fieldTold (c .before .g .given .1)
 
 field-requires : tie.Need-field-requires

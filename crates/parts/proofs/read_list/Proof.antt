@@ -16,7 +16,7 @@ abbrev start : tie.After-known-told → tie.Start
 start c = c .before .before .before .before .before .before .before
 
 -- what the field read
-read1 : (c : tie.After-known-told) → nextField (now (start c .args .rec)) PAIRS (start c .args .at) ≡ got (c .before .f .given .0 .0) (c .before .f .given .0 .1 .0)
+read1 : (c : tie.After-known-told) → let a = start c .args in let g = c .before .f .given .0 in nextField (now (a .rec)) PAIRS (a .at) ≡ got (g .0) (g .1 .0)
 read1 c = c .before .before .before .field .ensures ∙ ap fieldTold (c .before .f .given .1)
 
 field-requires : tie.Need-field-requires
