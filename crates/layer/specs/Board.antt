@@ -1,5 +1,7 @@
 -- A task's tables as the code holds them, and the layers by them. A table stands for a definition on the task (see Fits); nobody but the code
 -- and its proof looks at them.
+pub mod Laws
+pub mod Turns
 use mathlib.Core.Path.{_≡_}
 use mathlib.Core.Bool.{Bool, true, false, cond, not, _&&_}
 use mathlib.Core.List.{List, [], _∷_, _++_}

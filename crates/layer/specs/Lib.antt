@@ -2,3 +2,4 @@ pub mod Settle
 pub mod Pass
 pub mod Layer
 pub mod Board
+pub mod Lent

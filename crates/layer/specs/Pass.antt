@@ -1,6 +1,7 @@
 -- Passing a leaf's prices over a centre action: "every reachable state that meets the conditions passes, changed by the effects, at its own
 -- price; where two meet, the lower counts."
 pub mod Laws
+pub mod Turns
 use mathlib.Core.List.{List}
 use Prim.Native.Nat.{ℕ, zero, suc}
 use lib.ListN.{getD, replicate}

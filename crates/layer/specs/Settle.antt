@@ -5,6 +5,8 @@ pub mod Walks
 pub mod Steps
 pub mod Rounds
 pub mod Laws
+pub mod Ext
+pub mod Turns
 use mathlib.Core.Bool.{Bool, true, false, cond}
 use mathlib.Core.List.{List}
 use Prim.Native.Nat.{ℕ, zero, suc, _+_, min}

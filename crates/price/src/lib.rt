@@ -1,1 +1,1 @@
-// The pricer.
+// Ways of leaves and sequences of actions: what prices mean. No code.

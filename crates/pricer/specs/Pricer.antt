@@ -1,0 +1,68 @@
+-- What the pricer answers, and what the lent slice holds afterwards. Follows "Prices and layers" and "Refused because of the state":
+-- the pricer's order is 1 to 11, 12, 21, 13.
+use mathlib.Core.Bool.{Bool, true, false, _&&_}
+use mathlib.Core.List.{List, _++_}
+use Prim.Native.Nat.{ℕ, suc, _+_}
+use lib.Dec.{ltb, leb}
+use lib.ListN.{length, getD, drop}
+use Rattle.loops.specs.Count.{all, sum}
+use Rattle.task.specs.declared.Task.{Task}
+use Rattle.task.specs.Factors.{centreAction, states, allStates}
+use Rattle.fields.specs.Answers.{numberOf}
+use Rattle.whole.specs.declared.Verdict.{Verdict}
+use Rattle.whole.specs.declared.Verdict.the-variants.{Accepted, Refused as NotAccepted}
+use Rattle.record.specs.Record.{readRecord}
+use Rattle.layer.specs.Layer.{mark}
+use Rattle.pricer.specs.declared.PriceRefusal.{PriceRefusal}
+use Rattle.pricer.specs.declared.PriceRefusal.the-variants.{InRecord, PathWrong, SliceShort, NotApplicable}
+use Rattle.pricer.specs.declared.PriceAnswer.{PriceAnswer}
+use Rattle.pricer.specs.declared.PriceAnswer.the-variants.{Prices, Refused}
+use Rattle.price.specs.Path.{Layer, End, ends, stuck, firstLayer, walk}
+
+-- "For paths: 12 longer than 4,095, or an entry not a centre action; 13 an entry that doesn't apply. 21 price slice too short."
+abbrev pub refusalNumber : PriceRefusal → ℕ
+refusalNumber (InRecord why) = numberOf why
+refusalNumber PathWrong = 12
+refusalNumber SliceShort = 21
+refusalNumber NotApplicable = 13
+
+-- the answer, and the slice's words afterwards
+pub record Outcome : Type 0 where
+  pub answer : PriceAnswer
+  pub words : List ℕ
+
+-- a refusal leaves the slice as it was
+abbrev pub refuse : PriceRefusal → List ℕ → Outcome
+refuse why out = record { answer = Refused why; words = out }
+
+abbrev pub unless : Bool → PriceRefusal → List ℕ → Outcome → Outcome
+unless true why out rest = rest
+unless false why out rest = refuse why out
+
+-- 12 is not met
+unfoldable pub pathFits : Task → List ℕ → Bool
+pathFits t path = leb (length path) 4095 && all (length path) (λ k. ltb (getD path k 0) (t .actions) && centreAction t (getD path k 0))
+
+-- "writes S prices, 64 bits each, leaf 1 first; words behind them are untouched"
+abbrev pub atEnd : Task → List ℕ → End → Outcome
+atEnd t out (ends l) = record { answer = Prices (allStates t); words = l .prices ++ drop (allStates t) out }
+atEnd t out stuck = refuse NotApplicable out
+
+-- the answer for a task
+unfoldable pub taskPrices : Task → List ℕ → List ℕ → Outcome
+taskPrices t path out =
+    unless (pathFits t path) PathWrong out
+    (unless (leb (allStates t) (length out)) SliceShort out
+    (atEnd t out (walk t (firstLayer t) path)))
+
+abbrev pub onVerdict : Verdict → Task → List ℕ → List ℕ → Outcome
+onVerdict Accepted t path out = taskPrices t path out
+onVerdict (NotAccepted why) t path out = refuse (InRecord why) out
+
+-- the answer for a record
+unfoldable pub pricesOf : List ℕ → List ℕ → List ℕ → Outcome
+pricesOf rec path out = onVerdict (readRecord rec .verdict) (readRecord rec .task) path out
+
+-- the word that holds the price of state x of the leaf behind i leaves
+abbrev pub priceIn : Task → List ℕ → ℕ → ℕ → ℕ
+priceIn t words i x = getD words (sum i (λ j. states t (suc j)) + x) mark
