@@ -184,7 +184,7 @@ pub fn passes(prices: &[u64], moves: &[u16], at: usize) -> bool
 }
 
 // The conditions of an action.
-fn pairs_of(conditions: &[u8], action: usize) -> [u8; 32]
+pub fn pairs_of(conditions: &[u8], action: usize) -> [u8; 32]
     requires { ⌜ action * 32 + 32 ≤ length (now conditions) ⌝ }
     ensures { λ r. ⌜ r ≡ list 32 (λ v. getD (now (conditions .entry)) (action * 32 + v) 0) ⌝ }
 {

@@ -17,7 +17,7 @@ pub enum Verdict {
 }
 
 // Whether a factor as the table has it is g.
-fn is_factor(f: u8, g: usize) -> bool
+pub fn is_factor(f: u8, g: usize) -> bool
     ensures { λ r. ⌜ r ≡ eqb f g ⌝ }
 {
     f as usize == g
@@ -62,7 +62,7 @@ fn times_capped(p: u32, size: u8) -> u32
 }
 
 // How many states a leaf has, or 257 where it has more than 256.
-fn states_capped(sizes: &[u8], factors: &[u8], n: usize, leaf: usize) -> u32
+pub fn states_capped(sizes: &[u8], factors: &[u8], n: usize, leaf: usize) -> u32
     requires { ⌜ (n ≤ length (now sizes)) × (n ≤ length (now factors)) ⌝ }
     ensures { λ r. ⌜ r ≡ min (statesTo (λ v. getD (now (factors .entry)) v 0) (λ v. getD (now (sizes .entry)) v 0) leaf n) 257 ⌝ }
 {
@@ -128,7 +128,7 @@ fn names_centre(x: u8, f: u8) -> bool
 }
 
 // Whether the n entries from `base` on name a centre variable.
-fn touches_centre(factors: &[u8], pairs: &[u8], base: usize, n: usize) -> bool
+pub fn touches_centre(factors: &[u8], pairs: &[u8], base: usize, n: usize) -> bool
     requires { ⌜ (n ≤ length (now factors)) × (base + n ≤ length (now pairs)) ⌝ }
     ensures { λ r. ⌜ r ≡ touches n (λ v. getD (now (factors .entry)) v 0) 0 (λ v. getD (now (pairs .entry)) (base + v) 0) ⌝ }
 {
@@ -141,7 +141,7 @@ fn touches_centre(factors: &[u8], pairs: &[u8], base: usize, n: usize) -> bool
 }
 
 // Whether the entries from `base` on are those of a leaf action: effects on the leaf alone, conditions on it and the centre alone.
-fn leaf_pairs(
+pub fn leaf_pairs(
     factors: &[u8],
     conditions: &[u8],
     effects: &[u8],

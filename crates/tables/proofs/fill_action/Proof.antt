@@ -1,0 +1,116 @@
+-- `tables::fill_action` meets its contract. The invariant: the leaves so far have what the action makes of their states, each behind the other,
+-- and all other entries of the list are as they were. Assumes nothing.
+use mathlib.Core.Path.{_≡_, refl, _∙_}
+use Prim.Native.Nat.{_+_, _-_, _≤_}
+use native.Mathlib.Nat.{le-antisymm, not-suc-le-zero}
+use native.Mathlib.Numerals.{add-one}
+use native.Mathlib.Omega.{arith}
+use lib.ListN.{length, getD}
+use borrow.Author.Needs.{needs}
+use Rattle.tables.specs.Tables.{Same, Row, startOf}
+use Rattle.tables.specs.Tables.Laws.{leaf-here, row-more, row-same}
+use Rattle.tables.proofs.fill_action.Statement.{statement}
+use Rattle.tables.proofs.fill_action.Tie as tie
+
+abbrev Inv-loop : tie.InvT-loop
+Inv-loop sizes factors conditions effects bases variables leaves at from moves₀ i₀ moves i =
+    (i ≤ leaves) × (length moves ≡ length moves₀) × Same from (from + startOf variables (λ v. getD factors v 0) (λ v. getD sizes v 0) i) moves₀ moves ×
+    Row variables (λ v. getD factors v 0) (λ v. getD sizes v 0) (λ v. getD conditions (at + v) 0) (λ v. getD effects (at + v) 0) from i moves
+
+abbrev μ-loop : tie.MeasureT-loop
+μ-loop sizes factors conditions effects bases variables leaves at from moves₀ i₀ moves i = leaves - i
+
+loop-holds : tie.Need-loop-holds Inv-loop μ-loop
+loop-holds c = (omega arith, refl, λ k o. refl, λ j x m o. absurd (not-suc-le-zero m))
+
+mul-base : tie.Need-mul-base Inv-loop μ-loop
+mul-base c = search needs
+
+shared-slice-read-base : tie.Need-shared-slice-read-base Inv-loop μ-loop
+shared-slice-read-base c = search needs
+
+add-states : tie.Need-add-states Inv-loop μ-loop
+add-states c = search needs
+
+mul-states : tie.Need-mul-states Inv-loop μ-loop
+mul-states c = search needs
+
+shared-slice-read-states : tie.Need-shared-slice-read-states Inv-loop μ-loop
+shared-slice-read-states c = search needs
+
+sub-states : tie.Need-sub-states Inv-loop μ-loop
+sub-states c =
+    let a = c .before .before .before .before .before .before .before .before .before .before .args in
+    let i = c .before .before .before .loop .i in
+    let here = leaf-here (a .variables) (λ v. getD (a .factors .now) v 0) (λ v. getD (a .sizes .now) v 0) (a .bases .now) (a .leaves) i (c .before .before .loop-test .taken) (c .before .before .before .before .before .before .before .before .before .before .pre .1 .1 .1 .0) in
+    omega arith
+
+add-fill-leaf : tie.Need-add-fill-leaf Inv-loop μ-loop
+add-fill-leaf c = search needs
+
+add-fill-leaf-2 : tie.Need-add-fill-leaf-2 Inv-loop μ-loop
+add-fill-leaf-2 c =
+    let a = c .before .before .before .before .before .before .before .before .before .before .args in
+    let i = c .before .before .before .loop .i in
+    let here = leaf-here (a .variables) (λ v. getD (a .factors .now) v 0) (λ v. getD (a .sizes .now) v 0) (a .bases .now) (a .leaves) i (c .before .before .loop-test .taken) (c .before .before .before .before .before .before .before .before .before .before .pre .1 .1 .1 .0) in
+    omega (arith, c .before .before .before .before .before .before .before .before .before .before .pre .1 .1 .0)
+
+fill-leaf-requires : tie.Need-fill-leaf-requires Inv-loop μ-loop
+fill-leaf-requires c κs =
+    let a = c .before .before .before .before .before .before .before .before .before .before .before .args in
+    let i = c .before .before .before .before .loop .i in
+    let here = leaf-here (a .variables) (λ v. getD (a .factors .now) v 0) (λ v. getD (a .sizes .now) v 0) (a .bases .now) (a .leaves) i (c .before .before .before .loop-test .taken) (c .before .before .before .before .before .before .before .before .before .before .before .pre .1 .1 .1 .0) in
+    let pre = c .before .before .before .before .before .before .before .before .before .before .before .pre in
+    let small = pre .1 .1 .1 .1 i (c .before .before .before .loop-test .taken) in
+    (omega (arith, pre .0, small .few), (pre .1 .0, (omega (arith, pre .1 .1 .0, c .before .before .before .before .loop .inv .1), rw add-one small)))
+
+add-i : tie.Need-add-i Inv-loop μ-loop
+add-i c = search needs
+
+loop-less : tie.Need-loop-less Inv-loop μ-loop
+loop-less c = search needs
+
+loop-again : tie.Need-loop-again Inv-loop μ-loop
+loop-again c =
+    let a = c .before .before .before .before .before .before .before .before .before .before .before .before .before .before .args in
+    let i = c .before .before .before .before .before .before .before .loop .i in
+    let here = leaf-here (a .variables) (λ v. getD (a .factors .now) v 0) (λ v. getD (a .sizes .now) v 0) (a .bases .now) (a .leaves) i (c .before .before .before .before .before .before .loop-test .taken) (c .before .before .before .before .before .before .before .before .before .before .before .before .before .before .pre .1 .1 .1 .0) in
+    let l = c .before .before .before .before .before .before .before .loop in
+    let filled = c .before .before .fill-leaf .ensures in
+    let next = c .before .before .fill-leaf .last .1 .1 .1 .1 .1 .1 .1 .1 .1 .0 in (
+      omega arith,
+      c .before .before .fill-leaf .kept .1 .1 .1 .1 .1 .1 .1 .1 .1 .0 ∙ l .inv .1,
+      row-same (a .variables) (λ v. getD (a .factors .now) v 0) (λ v. getD (a .sizes .now) v 0) (a .from) i (a .moves .now) (l .moves) next (here .0) (here .2) (l .inv .2) (filled .1),
+      row-more (a .variables) (λ v. getD (a .factors .now) v 0) (λ v. getD (a .sizes .now) v 0) _ _ (a .from) i (l .moves) next (here .0) (here .2) (l .inv .3) (filled .0) (filled .1),
+    )
+
+same-length : tie.Need-same-length Inv-loop μ-loop
+same-length c = search needs
+
+returns : tie.Need-returns Inv-loop μ-loop
+returns c =
+    let l = c .before .loop in
+    let e = le-antisymm (l .inv .0) (c .loop-test .left) in
+    (rw e at (l .inv .3), rw e at (l .inv .2))
+
+pub fill-action-spec : {M : Type 1} → statement M
+fill-action-spec =
+    tie.close
+    (tie.spec
+    Inv-loop
+    μ-loop
+    loop-holds
+    mul-base
+    shared-slice-read-base
+    add-states
+    mul-states
+    shared-slice-read-states
+    sub-states
+    add-fill-leaf
+    add-fill-leaf-2
+    fill-leaf-requires
+    add-i
+    loop-less
+    loop-again
+    same-length
+    returns)

@@ -1,0 +1,172 @@
+-- The tables of a valid task fit the task and can be indexed: what the layers and the search ask of them. Assumes nothing.
+use mathlib.Core.Path.{_≡_, refl, sym, ap, _∙_}
+use mathlib.Core.Bool.{Bool, true, false, true≢false}
+use mathlib.Core.Logic.{_⊎_, inl, inr}
+use mathlib.Core.List.{List}
+use Prim.Native.Nat.{ℕ, zero, suc, _+_, _-_, _*_, _≤_, _<_}
+use native.Mathlib.Numerals.{add-one}
+use native.Mathlib.Omega.{arith}
+use native.Mathlib.Decide.{ℕ-discrete}
+use lib.Dec.{eqb}
+use lib.ListN.{length, getD}
+use borrow.Author.Tests.{eq-eqb, ne-eqb}
+use Rattle.loops.specs.Count.{sum}
+use Rattle.loops.specs.Count.Laws.{or-in-left, or-in-right, any-in, sum-more}
+use Rattle.task.specs.declared.Task.{Task}
+use Rattle.task.specs.Meaning.{size, factor, condition, effect}
+use Rattle.task.specs.Factors.{starPairs, centreAction, leafAction, states, allStates, to}
+use Rattle.task.specs.Valid.{Valid}
+use Rattle.task.specs.Star.{leaf-not-centre, leaf-one, to-in}
+use Rattle.layer.specs.Layer.{base}
+use Rattle.layer.specs.Board.{Board, Sound, Fits}
+use Rattle.tables.specs.Moves.{Small}
+use Rattle.tables.specs.Tables.{KindIs, Bases, Costs, Kinds, Moves}
+
+-- ---- kinds
+
+-- the pairs of action a are of kind k
+abbrev pub KindOf : Task → ℕ → ℕ → Type 0
+KindOf t a k = KindIs (t .variables) (factor t) (t .leaves) (condition t a) (effect t a) k
+
+not-true-false : (b : Bool) → (b ≡ true → ⊥) → b ≡ false
+not-true-false true h = absurd (h refl)
+not-true-false false h = refl
+
+module _ (t : Task) (ok : Valid t) (a : ℕ) (la : a < t .actions) where
+  -- the action is of one kind or the other
+  pub star-holds : starPairs (t .variables) (factor t) (t .leaves) (condition t a) (effect t a) ≡ true
+  unfolding starPairs centreAction leafAction
+  star-holds = go (ok .whole .star a la)
+    where
+      go : (centreAction t a ≡ true) ⊎ ((i : ℕ) × ((i < t .leaves) × (leafAction t a (suc i) ≡ true)))
+          → starPairs (t .variables) (factor t) (t .leaves) (condition t a) (effect t a) ≡ true
+      go (inl e) = or-in-left _ e
+      go (inr (i, (l, e))) = or-in-right (centreAction t a) (any-in (t .leaves) _ i l e)
+
+  -- the kind is a leaf's number just where the action is a leaf action of the leaf
+  pub kind-is : (i k : ℕ) → KindOf t a k → eqb k (i + 1) ≡ leafAction t a (suc i)
+  unfolding KindIs centreAction leafAction
+  kind-is i k (inl w) =
+      rw (w .0, ne-eqb 0 (i + 1) (λ q. omega arith))
+      (sym (not-true-false (leafAction t a (suc i)) (λ e. true≢false (sym (w .1) ∙ leaf-not-centre t a i e))))
+  kind-is i k (inr (j, (l, (q, e)))) = go (ℕ-discrete i j)
+    where
+      e′ : leafAction t a (suc j) ≡ true
+      e′ = rw add-one at e
+
+      go : Dec (i ≡ j) → eqb k (i + 1) ≡ leafAction t a (suc i)
+      go (yes p) = rw p (eq-eqb k (j + 1) q ∙ sym e′)
+      go (no d) =
+          ne-eqb k (i + 1) (λ r. omega arith)
+          ∙ sym (not-true-false (leafAction t a (suc i)) (λ e″. d (leaf-one t ok a i j la e″ e′)))
+
+  -- it is 0 just where the action is a centre action
+  pub kind-none : (k : ℕ) → KindOf t a k → eqb k 0 ≡ centreAction t a
+  unfolding KindIs centreAction leafAction
+  kind-none k (inl w) = rw (w .0) (sym (w .1))
+  kind-none k (inr (j, (l, (q, e)))) = ne-eqb k 0 (λ r. omega arith) ∙ sym (leaf-not-centre t a j (rw add-one at e))
+
+-- ---- moves
+
+-- what an action makes of a leaf state can be counted in small numbers
+pub small-is : (t : Task) → Valid t → (a : ℕ) → a < t .actions → (i : ℕ) → i < t .leaves
+    → Small (t .variables) (factor t) (size t) (effect t a) (suc i)
+unfolding states
+small-is t ok a la i l =
+    record {
+      sized = λ v m. omega (arith, ok .fields .size-low v m);
+      inside = ok .fields .effect-in a la;
+      few = ok .whole .few-states i l;
+    }
+
+-- ---- the board
+
+-- the tables of a task
+abbrev pub boardOf : Task → List ℕ → List ℕ → List ℕ → List ℕ → Board
+boardOf t bases moves costs kinds =
+    record {
+      leaves = t .leaves;
+      actions = t .actions;
+      bases = bases;
+      moves = moves;
+      costs = costs;
+      kinds = kinds;
+      factors = t .factors;
+      conditions = t .conditions;
+    }
+
+-- one leaf more
+base-more : (t : Task) (i : ℕ) → base t (i + 1) ≡ base t i + states t (suc i)
+unfolding base
+base-more t i = sum-more i _
+
+-- before the first leaf, and behind the last
+base-none : (t : Task) → base t 0 ≡ 0
+unfolding base sum
+base-none t = refl
+
+base-all : (t : Task) → base t (t .leaves) ≡ allStates t
+unfolding base allStates
+base-all t = refl
+
+module _ (t : Task) (ok : Valid t) (bases moves costs kinds : List ℕ) (isb : Bases t bases) where
+  -- S by the tables
+  row-is : getD bases (t .leaves) 0 ≡ allStates t
+  row-is = isb .is (t .leaves) (omega arith) ∙ base-all t
+
+  -- a leaf's states by the tables
+  states-is : (i : ℕ) → i < t .leaves → getD bases (i + 1) 0 - getD bases i 0 ≡ states t (suc i)
+  states-is i l = rw (isb .is (i + 1) (omega arith), isb .is i (omega arith), base-more t i) (omega arith)
+
+  -- an entry of the moves
+  move-is : Moves t moves → (i a x : ℕ) → i < t .leaves → a < t .actions → x < states t (suc i)
+      → getD moves (a * getD bases (t .leaves) 0 + (getD bases i 0 + x)) 0 ≡ to t (suc i) a x
+  move-is ism i a x l la m = rw (row-is, isb .is i (omega arith)) (ism i a x l la m)
+
+  -- what an action makes of a leaf state is at most the count of states
+  to-few : (i a x : ℕ) → a < t .actions → (y : ℕ) → to t (suc i) a x ≡ y → y ≤ states t (suc i)
+  to-few i a x la zero e = omega arith
+  to-few i a x la (suc y) e = to-in t ok (suc i) a x y la e
+
+  -- the tables stand for the task
+  pub tables-stand : Moves t moves → Costs t costs → Kinds t kinds → Fits t (boardOf t bases moves costs kinds)
+  tables-stand ism isc isk =
+      record {
+        leaves-is = refl;
+        actions-is = refl;
+        bases-is = isb .is;
+        moves-is = move-is ism;
+        costs-is = isc .is;
+        kinds-is = isk .leaf;
+        kinds-centre = isk .centre;
+        factors-is = refl;
+        conditions-is = refl;
+      }
+
+  -- the tables can be indexed
+  pub tables-sound : Moves t moves → Costs t costs → Kinds t kinds → t .actions * allStates t ≤ length moves
+      → length (t .factors) ≡ 32 → length (t .conditions) ≡ 8192 → Sound (boardOf t bases moves costs kinds)
+  tables-sound ism isc isk long fl cl =
+      record {
+        few-leaves = ok .fields .few-leaves;
+        few-actions = ok .fields .few-actions;
+        bases-long = isb .long;
+        bases-first = isb .is 0 (omega arith) ∙ base-none t;
+        bases-rise = λ i l. omega (arith, isb .is (i + 1) (omega arith), isb .is i (omega arith), base-more t i);
+        few-states = λ i l. rw (states-is i l) (ok .whole .few-states i l);
+        few-all = rw row-is (ok .whole .few-all-states);
+        moves-long = rw row-is long;
+        moves-in = λ i a x l la m.
+            let m′ : x < states t (suc i) = rw (states-is i l) at m in
+            rw (states-is i l, move-is ism i a x l la m′) (to-few i a x la _ refl);
+        costs-long = isc .long;
+        kinds-long = isk .long;
+        factors-long = fl;
+        conditions-long = cl;
+      }
+
+  -- both
+  pub tables-fit : Moves t moves → Costs t costs → Kinds t kinds → t .actions * allStates t ≤ length moves
+      → length (t .factors) ≡ 32 → length (t .conditions) ≡ 8192
+      → Fits t (boardOf t bases moves costs kinds) × Sound (boardOf t bases moves costs kinds)
+  tables-fit ism isc isk long fl cl = (tables-stand ism isc isk, tables-sound ism isc isk long fl cl)

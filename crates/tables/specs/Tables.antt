@@ -1,0 +1,81 @@
+-- The tables of a task, each entry by what it stands for.
+pub mod Laws
+use mathlib.Core.Path.{_≡_}
+use mathlib.Core.Bool.{true}
+use mathlib.Core.Logic.{_⊎_}
+use mathlib.Core.List.{List}
+use Prim.Native.Nat.{ℕ, suc, _+_, _*_, _≤_, _<_}
+use lib.Dec.{eqb}
+use lib.ListN.{length, getD}
+use Rattle.loops.specs.Count.{sum}
+use Rattle.task.specs.declared.Task.{Task}
+use Rattle.task.specs.Meaning.{Partial, initial, cost}
+use Rattle.task.specs.Factors.{touches, leafPairs, statesTo, centreAction, leafAction, number, states, allStates, to}
+use Rattle.layer.specs.Layer.{base}
+use Rattle.tables.specs.Moves.{toWith}
+
+-- ---- lists
+
+-- each of the first n entries has the property of its place
+abbrev pub Each : ℕ → (ℕ → ℕ → Type 0) → List ℕ → Type 0
+Each n P xs = (k : ℕ) → k < n → P k (getD xs k 0)
+
+-- the first n entries are f 0, f 1, ..
+abbrev pub Filled : ℕ → (ℕ → ℕ) → List ℕ → Type 0
+Filled n f xs = Each n (λ k x. x ≡ f k) xs
+
+-- the n entries from `from` on are f 0, f 1, ..
+abbrev pub Placed : ℕ → ℕ → (ℕ → ℕ) → List ℕ → Type 0
+Placed from n f xs = (k : ℕ) → k < n → getD xs (from + k) 0 ≡ f k
+
+-- the lists agree below `from` and from `end` on
+abbrev pub Same : ℕ → ℕ → List ℕ → List ℕ → Type 0
+Same from end xs ys = (k : ℕ) → (k < from) ⊎ (end ≤ k) → getD ys k 0 ≡ getD xs k 0
+
+-- ---- by the number of variables, factors and sizes
+
+-- the states of the leaves below i + 1
+unfoldable pub startOf : ℕ → (ℕ → ℕ) → (ℕ → ℕ) → ℕ → ℕ
+startOf n fac siz i = sum i (λ j. statesTo fac siz (suc j) n)
+
+-- one action, conditions con and effects eff: what it makes of each state of the leaves below l + 1, in the entries from `from` on
+abbrev pub Row : ℕ → (ℕ → ℕ) → (ℕ → ℕ) → Partial → Partial → ℕ → ℕ → List ℕ → Type 0
+Row n fac siz con eff from l xs =
+    (i x : ℕ) → i < l → x < statesTo fac siz (suc i) n → getD xs (from + (startOf n fac siz i + x)) 0 ≡ toWith n fac siz con eff (suc i) x
+
+-- the actions below m: a row for each
+abbrev pub Rows : ℕ → (ℕ → ℕ) → (ℕ → ℕ) → (ℕ → Partial) → (ℕ → Partial) → ℕ → ℕ → List ℕ → Type 0
+Rows n fac siz con eff leaves m xs =
+    (a : ℕ) → a < m → Row n fac siz (con a) (eff a) (a * startOf n fac siz leaves) leaves xs
+
+-- k is 0 and the pairs are a centre action's, or k is a leaf and they are a leaf action's there
+unfoldable pub KindIs : ℕ → (ℕ → ℕ) → ℕ → Partial → Partial → ℕ → Type 0
+KindIs n fac leaves p q k =
+    ((k ≡ 0) × (touches n fac 0 q ≡ true)) ⊎ ((i : ℕ) × ((i < leaves) × ((k ≡ i + 1) × (leafPairs n fac p q (i + 1) ≡ true))))
+
+-- ---- of a task
+
+-- where each leaf's states begin, and S behind the last leaf
+pub record Bases (t : Task) (bases : List ℕ) : Type 0 where
+  pub long : length bases ≡ 9
+  pub is : (i : ℕ) → i ≤ t .leaves → getD bases i 0 ≡ base t i
+
+-- the initial state of each leaf
+pub record Starts (t : Task) (starts : List ℕ) : Type 0 where
+  pub long : length starts ≡ 8
+  pub is : (i : ℕ) → i < t .leaves → getD starts i 0 ≡ number t (suc i) (initial t)
+
+-- what each action costs
+pub record Costs (t : Task) (costs : List ℕ) : Type 0 where
+  pub long : length costs ≡ 256
+  pub is : (a : ℕ) → a < t .actions → getD costs a 0 ≡ cost t a
+
+-- the leaf of each leaf action, 0 for a centre action
+pub record Kinds (t : Task) (kinds : List ℕ) : Type 0 where
+  pub long : length kinds ≡ 256
+  pub leaf : (i a : ℕ) → i < t .leaves → a < t .actions → eqb (getD kinds a 0) (i + 1) ≡ leafAction t a (suc i)
+  pub centre : (a : ℕ) → a < t .actions → eqb (getD kinds a 0) 0 ≡ centreAction t a
+
+-- what each action makes of each leaf state: a row of S entries for each action
+abbrev pub Moves : Task → List ℕ → Type 0
+Moves t moves = (i a x : ℕ) → i < t .leaves → a < t .actions → x < states t (suc i) → getD moves (a * allStates t + (base t i + x)) 0 ≡ to t (suc i) a x

@@ -1,0 +1,206 @@
+-- Laws of the tables: a turn of each loop that fills one, and numbers that fit. Each is about lists and functions, no task. Assumes nothing.
+use mathlib.Core.Path.{_≡_, refl, sym, _∙_}
+use mathlib.Core.Bool.{Bool, true, false}
+use mathlib.Core.Logic.{_⊎_, inl, inr}
+use mathlib.Core.List.{List}
+use Prim.Native.Nat.{ℕ, zero, suc, _+_, _-_, _*_, _≤_, _<_, min}
+use native.Mathlib.Nat.{mul-le-mul-left, mul-le-mul-right, mul-one, suc-mul, not-suc-le-zero}
+use native.Mathlib.Numerals.{add-one}
+use native.Mathlib.Omega.{arith}
+use native.Mathlib.Decide.{ℕ-discrete}
+use lib.Dec.{eqb}
+use lib.ListN.{length, getD, set}
+use lib.Seq.{getD-set-same, getD-set-other}
+use Rattle.loops.specs.Count.{sum}
+use Rattle.loops.specs.Count.Laws.{below-cases, sum-more}
+use Rattle.task.specs.Meaning.{State, Partial}
+use Rattle.task.specs.Factors.{touches, leafPairs, numberTo, statesTo}
+use Rattle.task.specs.Radix.{num-lt}
+use Rattle.tables.specs.Moves.{toWith}
+use Rattle.tables.specs.Tables.{Each, Filled, Placed, Same, startOf, Row, Rows, KindIs}
+
+-- ---- lists
+
+-- a turn of a loop that stores one entry after the other
+pub each-more : (P : ℕ → ℕ → Type 0) (n : ℕ) (xs : List ℕ) {y : ℕ} → n < length xs → Each n P xs → P n y → Each (n + 1) P (set xs n y)
+each-more P n xs {y} l h p k m = go (ℕ-discrete k n)
+  where
+    go : Dec (k ≡ n) → P k (getD (set xs n y) k 0)
+    go (yes e) = rw (e, getD-set-same) p
+    go (no d) = rw (getD-set-other xs n k y 0 d) (h k (omega arith))
+
+pub filled-more : (f : ℕ → ℕ) (n : ℕ) (xs : List ℕ) {y : ℕ} → n < length xs → Filled n f xs → y ≡ f n → Filled (n + 1) f (set xs n y)
+filled-more f = each-more (λ k x. x ≡ f k)
+
+-- the same, in the entries from `from` on
+pub placed-more : (from n : ℕ) (f : ℕ → ℕ) (xs : List ℕ) {y : ℕ} → from + n < length xs → Placed from n f xs → y ≡ f n
+    → Placed from (n + 1) f (set xs (from + n) y)
+placed-more from n f xs {y} l h e k m = go (ℕ-discrete k n)
+  where
+    go : Dec (k ≡ n) → getD (set xs (from + n) y) (from + k) 0 ≡ f k
+    go (yes q) = rw (q, getD-set-same) e
+    go (no d) = rw (getD-set-other xs (from + n) (from + k) y 0 (λ q. omega arith)) (h k (omega arith))
+
+-- an entry between the two is stored
+pub same-set : (from end : ℕ) (xs ys : List ℕ) (j y : ℕ) → from ≤ j → j < end → Same from end xs ys → Same from end xs (set ys j y)
+same-set from end xs ys j y l m h k o = rw (getD-set-other ys j k y 0 (apart o)) (h k o)
+  where
+    apart : (k < from) ⊎ (end ≤ k) → k ≡ j → ⊥
+    apart (inl w) q = omega arith
+    apart (inr w) q = omega arith
+
+-- what agrees outside one part and then outside the next, agrees outside both
+pub same-more : (from mid end : ℕ) (xs ys zs : List ℕ) → from ≤ mid → mid ≤ end → Same from mid xs ys → Same mid end ys zs → Same from end xs zs
+same-more from mid end xs ys zs l m h g k o = g k (second o) ∙ h k (first o)
+  where
+    first : (k < from) ⊎ (end ≤ k) → (k < from) ⊎ (mid ≤ k)
+    first (inl w) = inl w
+    first (inr w) = inr (omega arith)
+
+    second : (k < from) ⊎ (end ≤ k) → (k < mid) ⊎ (end ≤ k)
+    second (inl w) = inl (omega arith)
+    second (inr w) = inr w
+
+-- ---- where the leaves' states begin
+
+module _ (n : ℕ) (fac siz : ℕ → ℕ) where
+  -- one leaf more
+  pub start-more : (i : ℕ) → startOf n fac siz (i + 1) ≡ startOf n fac siz i + statesTo fac siz (suc i) n
+  unfolding startOf
+  start-more i = sum-more i _
+
+  -- the same of a count that was capped, where the leaf has few states
+  pub start-capped : (i x y : ℕ) → statesTo fac siz (suc i) n ≤ 256 → x ≡ startOf n fac siz i → y ≡ min (statesTo fac siz (i + 1) n) 257
+      → x + y ≡ startOf n fac siz (i + 1)
+  start-capped i x y few p q =
+      let q′ : y ≡ min (statesTo fac siz (suc i) n) 257 = rw add-one at q in
+      omega (arith, start-more i)
+
+  -- a leaf's states end where those of the leaves behind it begin, or before
+  pub start-before : (i j : ℕ) → i < j → startOf n fac siz i + statesTo fac siz (suc i) n ≤ startOf n fac siz j
+  unfolding startOf sum
+  start-before i zero l = absurd (not-suc-le-zero l)
+  start-before i (suc j) l = go (below-cases l) (start-before i j)
+    where
+      go : (i < j) ⊎ (i ≡ j) → (i < j → startOf n fac siz i + statesTo fac siz (suc i) n ≤ startOf n fac siz j)
+          → startOf n fac siz i + statesTo fac siz (suc i) n ≤ startOf n fac siz (suc j)
+      go (inl m) r = omega (arith, r m)
+      go (inr q) r = rw q (omega arith)
+
+  -- a leaf by the list of where the leaves begin: its begin, its count of states, and its room
+  pub leaf-here : (bases : List ℕ) (leaves i : ℕ) → i < leaves → Filled (leaves + 1) (startOf n fac siz) bases
+      → (getD bases i 0 ≡ startOf n fac siz i) × (getD bases i 0 ≤ getD bases (i + 1) 0)
+      × (getD bases (i + 1) 0 - getD bases i 0 ≡ statesTo fac siz (suc i) n) × (startOf n fac siz i + statesTo fac siz (suc i) n ≤ startOf n fac siz leaves)
+  leaf-here bases leaves i l h =
+      let p = h i (omega arith) in
+      let q = h (i + 1) (omega arith) ∙ start-more i in
+      (p, omega arith, omega arith, start-before i leaves l)
+
+  -- the sum stays small while each leaf has few states
+  pub start-few : (i : ℕ) → ((j : ℕ) → j < i → statesTo fac siz (suc j) n ≤ 256) → startOf n fac siz i ≤ 256 * i
+  unfolding startOf sum
+  start-few zero h = omega arith
+  start-few (suc i) h = omega (arith, start-few i (λ j l. h j (omega arith)), h i (omega arith))
+
+-- ---- numbers that fit
+
+module _ (fac siz : ℕ → ℕ) (l : ℕ) (s : State) where
+  -- a turn of the loop that makes a number, at a variable of the leaf
+  pub number-on : (v : ℕ) {x : ℕ} → eqb (fac v) l ≡ true → x ≡ numberTo fac siz l s v → x * siz v + s v ≡ numberTo fac siz l s (v + 1)
+  unfolding numberTo
+  number-on v e p = rw (add-one, e, p)
+
+  -- and at any other
+  pub number-by : (v : ℕ) → eqb (fac v) l ≡ false → numberTo fac siz l s v ≡ numberTo fac siz l s (v + 1)
+  unfolding numberTo
+  number-by v e = rw (add-one, e)
+
+-- the leaf of fewer variables has fewer states
+states-less : (fac siz : ℕ → ℕ) (l v n : ℕ) → v ≤ n → ((k : ℕ) → k < n → 1 ≤ siz k) → statesTo fac siz l v ≤ statesTo fac siz l n
+unfolding statesTo
+states-less fac siz l v zero m h = let e : v ≡ 0 = omega arith in rw e (omega arith)
+states-less fac siz l v (suc n) m h = go (ℕ-discrete v (suc n)) (λ m′. states-less fac siz l v n m′ (λ k o. h k (omega arith)))
+  where
+    one-more : (b : Bool) → eqb (fac n) l ≡ b → statesTo fac siz l n ≤ statesTo fac siz l (suc n)
+    one-more true e = rw e (omega (arith, mul-one (statesTo fac siz l n), mul-le-mul-left (statesTo fac siz l n) (h n (omega arith))))
+    one-more false e = rw e (omega arith)
+
+    go : Dec (v ≡ suc n) → (v ≤ n → statesTo fac siz l v ≤ statesTo fac siz l n) → statesTo fac siz l v ≤ statesTo fac siz l (suc n)
+    go (yes e) r = rw e (omega arith)
+    go (no d) r = omega (arith, r (omega arith), one-more _ refl)
+
+-- a number on the way is small
+number-few : (fac siz : ℕ → ℕ) (l : ℕ) (s : State) (v n : ℕ) → v ≤ n → ((k : ℕ) → k < n → s k < siz k) → statesTo fac siz l n ≤ 256
+    → numberTo fac siz l s v < 256
+number-few fac siz l s v n m h few =
+    omega (arith, num-lt fac siz l s v (λ k o _. h k (omega arith)), states-less fac siz l v n m (λ k o. omega (arith, h k o)))
+
+-- and so is the next one
+pub number-fits : (fac siz : ℕ → ℕ) (l : ℕ) (s : State) (v n : ℕ) {x : ℕ} → v < n → ((k : ℕ) → k < n → s k < siz k) → statesTo fac siz l n ≤ 256
+    → eqb (fac v) l ≡ true → x ≡ numberTo fac siz l s v → x * siz v + s v < 256
+number-fits fac siz l s v n m h few e p = rw (number-on fac siz l s v e p) (number-few fac siz l s (v + 1) n (omega arith) h few)
+
+-- ---- moves
+
+-- a row more is inside the rows
+pub row-inside : (a m s : ℕ) → a < m → a * s + s ≤ m * s
+row-inside a m s l = omega (arith, suc-mul a s, mul-le-mul-right s l)
+
+module _ (n : ℕ) (fac siz : ℕ → ℕ) where
+  -- one leaf more of an action's row
+  pub row-more : (con eff : Partial) (from i : ℕ) (xs ys : List ℕ) {b s : ℕ} → b ≡ startOf n fac siz i → s ≡ statesTo fac siz (suc i) n
+      → Row n fac siz con eff from i xs → Placed (from + b) s (toWith n fac siz con eff (i + 1)) ys → Same (from + b) (from + b + s) xs ys
+      → Row n fac siz con eff from (i + 1) ys
+  row-more con eff from i xs ys {b} {s} p q h f g j x l m = go (ℕ-discrete j i)
+    where
+      go : Dec (j ≡ i) → getD ys (from + (startOf n fac siz j + x)) 0 ≡ toWith n fac siz con eff (suc j) x
+      go (yes e) =
+          let m′ : x < s = rw (q, ← e) m in
+          let at : from + (startOf n fac siz j + x) ≡ (from + b) + x = rw (e, p) (omega arith) in
+          rw (at, e, ← add-one) (f x m′)
+      go (no d) =
+          let before = start-before n fac siz j i (omega arith) in
+          g (from + (startOf n fac siz j + x)) (inl (omega arith)) ∙ h j x (omega arith) m
+
+  -- and all else stays as it was
+  pub row-same : (from i : ℕ) (xs ys zs : List ℕ) {b s : ℕ} → b ≡ startOf n fac siz i → s ≡ statesTo fac siz (suc i) n
+      → Same from (from + startOf n fac siz i) xs ys → Same (from + b) (from + b + s) ys zs → Same from (from + startOf n fac siz (i + 1)) xs zs
+  row-same from i xs ys zs {b} {s} p q h g =
+      let e : from + startOf n fac siz (i + 1) ≡ from + b + s = omega (arith, start-more n fac siz i) in
+      let h′ : Same from (from + b) xs ys = rw p h in
+      rw e (same-more from (from + b) (from + b + s) xs ys zs (omega arith) (omega arith) h′ g)
+
+  -- one action's row more
+  pub rows-more : (con eff : ℕ → Partial) (leaves a : ℕ) (xs ys : List ℕ) {from : ℕ} → from ≡ a * startOf n fac siz leaves
+      → Rows n fac siz con eff leaves a xs → Row n fac siz (con a) (eff a) from leaves ys → Same from (from + startOf n fac siz leaves) xs ys
+      → Rows n fac siz con eff leaves (a + 1) ys
+  rows-more con eff leaves a xs ys {from} p h f g d l = go (ℕ-discrete d a)
+    where
+      go : Dec (d ≡ a) → Row n fac siz (con d) (eff d) (d * startOf n fac siz leaves) leaves ys
+      go (yes e) = rw (e, ← p) f
+      go (no apart) =
+          λ i x m o.
+          let before = start-before n fac siz i leaves m in
+          let rows = row-inside d a (startOf n fac siz leaves) (omega arith) in
+          g (d * startOf n fac siz leaves + (startOf n fac siz i + x)) (inl (omega arith)) ∙ h d (omega arith) i x m o
+
+-- where the next row begins
+pub row-next : (a s : ℕ) {from row : ℕ} → from ≡ a * s → row ≡ s → from + row ≡ (a + 1) * s
+row-next a s p q = rw (p, q, add-one) (sym (suc-mul a s))
+
+-- all else stays as it was
+pub rows-same : (a s : ℕ) (xs ys zs : List ℕ) {from : ℕ} → from ≡ a * s → Same 0 (a * s) xs ys → Same from (from + s) ys zs → Same 0 ((a + 1) * s) xs zs
+rows-same a s xs ys zs {from} p h g =
+    let h′ : Same 0 from xs ys = rw p h in
+    rw (← row-next a s p refl) (same-more 0 from (from + s) xs ys zs (omega arith) (omega arith) h′ g)
+
+-- ---- kinds
+
+module _ (n : ℕ) (fac : ℕ → ℕ) (leaves : ℕ) (p q : Partial) where
+  pub kind-centre : touches n fac 0 q ≡ true → KindIs n fac leaves p q 0
+  unfolding KindIs
+  kind-centre e = inl (refl, e)
+
+  pub kind-leaf : (i : ℕ) → i < leaves → leafPairs n fac p q (i + 1) ≡ true → KindIs n fac leaves p q (i + 1)
+  unfolding KindIs
+  kind-leaf i l e = inr (i, (l, (refl, e)))

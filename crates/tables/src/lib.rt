@@ -1,0 +1,410 @@
+// The tables that the layers and the search work with, made once from an accepted task.
+use task::FREE;
+use task::Task;
+ghost use mathlib.Core.Path.{_≡_};
+ghost use mathlib.Core.Bool.{cond, true};
+ghost use Prim.Native.Nat.{ℕ, suc, _*_, _+_, _<_, _≤_};
+ghost use lib.Dec.{eqb};
+ghost use lib.ListN.{length, getD};
+ghost use Rattle.drive.specs.Drive.{driveTime};
+ghost use Rattle.task.specs.Meaning.{met};
+ghost use Rattle.task.specs.Factors.{numberTo, starPairs, statesTo, allStates};
+ghost use Rattle.task.specs.Valid.{PairIn, Valid};
+ghost use Rattle.tables.specs.Moves.{Small, Steps, toWith, stepped};
+ghost use Rattle.tables.specs.Tables.{Each, Filled, Placed, Same, KindIs, Row, Rows, Bases, Starts, Costs, Kinds, Moves, startOf};
+
+// ---- where each leaf's states begin
+
+// The sums of the leaves' states: entry i counts those of the i leaves before.
+fn bases_of(sizes: &[u8], factors: &[u8], variables: usize, leaves: usize) -> [usize; 9]
+    requires { ⌜ (variables ≤ length (now sizes)) × (variables ≤ length (now factors)) × (leaves ≤ 8) ⌝ }
+    requires { ⌜ ((i : ℕ) → i < leaves → statesTo (λ v. getD (now factors) v 0) (λ v. getD (now sizes) v 0) (suc i) variables ≤ 256) ⌝ }
+    ensures { λ r. ⌜ (length r ≡ 9) × Filled (leaves + 1) (startOf variables (λ v. getD (now (factors .entry)) v 0) (λ v. getD (now (sizes .entry)) v 0)) r ⌝ }
+{
+    let mut bases: [usize; 9] = [0; 9];
+    let mut sum: usize = 0;
+    for i in 0..leaves {
+        sum += whole::states_capped(sizes, factors, variables, i + 1) as usize;
+        bases[i + 1] = sum;
+    }
+    bases
+}
+
+// Where the states of each leaf begin, and behind the last leaf the count of all states.
+pub fn leaf_bases(task: Task) -> [usize; 9]
+    requires { ⌜ Valid task ⌝ }
+    ensures { λ r. ⌜ Bases task r ⌝ }
+{
+    let sizes = task.sizes;
+    let factors = task.factors;
+    bases_of(
+        &sizes,
+        &factors,
+        task.variables as usize,
+        task.leaves as usize,
+    )
+}
+
+// ---- the initial state of each leaf
+
+// A leaf state's number, from the values of its variables.
+fn number_of(sizes: &[u8], factors: &[u8], values: &[u8], variables: usize, leaf: usize) -> usize
+    requires { ⌜ (variables ≤ length (now sizes)) × (variables ≤ length (now factors)) × (variables ≤ length (now values)) ⌝ }
+    requires { ⌜ ((v : ℕ) → v < variables → getD (now values) v 0 < getD (now sizes) v 0) ⌝ }
+    requires { ⌜ statesTo (λ v. getD (now factors) v 0) (λ v. getD (now sizes) v 0) leaf variables ≤ 256 ⌝ }
+    ensures { λ r. ⌜ r ≡ numberTo (λ v. getD (now (factors .entry)) v 0) (λ v. getD (now (sizes .entry)) v 0) leaf (λ v. getD (now (values .entry)) v 0) variables ⌝ }
+{
+    let mut number: usize = 0;
+    for v in 0..variables {
+        if whole::is_factor(factors[v], leaf) {
+            number = number * (sizes[v] as usize) + (values[v] as usize);
+        }
+    }
+    number
+}
+
+// The number of each leaf's state.
+fn starts_of(
+    sizes: &[u8],
+    factors: &[u8],
+    values: &[u8],
+    variables: usize,
+    leaves: usize,
+) -> [usize; 8]
+    requires { ⌜ (variables ≤ length (now sizes)) × (variables ≤ length (now factors)) × (variables ≤ length (now values)) × (leaves ≤ 8) ⌝ }
+    requires { ⌜ ((v : ℕ) → v < variables → getD (now values) v 0 < getD (now sizes) v 0) ⌝ }
+    requires { ⌜ ((i : ℕ) → i < leaves → statesTo (λ v. getD (now factors) v 0) (λ v. getD (now sizes) v 0) (suc i) variables ≤ 256) ⌝ }
+    ensures { λ r. ⌜ (length r ≡ 8) × Filled leaves (λ i. numberTo (λ v. getD (now (factors .entry)) v 0) (λ v. getD (now (sizes .entry)) v 0) (suc i) (λ v. getD (now (values .entry)) v 0) variables) r ⌝ }
+{
+    let mut starts: [usize; 8] = [0; 8];
+    for i in 0..leaves {
+        starts[i] = number_of(sizes, factors, values, variables, i + 1);
+    }
+    starts
+}
+
+// The initial state of each leaf.
+pub fn leaf_starts(task: Task) -> [usize; 8]
+    requires { ⌜ Valid task ⌝ }
+    ensures { λ r. ⌜ Starts task r ⌝ }
+{
+    let sizes = task.sizes;
+    let factors = task.factors;
+    let initial = task.initial;
+    starts_of(
+        &sizes,
+        &factors,
+        &initial,
+        task.variables as usize,
+        task.leaves as usize,
+    )
+}
+
+// ---- what each action costs
+
+// Handling plus the drive time of the distance, which together fit.
+fn cost_of(handling: u16, distance: u16) -> u16
+    requires { ⌜ handling + driveTime distance ≤ 4807 ⌝ }
+    ensures { λ r. ⌜ r ≡ handling + driveTime distance ⌝ }
+{
+    handling + drive::drive_time(distance)
+}
+
+// The costs of the actions.
+fn costs_of(handling: &[u16], distance: &[u16], actions: usize) -> [u16; 256]
+    requires { ⌜ (actions ≤ length (now handling)) × (actions ≤ length (now distance)) × (actions ≤ 256) ⌝ }
+    requires { ⌜ ((a : ℕ) → a < actions → getD (now handling) a 0 + driveTime (getD (now distance) a 0) ≤ 4807) ⌝ }
+    ensures { λ r. ⌜ (length r ≡ 256) × Filled actions (λ a. getD (now (handling .entry)) a 0 + driveTime (getD (now (distance .entry)) a 0)) r ⌝ }
+{
+    let mut costs: [u16; 256] = [0; 256];
+    for a in 0..actions {
+        costs[a] = cost_of(handling[a], distance[a]);
+    }
+    costs
+}
+
+// What each action costs.
+pub fn action_costs(task: Task) -> [u16; 256]
+    requires { ⌜ Valid task ⌝ }
+    ensures { λ r. ⌜ Costs task r ⌝ }
+{
+    let handling = task.handling;
+    let distance = task.distance;
+    costs_of(&handling, &distance, task.actions as usize)
+}
+
+// ---- the leaf of each leaf action
+
+// The leaf of the leaf action whose pairs begin at `at`, or 0 for a centre action.
+fn kind_of(
+    factors: &[u8],
+    conditions: &[u8],
+    effects: &[u8],
+    at: usize,
+    variables: usize,
+    leaves: usize,
+) -> u8
+    requires { ⌜ (variables ≤ length (now factors)) × (leaves ≤ 8) ⌝ }
+    requires { ⌜ (at + variables ≤ length (now conditions)) × (at + variables ≤ length (now effects)) ⌝ }
+    requires { ⌜ starPairs variables (λ v. getD (now factors) v 0) leaves (λ v. getD (now conditions) (at + v) 0) (λ v. getD (now effects) (at + v) 0) ≡ true ⌝ }
+    ensures { λ r. ⌜ KindIs variables (λ v. getD (now (factors .entry)) v 0) leaves (λ v. getD (now (conditions .entry)) (at + v) 0) (λ v. getD (now (effects .entry)) (at + v) 0) r ⌝ }
+{
+    if whole::touches_centre(factors, effects, at, variables) {
+        return 0;
+    }
+    for i in 0..leaves {
+        if whole::leaf_pairs(factors, conditions, effects, at, variables, i + 1) {
+            return (i + 1) as u8;
+        }
+    }
+    0
+}
+
+// The leaf of each action, 0 for centre actions.
+fn kinds_of(
+    factors: &[u8],
+    conditions: &[u8],
+    effects: &[u8],
+    variables: usize,
+    leaves: usize,
+    actions: usize,
+) -> [u8; 256]
+    requires { ⌜ (variables ≤ 32) × (variables ≤ length (now factors)) × (leaves ≤ 8) × (actions ≤ 255) ⌝ }
+    requires { ⌜ (8192 ≤ length (now conditions)) × (8192 ≤ length (now effects)) ⌝ }
+    requires { ⌜ ((a : ℕ) → a < actions → starPairs variables (λ v. getD (now factors) v 0) leaves (λ v. getD (now conditions) (a * 32 + v) 0) (λ v. getD (now effects) (a * 32 + v) 0) ≡ true) ⌝ }
+    ensures { λ r. ⌜ (length r ≡ 256) × Each actions (λ a k. KindIs variables (λ v. getD (now (factors .entry)) v 0) leaves (λ v. getD (now (conditions .entry)) (a * 32 + v) 0) (λ v. getD (now (effects .entry)) (a * 32 + v) 0) k) r ⌝ }
+{
+    let mut kinds: [u8; 256] = [0; 256];
+    for a in 0..actions {
+        kinds[a] = kind_of(factors, conditions, effects, a * 32, variables, leaves);
+    }
+    kinds
+}
+
+// The leaf of each leaf action, 0 for centre actions.
+pub fn action_kinds(task: Task) -> [u8; 256]
+    requires { ⌜ Valid task ⌝ }
+    ensures { λ r. ⌜ Kinds task r ⌝ }
+{
+    let factors = task.factors;
+    let conditions = task.conditions;
+    let effects = task.effects;
+    let variables = task.variables as usize;
+    let leaves = task.leaves as usize;
+    kinds_of(
+        &factors,
+        &conditions,
+        &effects,
+        variables,
+        leaves,
+        task.actions as usize,
+    )
+}
+
+// ---- what each action makes of each leaf state
+
+// What is left of a leaf state's number, the factor of the next digit, and the next state's number so far.
+struct Walk {
+    rest: u32,
+    stride: u32,
+    number: u32,
+}
+
+// Whether a condition, if there is one, holds of a value.
+fn holds(condition: u8, value: u32) -> bool
+    ensures { λ r. ⌜ r ≡ met condition value ⌝ }
+{
+    if condition == FREE {
+        return true;
+    }
+    condition as u32 == value
+}
+
+// The value behind an effect, if there is one.
+fn value_after(effect: u8, value: u32) -> u32
+    ensures { λ r. ⌜ r ≡ cond (eqb effect 16) value effect ⌝ }
+{
+    if effect == FREE {
+        return value;
+    }
+    effect as u32
+}
+
+// One digit goes over from the state's number to the next state's.
+fn step(walk: Walk, size: u32, effect: u8) -> Walk
+    requires { ⌜ Steps walk size effect ⌝ }
+    ensures { λ r. ⌜ r ≡ stepped walk size effect ⌝ }
+{
+    let value = value_after(effect, walk.rest % size);
+    Walk {
+        rest: walk.rest / size,
+        stride: walk.stride * size,
+        number: walk.number + value * walk.stride,
+    }
+}
+
+// What the action whose pairs begin at `at` makes of state x of the leaf: 0 where a condition fails, else one more than the next state's number.
+fn leaf_move(
+    sizes: &[u8],
+    factors: &[u8],
+    conditions: &[u8],
+    effects: &[u8],
+    variables: usize,
+    at: usize,
+    leaf: usize,
+    x: usize,
+) -> u16
+    requires { ⌜ (variables ≤ length (now sizes)) × (variables ≤ length (now factors)) × (x < 256) ⌝ }
+    requires { ⌜ (at + variables ≤ length (now conditions)) × (at + variables ≤ length (now effects)) ⌝ }
+    requires { ⌜ Small variables (λ v. getD (now factors) v 0) (λ v. getD (now sizes) v 0) (λ v. getD (now effects) (at + v) 0) leaf ⌝ }
+    ensures { λ r. ⌜ r ≡ toWith variables (λ v. getD (now (factors .entry)) v 0) (λ v. getD (now (sizes .entry)) v 0) (λ v. getD (now (conditions .entry)) (at + v) 0) (λ v. getD (now (effects .entry)) (at + v) 0) leaf x ⌝ }
+{
+    let mut walk = Walk {
+        rest: x as u32,
+        stride: 1,
+        number: 0,
+    };
+    let mut v = variables;
+    while v > 0 {
+        v -= 1;
+        if whole::is_factor(factors[v], leaf) {
+            let size = sizes[v] as u32;
+            if !holds(conditions[at + v], walk.rest % size) {
+                return 0;
+            }
+            walk = step(walk, size, effects[at + v]);
+        }
+    }
+    walk.number as u16 + 1
+}
+
+// What the action makes of each state of one leaf, in the entries from `from` on.
+fn fill_leaf(
+    sizes: &[u8],
+    factors: &[u8],
+    conditions: &[u8],
+    effects: &[u8],
+    variables: usize,
+    at: usize,
+    leaf: usize,
+    states: usize,
+    from: usize,
+    moves: &mut [u16],
+)
+    requires { ⌜ (variables ≤ length (now sizes)) × (variables ≤ length (now factors)) × (states ≤ 256) ⌝ }
+    requires { ⌜ (at + variables ≤ length (now conditions)) × (at + variables ≤ length (now effects)) ⌝ }
+    requires { ⌜ from + states ≤ length (now moves) ⌝ }
+    requires { ⌜ Small variables (λ v. getD (now factors) v 0) (λ v. getD (now sizes) v 0) (λ v. getD (now effects) (at + v) 0) leaf ⌝ }
+    ensures { λ _. ⌜ Placed from states (toWith variables (λ v. getD (now (factors .entry)) v 0) (λ v. getD (now (sizes .entry)) v 0) (λ v. getD (now (conditions .entry)) (at + v) 0) (λ v. getD (now (effects .entry)) (at + v) 0) leaf) (now (moves .exit)) ⌝ }
+    ensures { λ _. ⌜ Same from (from + states) (now (moves .entry)) (now (moves .exit)) ⌝ }
+{
+    for x in 0..states {
+        moves[from + x] = leaf_move(sizes, factors, conditions, effects, variables, at, leaf, x);
+    }
+}
+
+// What the action makes of each state of each leaf, in the entries from `from` on.
+fn fill_action(
+    sizes: &[u8],
+    factors: &[u8],
+    conditions: &[u8],
+    effects: &[u8],
+    bases: &[usize],
+    variables: usize,
+    leaves: usize,
+    at: usize,
+    from: usize,
+    moves: &mut [u16],
+)
+    requires { ⌜ (variables ≤ length (now sizes)) × (variables ≤ length (now factors)) × (leaves < length (now bases)) ⌝ }
+    requires { ⌜ (at + variables ≤ length (now conditions)) × (at + variables ≤ length (now effects)) ⌝ }
+    requires { ⌜ from + startOf variables (λ v. getD (now factors) v 0) (λ v. getD (now sizes) v 0) leaves ≤ length (now moves) ⌝ }
+    requires { ⌜ Filled (leaves + 1) (startOf variables (λ v. getD (now factors) v 0) (λ v. getD (now sizes) v 0)) (now bases) ⌝ }
+    requires { ⌜ ((i : ℕ) → i < leaves → Small variables (λ v. getD (now factors) v 0) (λ v. getD (now sizes) v 0) (λ v. getD (now effects) (at + v) 0) (suc i)) ⌝ }
+    ensures { λ _. ⌜ Row variables (λ v. getD (now (factors .entry)) v 0) (λ v. getD (now (sizes .entry)) v 0) (λ v. getD (now (conditions .entry)) (at + v) 0) (λ v. getD (now (effects .entry)) (at + v) 0) from leaves (now (moves .exit)) ⌝ }
+    ensures { λ _. ⌜ Same from (from + startOf variables (λ v. getD (now (factors .entry)) v 0) (λ v. getD (now (sizes .entry)) v 0) leaves) (now (moves .entry)) (now (moves .exit)) ⌝ }
+{
+    for i in 0..leaves {
+        let base = bases[i];
+        let states = bases[i + 1] - base;
+        fill_leaf(
+            sizes,
+            factors,
+            conditions,
+            effects,
+            variables,
+            at,
+            i + 1,
+            states,
+            from + base,
+            moves,
+        );
+    }
+}
+
+// What each action makes of each state of each leaf, a row for each action.
+fn fill_rows(
+    sizes: &[u8],
+    factors: &[u8],
+    conditions: &[u8],
+    effects: &[u8],
+    bases: &[usize],
+    variables: usize,
+    leaves: usize,
+    actions: usize,
+    moves: &mut [u16],
+)
+    requires { ⌜ (variables ≤ length (now sizes)) × (variables ≤ length (now factors)) × (leaves < length (now bases)) × (variables ≤ 32) × (actions ≤ 255) ⌝ }
+    requires { ⌜ (8192 ≤ length (now conditions)) × (8192 ≤ length (now effects)) ⌝ }
+    requires { ⌜ actions * startOf variables (λ v. getD (now factors) v 0) (λ v. getD (now sizes) v 0) leaves ≤ length (now moves) ⌝ }
+    requires { ⌜ Filled (leaves + 1) (startOf variables (λ v. getD (now factors) v 0) (λ v. getD (now sizes) v 0)) (now bases) ⌝ }
+    requires { ⌜ ((a : ℕ) → a < actions → (i : ℕ) → i < leaves → Small variables (λ v. getD (now factors) v 0) (λ v. getD (now sizes) v 0) (λ v. getD (now effects) (a * 32 + v) 0) (suc i)) ⌝ }
+    ensures { λ _. ⌜ Rows variables (λ v. getD (now (factors .entry)) v 0) (λ v. getD (now (sizes .entry)) v 0) (λ a v. getD (now (conditions .entry)) (a * 32 + v) 0) (λ a v. getD (now (effects .entry)) (a * 32 + v) 0) leaves actions (now (moves .exit)) ⌝ }
+    ensures { λ _. ⌜ Same 0 (actions * startOf variables (λ v. getD (now (factors .entry)) v 0) (λ v. getD (now (sizes .entry)) v 0) leaves) (now (moves .entry)) (now (moves .exit)) ⌝ }
+{
+    let row = bases[leaves];
+    let mut from = 0;
+    for a in 0..actions {
+        fill_action(
+            sizes,
+            factors,
+            conditions,
+            effects,
+            bases,
+            variables,
+            leaves,
+            a * 32,
+            from,
+            moves,
+        );
+        from += row;
+    }
+}
+
+// What each action makes of each leaf state: a row of as many entries as there are leaf states for each action.
+pub fn fill_moves(task: Task, bases: [usize; 9], moves: &mut [u16])
+    requires { ⌜ Valid task ⌝ }
+    requires { ⌜ Bases task bases ⌝ }
+    requires { ⌜ task .actions * allStates task ≤ length (now moves) ⌝ }
+    ensures { λ _. ⌜ Moves task (now (moves .exit)) ⌝ }
+    ensures { λ _. ⌜ Same 0 (task .actions * allStates task) (now (moves .entry)) (now (moves .exit)) ⌝ }
+{
+    let sizes = task.sizes;
+    let factors = task.factors;
+    let conditions = task.conditions;
+    let effects = task.effects;
+    let variables = task.variables as usize;
+    let leaves = task.leaves as usize;
+    let actions = task.actions as usize;
+    fill_rows(
+        &sizes,
+        &factors,
+        &conditions,
+        &effects,
+        &bases,
+        variables,
+        leaves,
+        actions,
+        moves,
+    );
+}
