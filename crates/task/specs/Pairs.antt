@@ -9,23 +9,11 @@ use native.Mathlib.Decide.{ℕ-discrete}
 use lib.Dec.{eqb}
 use borrow.Author.Tests.{eqb-true, eq-eqb, ne-eqb}
 use Rattle.loops.specs.Count.{all}
-use Rattle.loops.specs.Count.Laws.{all-in, all-out, all-ext, list-at, list-ext}
+use Rattle.loops.specs.Count.Laws.{all-in, all-out, all-ext, all-rest, list-at, list-ext}
 use Rattle.task.specs.declared.Centre.{Centre}
 use Rattle.task.specs.Meaning.{State, Partial, free, met, holds, put}
 use Rattle.task.specs.Factors.{named, within, holdsIn, gate}
 use Rattle.task.specs.Centre.{valueIn, centreOf, centreAfter}
-
--- ---- tests
-
--- the last numbers, at which the test passes, do not count
-pub all-rest : (n m : ℕ) (p : ℕ → Bool) → n ≤ m → ((k : ℕ) → n ≤ k → k < m → p k ≡ true) → all m p ≡ all n p
-unfolding all
-all-rest n zero p l h = let e : 0 ≡ n = omega arith in ap (λ (k : ℕ). all k p) e
-all-rest n (suc m) p l h = go (ℕ-discrete n (suc m)) (λ l′. all-rest n m p l′ (λ k a b. h k a (omega arith)))
-  where
-    go : Dec (n ≡ suc m) → (n ≤ m → all m p ≡ all n p) → all (suc m) p ≡ all n p
-    go (yes e) r = ap (λ (k : ℕ). all k p) (sym e)
-    go (no d) r = ap₂ _&&_ (r (omega arith)) (h m (omega arith) (omega arith)) ∙ and-true (all n p)
 
 -- ---- pairs, by the number of variables and their factors
 

@@ -7,9 +7,10 @@ use native.Mathlib.Nat.{le-antisymm}
 use native.Mathlib.Omega.{arith}
 use lib.ListN.{getD}
 use borrow.Author.Needs.{needs}
+use Rattle.loops.specs.Count.Laws.{told}
 use Rattle.loops.specs.Count.{any}
 use Rattle.task.specs.Factors.{leafPairs}
-use Rattle.whole.specs.Whole.Laws.{told, star-more, star-none}
+use Rattle.whole.specs.Whole.Laws.{star-more, star-none}
 use Rattle.tables.specs.Tables.Laws.{kind-centre, kind-leaf}
 use Rattle.tables.proofs.kind_of.Statement.{statement}
 use Rattle.tables.proofs.kind_of.Tie as tie

@@ -5,7 +5,7 @@ use Prim.Native.Nat.{suc, _+_, _-_, _≤_}
 use native.Mathlib.Omega.{arith}
 use lib.ListN.{getD}
 use borrow.Author.Needs.{needs}
-use Rattle.whole.specs.Whole.Laws.{told, told-true, told-false}
+use Rattle.loops.specs.Count.Laws.{told, told-true, told-false}
 use Rattle.tables.specs.Moves.{fresh, down, Room}
 use Rattle.tables.specs.Moves.Laws.{to-down, down-on, down-fails, down-by, room-fresh, room-end, room-steps, room-on, room-by}
 use Rattle.tables.proofs.leaf_move.Statement.{statement}

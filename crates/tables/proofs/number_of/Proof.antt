@@ -6,8 +6,8 @@ use native.Mathlib.Nat.{le-antisymm}
 use native.Mathlib.Omega.{arith}
 use lib.ListN.{getD}
 use borrow.Author.Needs.{needs}
+use Rattle.loops.specs.Count.Laws.{told}
 use Rattle.task.specs.Factors.{numberTo}
-use Rattle.whole.specs.Whole.Laws.{told}
 use Rattle.tables.specs.Tables.Laws.{number-on, number-by, number-fits}
 use Rattle.tables.proofs.number_of.Statement.{statement}
 use Rattle.tables.proofs.number_of.Tie as tie

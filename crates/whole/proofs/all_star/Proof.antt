@@ -8,10 +8,9 @@ use native.Mathlib.Omega.{arith}
 use lib.ListN.{getD}
 use borrow.Author.Needs.{needs}
 use Rattle.loops.specs.Count.{all}
-use Rattle.loops.specs.Count.Laws.{all-not, all-more}
+use Rattle.loops.specs.Count.Laws.{all-not, all-more, told-true, told-false}
 use Rattle.task.specs.Factors.{starPairs}
 use Rattle.whole.specs.Whole.{allStar}
-use Rattle.whole.specs.Whole.Laws.{told-true, told-false}
 use Rattle.whole.proofs.all_star.Statement.{statement}
 use Rattle.whole.proofs.all_star.Tie as tie
 

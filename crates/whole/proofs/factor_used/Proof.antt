@@ -8,8 +8,7 @@ use lib.Dec.{eqb}
 use lib.ListN.{getD}
 use borrow.Author.Needs.{needs}
 use Rattle.loops.specs.Count.{any}
-use Rattle.loops.specs.Count.Laws.{any-in, any-more}
-use Rattle.whole.specs.Whole.Laws.{told}
+use Rattle.loops.specs.Count.Laws.{any-in, any-more, told}
 use Rattle.whole.proofs.factor_used.Statement.{statement}
 use Rattle.whole.proofs.factor_used.Tie as tie
 

@@ -8,9 +8,8 @@ use lib.Dec.{eqb}
 use lib.ListN.{getD}
 use borrow.Author.Needs.{needs}
 use Rattle.loops.specs.Count.{all, any}
-use Rattle.loops.specs.Count.Laws.{all-not, all-more}
+use Rattle.loops.specs.Count.Laws.{all-not, all-more, told-true, told-false}
 use Rattle.whole.specs.Whole.{factorsUsed}
-use Rattle.whole.specs.Whole.Laws.{told-true, told-false}
 use Rattle.whole.proofs.factors_used.Statement.{statement}
 use Rattle.whole.proofs.factors_used.Tie as tie
 

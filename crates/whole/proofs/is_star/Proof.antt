@@ -8,9 +8,10 @@ use native.Mathlib.Nat.{le-antisymm}
 use native.Mathlib.Omega.{arith}
 use lib.ListN.{getD}
 use borrow.Author.Needs.{needs}
+use Rattle.loops.specs.Count.Laws.{told}
 use Rattle.loops.specs.Count.{any}
 use Rattle.task.specs.Factors.{leafPairs}
-use Rattle.whole.specs.Whole.Laws.{told, star-centre, star-leaf, star-more, star-none}
+use Rattle.whole.specs.Whole.Laws.{star-centre, star-leaf, star-more, star-none}
 use Rattle.whole.proofs.is_star.Statement.{statement}
 use Rattle.whole.proofs.is_star.Tie as tie
 

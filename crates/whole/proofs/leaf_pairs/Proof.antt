@@ -1,7 +1,7 @@
 -- `whole::leaf_pairs` meets its contract: effects that leave the leaf decide, or else the conditions. Assumes nothing.
 use borrow.Author.Needs.{needs}
+use Rattle.loops.specs.Count.Laws.{told-true, told-false}
 use Rattle.task.specs.Factors.{leafPairs}
-use Rattle.whole.specs.Whole.Laws.{told-true, told-false}
 use Rattle.whole.proofs.leaf_pairs.Statement.{statement}
 use Rattle.whole.proofs.leaf_pairs.Tie as tie
 

@@ -7,8 +7,9 @@ use native.Mathlib.Nat.{le-antisymm}
 use native.Mathlib.Omega.{arith}
 use lib.ListN.{getD}
 use borrow.Author.Needs.{needs}
+use Rattle.loops.specs.Count.Laws.{told}
 use Rattle.task.specs.Factors.{statesTo}
-use Rattle.whole.specs.Whole.Laws.{told, capped-in, capped-out}
+use Rattle.whole.specs.Whole.Laws.{capped-in, capped-out}
 use Rattle.whole.proofs.states_capped.Statement.{statement}
 use Rattle.whole.proofs.states_capped.Tie as tie
 

@@ -8,9 +8,8 @@ use lib.Dec.{eqb}
 use lib.ListN.{getD}
 use borrow.Author.Needs.{needs}
 use Rattle.loops.specs.Count.{any}
-use Rattle.loops.specs.Count.Laws.{any-in, any-more}
+use Rattle.loops.specs.Count.Laws.{any-in, any-more, told}
 use Rattle.task.specs.Factors.{named, touches}
-use Rattle.whole.specs.Whole.Laws.{told}
 use Rattle.whole.proofs.touches_centre.Statement.{statement}
 use Rattle.whole.proofs.touches_centre.Tie as tie
 

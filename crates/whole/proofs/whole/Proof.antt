@@ -1,7 +1,8 @@
 -- `whole::whole` meets its contract: at each return the tests so far and the one that fails decide the verdict. Assumes nothing.
 use mathlib.Core.Path.{sym}
 use borrow.Author.Needs.{needs}
-use Rattle.whole.specs.Whole.Laws.{told-true, told-false, whole-empty, whole-many, whole-other, whole-passed}
+use Rattle.loops.specs.Count.Laws.{told-true, told-false}
+use Rattle.whole.specs.Whole.Laws.{whole-empty, whole-many, whole-other, whole-passed}
 use Rattle.whole.proofs.whole.Statement.{statement}
 use Rattle.whole.proofs.whole.Tie as tie
 

@@ -19,19 +19,6 @@ use Rattle.fields.specs.declared.Refusal.the-variants.{FactorEmpty, TooManyStat
 use Rattle.whole.specs.declared.Verdict.the-variants.{Accepted, Refused}
 use Rattle.whole.specs.Whole.{factorsUsed, statesFew, allStar, wholeOf, wholeTask}
 
--- ---- a test b that a flag a tells
-
-pub told : {a b x : Bool} → a ≡ b → a ≡ x → b ≡ x
-told p q = sym p ∙ q
-
--- the flag's negation was tested, and failed
-pub told-true : {a b : Bool} → a ≡ b → not a ≡ false → b ≡ true
-told-true p q = sym p ∙ not-false _ q
-
--- the flag's negation was tested, and passed
-pub told-false : {a b : Bool} → a ≡ b → not a ≡ true → b ≡ false
-told-false p q = sym p ∙ not-true _ q
-
 -- ---- the count of a leaf's states, capped
 
 -- a cap may be put on before a product as well as after it
