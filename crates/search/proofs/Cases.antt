@@ -13,6 +13,8 @@ use Rattle.task.specs.Centre.{centreOf, centreAfter, centreMeets}
 use Rattle.layer.specs.Settle.{lower, key as priceKey, keyAt, keyOf, pick, relax, settle, settled}
 use Rattle.layer.specs.Pass.{pass}
 use Rattle.layer.specs.Layer.{enabledTo, settleLeaf, startLeaf, passLeaf, passes, base, leafPart, joined, firstPrices, nextPrices, appliesTo}
+use Rattle.price.specs.Ways.{weave}
+use Rattle.search.specs.Plan.{lowest, tight, tightTo, depths, source, back, begins, backIn, over, stages, pathTo, goalState, planOf}
 use Rattle.search.specs.Node.{firstNode, nextNode, leastOf, key, goalPrices, isGoal, goalCost, dominates}
 use Rattle.search.specs.Explore.{Stopped, Reason, finished, tableFull, budgetSpent, nodeAt, belowBest, bestWith, keep, start, waits, choose, offer, turn, expand, begin, explore, explored}
 
@@ -32,3 +34,11 @@ pub fetch-explored :
     (0 ∷ 4 ∷ 4 ∷ 1600 ∷ []) ∷ (23 ∷ 3 ∷ 4 ∷ 1600 ∷ []) ∷ (22 ∷ 3 ∷ 3 ∷ 1600 ∷ []) ∷ (23 ∷ 2 ∷ 3 ∷ 1600 ∷ []) ∷ []
 unfolding explored explore expand begin turn offer choose waits start keep bestWith belowBest dominates goalCost isGoal goalPrices key leastOf nextNode firstNode firstPrices nextPrices appliesTo joined leafPart base passes passLeaf startLeaf settleLeaf enabledTo pass settled settle relax pick keyOf keyAt priceKey lower centreMeets centreAfter centreOf to meetsIn valuesOf allStates states number leafAction centreAction digitTo statesTo numberTo leafPairs holdsIn within touches cost driveTime rootFrom all any sum list fetch
 fetch-explored = refl
+
+-- the plan of best's node
+abbrev bestPlan : Stopped → List ℕ
+bestPlan r = elim (r .search .best) [ zero ↦ [] | suc u ↦ planOf fetch (r .search) u ]
+
+pub fetch-plan : bestPlan (explored fetch 96 4096) ≡ 0 ∷ 2 ∷ 1 ∷ 3 ∷ []
+unfolding planOf goalState pathTo stages over backIn begins back source depths tightTo tight lowest weave explored explore expand begin turn offer choose waits start keep bestWith belowBest dominates goalCost isGoal goalPrices key leastOf nextNode firstNode firstPrices nextPrices appliesTo joined leafPart base passes passLeaf startLeaf settleLeaf enabledTo pass settled settle relax pick keyOf keyAt priceKey lower centreMeets centreAfter centreOf to meetsIn valuesOf allStates states number leafAction centreAction digitTo statesTo numberTo leafPairs holdsIn within touches cost driveTime rootFrom all any sum list fetch
+fetch-plan = refl
