@@ -5,13 +5,13 @@ ghost use mathlib.Core.Bool.{not, _&&_};
 ghost use mathlib.Core.List.{[], _++_};
 ghost use Prim.Native.Nat.{ℕ, _+_, _*_, _-_, _<_, _≤_, min};
 ghost use lib.Dec.{ltb, eqb};
-ghost use lib.ListN.{length, getD, set, drop, replicate};
+ghost use lib.ListN.{length, getD, drop, replicate};
 ghost use Rattle.loops.specs.Count.{any, list};
 ghost use Rattle.layer.specs.Settle.{lower, key, pick, relax, settled};
 ghost use Rattle.layer.specs.Pass.{pass};
 ghost use Rattle.layer.specs.Layer.{mark};
-ghost use Rattle.layer.specs.Board.{Sound, metOn, enabledOn, settleOn, passOn, firstOn, nextOn, appliesOn};
-ghost use Rattle.layer.specs.Lent.{Lent, Front, boardOf, testsOf, costBy, moveBy};
+ghost use Rattle.layer.specs.Board.{Sound, metOn, enabledOn, settleOn, firstOn, nextOn, appliesOn};
+ghost use Rattle.layer.specs.Lent.{Lent, Front, boardOf, testsOf, firstLeafOn, nextLeafOn, costBy, moveBy};
 
 // The price of a state that cannot be reached.
 pub const MARK: u64 = 18446744073709551615;
@@ -213,7 +213,8 @@ fn is_enabled(
     action: usize,
 ) -> bool
     requires { ⌜ (i < 8) × (action < length (now kinds)) × (action * 32 + 32 ≤ length (now conditions)) ⌝ }
-    ensures { λ r. ⌜ r ≡ (eqb (getD (now (kinds .entry)) action 0) (i + 1) && metOn (testsOf [] factors (now (conditions .entry))) centre action) ⌝ }
+    ensures { λ r. ⌜ r
+        ≡ (eqb (getD (now (kinds .entry)) action 0) (i + 1) && metOn (testsOf [] factors (now (conditions .entry))) centre action) ⌝ }
 {
     if kinds[action] as usize != i + 1 {
         return false;
@@ -231,7 +232,8 @@ pub fn enabled(
     actions: usize,
     acts: &mut [u8],
 ) -> usize
-    requires { ⌜ (i < 8) × (actions ≤ 255) × (actions ≤ length (now kinds)) × (actions * 32 ≤ length (now conditions)) × (actions ≤ length (now acts)) ⌝ }
+    requires { ⌜ (i < 8) × (actions ≤ 255) × (actions ≤ length (now kinds)) × (actions * 32 ≤ length (now conditions))
+        × (actions ≤ length (now acts)) ⌝ }
     ensures { λ r. ⌜ Front (enabledOn (testsOf (now (kinds .entry)) factors (now (conditions .entry))) i centre actions) (now (acts .entry)) r
         (now (acts .exit)) ⌝ }
 {
@@ -261,9 +263,8 @@ pub fn settle_leaf(
 )
     requires { ⌜ Sound (boardOf leaves actions (now bases) (now moves) (now costs) (now kinds) factors (now conditions))
         × (i < leaves) × (length (now prices) ≡ getD (now bases) (i + 1) 0 - getD (now bases) i 0) ⌝ }
-    ensures { λ _. ⌜ now (prices .exit) ≡ settleOn
-        (boardOf leaves actions (now (bases .entry)) (now (moves .entry)) (now (costs .entry)) (now (kinds .entry)) factors (now (conditions .entry)))
-        i centre (now (prices .entry)) ⌝ }
+    ensures { λ _. ⌜ now (prices .exit) ≡ settleOn (boardOf leaves actions (now (bases .entry)) (now (moves .entry)) (now (costs .entry)) (now (kinds .entry))
+        factors (now (conditions .entry))) i centre (now (prices .entry)) ⌝ }
 {
     let mut acts = [0u8; 256];
     let count = enabled(kinds, factors, conditions, centre, i, actions, &mut acts);
@@ -289,9 +290,8 @@ fn first_leaf(
 )
     requires { ⌜ Sound (boardOf leaves actions (now bases) (now moves) (now costs) (now kinds) factors (now conditions))
         × (i < leaves) × (start < length (now prices)) × (length (now prices) ≡ getD (now bases) (i + 1) 0 - getD (now bases) i 0) ⌝ }
-    ensures { λ _. ⌜ now (prices .exit) ≡ settleOn
-        (boardOf leaves actions (now (bases .entry)) (now (moves .entry)) (now (costs .entry)) (now (kinds .entry)) factors (now (conditions .entry)))
-        i centre (set (replicate (getD (now (bases .entry)) (i + 1) 0 - getD (now (bases .entry)) i 0) mark) start 0) ⌝ }
+    ensures { λ _. ⌜ now (prices .exit) ≡ firstLeafOn (boardOf leaves actions (now (bases .entry)) (now (moves .entry)) (now (costs .entry)) (now (kinds .entry))
+        factors (now (conditions .entry))) i centre start ⌝ }
 {
     fill(prices);
     prices[start] = 0;
@@ -327,14 +327,12 @@ pub fn first_layer(
     requires { ⌜ Sound (boardOf leaves actions (now bases) (now moves) (now costs) (now kinds) factors (now conditions))
         × (getD (now bases) leaves 0 ≤ length (now new)) × (leaves ≤ length (now starts))
         × ((i : ℕ) → i < leaves → getD (now starts) i 0 < getD (now bases) (i + 1) 0 - getD (now bases) i 0) ⌝ }
-    ensures { λ _. ⌜ now (new .exit) ≡ firstOn
-        (boardOf leaves actions (now (bases .entry)) (now (moves .entry)) (now (costs .entry)) (now (kinds .entry)) factors (now (conditions .entry)))
-        (now (starts .entry)) centre ++ drop (getD (now (bases .entry)) leaves 0) (now (new .entry)) ⌝ }
+    ensures { λ _. ⌜ now (new .exit) ≡ firstOn (boardOf leaves actions (now (bases .entry)) (now (moves .entry)) (now (costs .entry)) (now (kinds .entry))
+        factors (now (conditions .entry))) (now (starts .entry)) centre ++ drop (getD (now (bases .entry)) leaves 0) (now (new .entry)) ⌝ }
 {
     for i in 0..leaves {
         let from = bases[i];
         let to = bases[i + 1];
-        let start = starts[i];
         first_leaf(
             leaves,
             actions,
@@ -346,7 +344,7 @@ pub fn first_layer(
             conditions,
             centre,
             i,
-            start,
+            starts[i],
             &mut new[from..to],
         );
     }
@@ -371,9 +369,8 @@ fn next_leaf(
     requires { ⌜ Sound (boardOf leaves actions (now bases) (now moves) (now costs) (now kinds) factors (now conditions))
         × (i < leaves) × (action < actions) × (length (now new) ≡ length (now old))
         × (length (now old) ≡ getD (now bases) (i + 1) 0 - getD (now bases) i 0) ⌝ }
-    ensures { λ _. ⌜ now (new .exit) ≡ settleOn
-        (boardOf leaves actions (now (bases .entry)) (now (moves .entry)) (now (costs .entry)) (now (kinds .entry)) factors (now (conditions .entry))) i centre (passOn
-        (boardOf leaves actions (now (bases .entry)) (now (moves .entry)) (now (costs .entry)) (now (kinds .entry)) factors (now (conditions .entry))) i action (now (old .entry))) ⌝ }
+    ensures { λ _. ⌜ now (new .exit) ≡ nextLeafOn (boardOf leaves actions (now (bases .entry)) (now (moves .entry)) (now (costs .entry)) (now (kinds .entry))
+        factors (now (conditions .entry))) i centre action (now (old .entry)) ⌝ }
 {
     let row = bases[leaves];
     let at = bases[i];
@@ -410,9 +407,8 @@ pub fn next_layer(
 )
     requires { ⌜ Sound (boardOf leaves actions (now bases) (now moves) (now costs) (now kinds) factors (now conditions))
         × (action < actions) × (getD (now bases) leaves 0 ≤ length (now old)) × (getD (now bases) leaves 0 ≤ length (now new)) ⌝ }
-    ensures { λ _. ⌜ now (new .exit) ≡ nextOn
-        (boardOf leaves actions (now (bases .entry)) (now (moves .entry)) (now (costs .entry)) (now (kinds .entry)) factors (now (conditions .entry)))
-        centre action (now (old .entry)) ++ drop (getD (now (bases .entry)) leaves 0) (now (new .entry)) ⌝ }
+    ensures { λ _. ⌜ now (new .exit) ≡ nextOn (boardOf leaves actions (now (bases .entry)) (now (moves .entry)) (now (costs .entry)) (now (kinds .entry))
+        factors (now (conditions .entry))) centre action (now (old .entry)) ++ drop (getD (now (bases .entry)) leaves 0) (now (new .entry)) ⌝ }
 {
     for i in 0..leaves {
         let from = bases[i];
@@ -451,9 +447,8 @@ pub fn applies(
 ) -> bool
     requires { ⌜ Sound (boardOf leaves actions (now bases) (now moves) (now costs) (now kinds) factors (now conditions))
         × (action < actions) × (getD (now bases) leaves 0 ≤ length (now old)) ⌝ }
-    ensures { λ r. ⌜ r ≡ appliesOn
-        (boardOf leaves actions (now (bases .entry)) (now (moves .entry)) (now (costs .entry)) (now (kinds .entry)) factors (now (conditions .entry)))
-        centre (now (old .entry)) action ⌝ }
+    ensures { λ r. ⌜ r ≡ appliesOn (boardOf leaves actions (now (bases .entry)) (now (moves .entry)) (now (costs .entry)) (now (kinds .entry))
+        factors (now (conditions .entry))) centre (now (old .entry)) action ⌝ }
 {
     if !is_met(factors, conditions, centre, action) {
         return false;

@@ -1,4 +1,8 @@
 -- The exploration. Follows "The exploration": one step on a search state, run with fuel.
+pub mod Closure
+pub mod Laws
+pub mod Turns
+pub mod Rounds
 use mathlib.Core.Bool.{Bool, true, false, not, _&&_}
 use mathlib.Core.List.{List, [], _∷_, _++_}
 use Prim.Native.Nat.{ℕ, zero, suc, _+_}

@@ -1,4 +1,11 @@
 -- The plan of a goal node, walked back leaf by leaf. Follows "The exploration": "The plan".
+pub mod Lowest
+pub mod Staged
+pub mod Real
+pub mod Depths
+pub mod WayBack
+pub mod Stages
+pub mod Reaches
 use mathlib.Core.Bool.{Bool, true, false, cond, _&&_}
 use mathlib.Core.List.{List, [], _∷_, _++_}
 use Prim.Native.Nat.{ℕ, zero, suc, _+_}

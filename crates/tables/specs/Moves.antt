@@ -1,7 +1,6 @@
 -- What an action makes of a leaf state, by the number of variables, their factors and sizes, conditions and effects; and the same in one pass
 -- over the variables, the last first.
 pub mod Laws
-use mathlib.Core.Path.{_≡_}
 use mathlib.Core.Bool.{cond}
 use Prim.Native.Nat.{ℕ, zero, suc, _+_, _*_, _/_, _%_, _≤_, _<_}
 use lib.Dec.{eqb}
@@ -21,13 +20,17 @@ toWith n fac siz con eff l x =
 abbrev pub fresh : ℕ → Walk
 fresh x = record { rest = x; stride = 1; number = 0 }
 
--- one digit goes over: the effect's value, or the state's own
+-- the value behind an effect: the effect's, or the one before
+abbrev pub valueAfter : ℕ → ℕ → ℕ
+valueAfter effect value = cond (eqb effect free) value effect
+
+-- the last digit, of the size, goes from the number, and the value goes into the next state's
 abbrev pub stepped : Walk → ℕ → ℕ → Walk
-stepped w size effect =
+stepped w size value =
     record {
       rest = w .rest / size;
       stride = w .stride * size;
-      number = w .number + cond (eqb effect free) (w .rest % size) effect * w .stride;
+      number = w .number + value * w .stride;
     }
 
 -- the digits of the variables below v are still to go, the last first
@@ -35,7 +38,7 @@ unfoldable pub down : (ℕ → ℕ) → (ℕ → ℕ) → Partial → Partial �
 down fac siz con eff l zero w = w .number + 1
 down fac siz con eff l (suc v) w =
     cond (eqb (fac v) l)
-    (cond (met (con v) (w .rest % siz v)) (down fac siz con eff l v (stepped w (siz v) (eff v))) 0)
+    (cond (met (con v) (w .rest % siz v)) (down fac siz con eff l v (stepped w (siz v) (valueAfter (eff v) (w .rest % siz v)))) 0)
     (down fac siz con eff l v w)
 
 -- ---- numbers that fit
@@ -47,9 +50,8 @@ pub record Small (n : ℕ) (fac siz : ℕ → ℕ) (eff : Partial) (l : ℕ) : T
   pub few : statesTo fac siz l n ≤ 256
 
 -- a digit more leaves the numbers small
-pub record Steps (w : Walk) (size effect : ℕ) : Type 0 where
-  pub sized : 1 ≤ size
-  pub inside : PairIn size effect
+pub record Steps (w : Walk) (size value : ℕ) : Type 0 where
+  pub inside : value < size
   pub below : w .number < w .stride
   pub few : w .stride * size ≤ 256
 

@@ -16,6 +16,14 @@ use Rattle.tables.specs.Moves.{toWith}
 
 -- ---- lists
 
+-- a list as a function of the place, 0 behind its end
+abbrev pub entries : List ℕ → ℕ → ℕ
+entries xs k = getD xs k 0
+
+-- the same, counted from `at` on
+abbrev pub entriesFrom : ℕ → List ℕ → ℕ → ℕ
+entriesFrom at xs k = getD xs (at + k) 0
+
 -- each of the first n entries has the property of its place
 abbrev pub Each : ℕ → (ℕ → ℕ → Type 0) → List ℕ → Type 0
 Each n P xs = (k : ℕ) → k < n → P k (getD xs k 0)

@@ -2,24 +2,23 @@
 use task::FREE;
 use task::Task;
 ghost use mathlib.Core.Path.{_≡_};
-ghost use mathlib.Core.Bool.{cond, true};
+ghost use mathlib.Core.Bool.{true};
 ghost use Prim.Native.Nat.{ℕ, suc, _*_, _+_, _<_, _≤_};
-ghost use lib.Dec.{eqb};
 ghost use lib.ListN.{length, getD};
 ghost use Rattle.drive.specs.Drive.{driveTime};
 ghost use Rattle.task.specs.Meaning.{met};
 ghost use Rattle.task.specs.Factors.{numberTo, starPairs, statesTo, allStates};
-ghost use Rattle.task.specs.Valid.{PairIn, Valid};
-ghost use Rattle.tables.specs.Moves.{Small, Steps, toWith, stepped};
-ghost use Rattle.tables.specs.Tables.{Each, Filled, Placed, Same, KindIs, Row, Rows, Bases, Starts, Costs, Kinds, Moves, startOf};
+ghost use Rattle.task.specs.Valid.{Valid};
+ghost use Rattle.tables.specs.Moves.{Small, Steps, toWith, stepped, valueAfter};
+ghost use Rattle.tables.specs.Tables.{entries, entriesFrom, Each, Filled, Placed, Same, KindIs, Row, Rows, Bases, Starts, Costs, Kinds, Moves, startOf};
 
 // ---- where each leaf's states begin
 
 // The sums of the leaves' states: entry i counts those of the i leaves before.
 fn bases_of(sizes: &[u8], factors: &[u8], variables: usize, leaves: usize) -> [usize; 9]
     requires { ⌜ (variables ≤ length (now sizes)) × (variables ≤ length (now factors)) × (leaves ≤ 8) ⌝ }
-    requires { ⌜ ((i : ℕ) → i < leaves → statesTo (λ v. getD (now factors) v 0) (λ v. getD (now sizes) v 0) (suc i) variables ≤ 256) ⌝ }
-    ensures { λ r. ⌜ (length r ≡ 9) × Filled (leaves + 1) (startOf variables (λ v. getD (now (factors .entry)) v 0) (λ v. getD (now (sizes .entry)) v 0)) r ⌝ }
+    requires { ⌜ ((i : ℕ) → i < leaves → statesTo (entries (now factors)) (entries (now sizes)) (suc i) variables ≤ 256) ⌝ }
+    ensures { λ r. ⌜ (length r ≡ 9) × Filled (leaves + 1) (startOf variables (entries (now (factors .entry))) (entries (now (sizes .entry)))) r ⌝ }
 {
     let mut bases: [usize; 9] = [0; 9];
     let mut sum: usize = 0;
@@ -47,16 +46,16 @@ pub fn leaf_bases(task: Task) -> [usize; 9]
 
 // ---- the initial state of each leaf
 
-// A leaf state's number, from the values of its variables.
-fn number_of(sizes: &[u8], factors: &[u8], values: &[u8], variables: usize, leaf: usize) -> usize
+// The number of a factor's state, from the values of its variables.
+fn number_of(sizes: &[u8], factors: &[u8], values: &[u8], variables: usize, factor: usize) -> usize
     requires { ⌜ (variables ≤ length (now sizes)) × (variables ≤ length (now factors)) × (variables ≤ length (now values)) ⌝ }
     requires { ⌜ ((v : ℕ) → v < variables → getD (now values) v 0 < getD (now sizes) v 0) ⌝ }
-    requires { ⌜ statesTo (λ v. getD (now factors) v 0) (λ v. getD (now sizes) v 0) leaf variables ≤ 256 ⌝ }
-    ensures { λ r. ⌜ r ≡ numberTo (λ v. getD (now (factors .entry)) v 0) (λ v. getD (now (sizes .entry)) v 0) leaf (λ v. getD (now (values .entry)) v 0) variables ⌝ }
+    requires { ⌜ statesTo (entries (now factors)) (entries (now sizes)) factor variables ≤ 256 ⌝ }
+    ensures { λ r. ⌜ r ≡ numberTo (entries (now (factors .entry))) (entries (now (sizes .entry))) factor (entries (now (values .entry))) variables ⌝ }
 {
     let mut number: usize = 0;
     for v in 0..variables {
-        if whole::is_factor(factors[v], leaf) {
+        if whole::is_factor(factors[v], factor) {
             number = number * (sizes[v] as usize) + (values[v] as usize);
         }
     }
@@ -73,8 +72,8 @@ fn starts_of(
 ) -> [usize; 8]
     requires { ⌜ (variables ≤ length (now sizes)) × (variables ≤ length (now factors)) × (variables ≤ length (now values)) × (leaves ≤ 8) ⌝ }
     requires { ⌜ ((v : ℕ) → v < variables → getD (now values) v 0 < getD (now sizes) v 0) ⌝ }
-    requires { ⌜ ((i : ℕ) → i < leaves → statesTo (λ v. getD (now factors) v 0) (λ v. getD (now sizes) v 0) (suc i) variables ≤ 256) ⌝ }
-    ensures { λ r. ⌜ (length r ≡ 8) × Filled leaves (λ i. numberTo (λ v. getD (now (factors .entry)) v 0) (λ v. getD (now (sizes .entry)) v 0) (suc i) (λ v. getD (now (values .entry)) v 0) variables) r ⌝ }
+    requires { ⌜ ((i : ℕ) → i < leaves → statesTo (entries (now factors)) (entries (now sizes)) (suc i) variables ≤ 256) ⌝ }
+    ensures { λ r. ⌜ (length r ≡ 8) × Filled leaves (λ i. numberTo (entries (now (factors .entry))) (entries (now (sizes .entry))) (suc i) (entries (now (values .entry))) variables) r ⌝ }
 {
     let mut starts: [usize; 8] = [0; 8];
     for i in 0..leaves {
@@ -102,15 +101,7 @@ pub fn leaf_starts(task: Task) -> [usize; 8]
 
 // ---- what each action costs
 
-// Handling plus the drive time of the distance, which together fit.
-fn cost_of(handling: u16, distance: u16) -> u16
-    requires { ⌜ handling + driveTime distance ≤ 4807 ⌝ }
-    ensures { λ r. ⌜ r ≡ handling + driveTime distance ⌝ }
-{
-    handling + drive::drive_time(distance)
-}
-
-// The costs of the actions.
+// Each action's handling plus the drive time of its distance, which together fit.
 fn costs_of(handling: &[u16], distance: &[u16], actions: usize) -> [u16; 256]
     requires { ⌜ (actions ≤ length (now handling)) × (actions ≤ length (now distance)) × (actions ≤ 256) ⌝ }
     requires { ⌜ ((a : ℕ) → a < actions → getD (now handling) a 0 + driveTime (getD (now distance) a 0) ≤ 4807) ⌝ }
@@ -118,7 +109,8 @@ fn costs_of(handling: &[u16], distance: &[u16], actions: usize) -> [u16; 256]
 {
     let mut costs: [u16; 256] = [0; 256];
     for a in 0..actions {
-        costs[a] = cost_of(handling[a], distance[a]);
+        let time = drive::drive_time(distance[a]);
+        costs[a] = handling[a] + time;
     }
     costs
 }
@@ -146,8 +138,8 @@ fn kind_of(
 ) -> u8
     requires { ⌜ (variables ≤ length (now factors)) × (leaves ≤ 8) ⌝ }
     requires { ⌜ (at + variables ≤ length (now conditions)) × (at + variables ≤ length (now effects)) ⌝ }
-    requires { ⌜ starPairs variables (λ v. getD (now factors) v 0) leaves (λ v. getD (now conditions) (at + v) 0) (λ v. getD (now effects) (at + v) 0) ≡ true ⌝ }
-    ensures { λ r. ⌜ KindIs variables (λ v. getD (now (factors .entry)) v 0) leaves (λ v. getD (now (conditions .entry)) (at + v) 0) (λ v. getD (now (effects .entry)) (at + v) 0) r ⌝ }
+    requires { ⌜ starPairs variables (entries (now factors)) leaves (entriesFrom at (now conditions)) (entriesFrom at (now effects)) ≡ true ⌝ }
+    ensures { λ r. ⌜ KindIs variables (entries (now (factors .entry))) leaves (entriesFrom at (now (conditions .entry))) (entriesFrom at (now (effects .entry))) r ⌝ }
 {
     if whole::touches_centre(factors, effects, at, variables) {
         return 0;
@@ -171,8 +163,8 @@ fn kinds_of(
 ) -> [u8; 256]
     requires { ⌜ (variables ≤ 32) × (variables ≤ length (now factors)) × (leaves ≤ 8) × (actions ≤ 255) ⌝ }
     requires { ⌜ (8192 ≤ length (now conditions)) × (8192 ≤ length (now effects)) ⌝ }
-    requires { ⌜ ((a : ℕ) → a < actions → starPairs variables (λ v. getD (now factors) v 0) leaves (λ v. getD (now conditions) (a * 32 + v) 0) (λ v. getD (now effects) (a * 32 + v) 0) ≡ true) ⌝ }
-    ensures { λ r. ⌜ (length r ≡ 256) × Each actions (λ a k. KindIs variables (λ v. getD (now (factors .entry)) v 0) leaves (λ v. getD (now (conditions .entry)) (a * 32 + v) 0) (λ v. getD (now (effects .entry)) (a * 32 + v) 0) k) r ⌝ }
+    requires { ⌜ ((a : ℕ) → a < actions → starPairs variables (entries (now factors)) leaves (entriesFrom (a * 32) (now conditions)) (entriesFrom (a * 32) (now effects)) ≡ true) ⌝ }
+    ensures { λ r. ⌜ (length r ≡ 256) × Each actions (λ a k. KindIs variables (entries (now (factors .entry))) leaves (entriesFrom (a * 32) (now (conditions .entry))) (entriesFrom (a * 32) (now (effects .entry))) k) r ⌝ }
 {
     let mut kinds: [u8; 256] = [0; 256];
     for a in 0..actions {
@@ -222,7 +214,7 @@ fn holds(condition: u8, value: u32) -> bool
 
 // The value behind an effect, if there is one.
 fn value_after(effect: u8, value: u32) -> u32
-    ensures { λ r. ⌜ r ≡ cond (eqb effect 16) value effect ⌝ }
+    ensures { λ r. ⌜ r ≡ valueAfter effect value ⌝ }
 {
     if effect == FREE {
         return value;
@@ -230,12 +222,11 @@ fn value_after(effect: u8, value: u32) -> u32
     effect as u32
 }
 
-// One digit goes over from the state's number to the next state's.
-fn step(walk: Walk, size: u32, effect: u8) -> Walk
-    requires { ⌜ Steps walk size effect ⌝ }
-    ensures { λ r. ⌜ r ≡ stepped walk size effect ⌝ }
+// The last digit goes from the state's number, and its next value into the next state's.
+fn step(walk: Walk, size: u32, value: u32) -> Walk
+    requires { ⌜ Steps walk size value ⌝ }
+    ensures { λ r. ⌜ r ≡ stepped walk size value ⌝ }
 {
-    let value = value_after(effect, walk.rest % size);
     Walk {
         rest: walk.rest / size,
         stride: walk.stride * size,
@@ -256,8 +247,8 @@ fn leaf_move(
 ) -> u16
     requires { ⌜ (variables ≤ length (now sizes)) × (variables ≤ length (now factors)) × (x < 256) ⌝ }
     requires { ⌜ (at + variables ≤ length (now conditions)) × (at + variables ≤ length (now effects)) ⌝ }
-    requires { ⌜ Small variables (λ v. getD (now factors) v 0) (λ v. getD (now sizes) v 0) (λ v. getD (now effects) (at + v) 0) leaf ⌝ }
-    ensures { λ r. ⌜ r ≡ toWith variables (λ v. getD (now (factors .entry)) v 0) (λ v. getD (now (sizes .entry)) v 0) (λ v. getD (now (conditions .entry)) (at + v) 0) (λ v. getD (now (effects .entry)) (at + v) 0) leaf x ⌝ }
+    requires { ⌜ Small variables (entries (now factors)) (entries (now sizes)) (entriesFrom at (now effects)) leaf ⌝ }
+    ensures { λ r. ⌜ r ≡ toWith variables (entries (now (factors .entry))) (entries (now (sizes .entry))) (entriesFrom at (now (conditions .entry))) (entriesFrom at (now (effects .entry))) leaf x ⌝ }
 {
     let mut walk = Walk {
         rest: x as u32,
@@ -269,10 +260,12 @@ fn leaf_move(
         v -= 1;
         if whole::is_factor(factors[v], leaf) {
             let size = sizes[v] as u32;
-            if !holds(conditions[at + v], walk.rest % size) {
+            let digit = walk.rest % size;
+            let value = value_after(effects[at + v], digit);
+            if !holds(conditions[at + v], digit) {
                 return 0;
             }
-            walk = step(walk, size, effects[at + v]);
+            walk = step(walk, size, value);
         }
     }
     walk.number as u16 + 1
@@ -294,8 +287,8 @@ fn fill_leaf(
     requires { ⌜ (variables ≤ length (now sizes)) × (variables ≤ length (now factors)) × (states ≤ 256) ⌝ }
     requires { ⌜ (at + variables ≤ length (now conditions)) × (at + variables ≤ length (now effects)) ⌝ }
     requires { ⌜ from + states ≤ length (now moves) ⌝ }
-    requires { ⌜ Small variables (λ v. getD (now factors) v 0) (λ v. getD (now sizes) v 0) (λ v. getD (now effects) (at + v) 0) leaf ⌝ }
-    ensures { λ _. ⌜ Placed from states (toWith variables (λ v. getD (now (factors .entry)) v 0) (λ v. getD (now (sizes .entry)) v 0) (λ v. getD (now (conditions .entry)) (at + v) 0) (λ v. getD (now (effects .entry)) (at + v) 0) leaf) (now (moves .exit)) ⌝ }
+    requires { ⌜ Small variables (entries (now factors)) (entries (now sizes)) (entriesFrom at (now effects)) leaf ⌝ }
+    ensures { λ _. ⌜ Placed from states (toWith variables (entries (now (factors .entry))) (entries (now (sizes .entry))) (entriesFrom at (now (conditions .entry))) (entriesFrom at (now (effects .entry))) leaf) (now (moves .exit)) ⌝ }
     ensures { λ _. ⌜ Same from (from + states) (now (moves .entry)) (now (moves .exit)) ⌝ }
 {
     for x in 0..states {
@@ -318,11 +311,11 @@ fn fill_action(
 )
     requires { ⌜ (variables ≤ length (now sizes)) × (variables ≤ length (now factors)) × (leaves < length (now bases)) ⌝ }
     requires { ⌜ (at + variables ≤ length (now conditions)) × (at + variables ≤ length (now effects)) ⌝ }
-    requires { ⌜ from + startOf variables (λ v. getD (now factors) v 0) (λ v. getD (now sizes) v 0) leaves ≤ length (now moves) ⌝ }
-    requires { ⌜ Filled (leaves + 1) (startOf variables (λ v. getD (now factors) v 0) (λ v. getD (now sizes) v 0)) (now bases) ⌝ }
-    requires { ⌜ ((i : ℕ) → i < leaves → Small variables (λ v. getD (now factors) v 0) (λ v. getD (now sizes) v 0) (λ v. getD (now effects) (at + v) 0) (suc i)) ⌝ }
-    ensures { λ _. ⌜ Row variables (λ v. getD (now (factors .entry)) v 0) (λ v. getD (now (sizes .entry)) v 0) (λ v. getD (now (conditions .entry)) (at + v) 0) (λ v. getD (now (effects .entry)) (at + v) 0) from leaves (now (moves .exit)) ⌝ }
-    ensures { λ _. ⌜ Same from (from + startOf variables (λ v. getD (now (factors .entry)) v 0) (λ v. getD (now (sizes .entry)) v 0) leaves) (now (moves .entry)) (now (moves .exit)) ⌝ }
+    requires { ⌜ from + startOf variables (entries (now factors)) (entries (now sizes)) leaves ≤ length (now moves) ⌝ }
+    requires { ⌜ Filled (leaves + 1) (startOf variables (entries (now factors)) (entries (now sizes))) (now bases) ⌝ }
+    requires { ⌜ ((i : ℕ) → i < leaves → Small variables (entries (now factors)) (entries (now sizes)) (entriesFrom at (now effects)) (suc i)) ⌝ }
+    ensures { λ _. ⌜ Row variables (entries (now (factors .entry))) (entries (now (sizes .entry))) (entriesFrom at (now (conditions .entry))) (entriesFrom at (now (effects .entry))) from leaves (now (moves .exit)) ⌝ }
+    ensures { λ _. ⌜ Same from (from + startOf variables (entries (now (factors .entry))) (entries (now (sizes .entry))) leaves) (now (moves .entry)) (now (moves .exit)) ⌝ }
 {
     for i in 0..leaves {
         let base = bases[i];
@@ -356,11 +349,11 @@ fn fill_rows(
 )
     requires { ⌜ (variables ≤ length (now sizes)) × (variables ≤ length (now factors)) × (leaves < length (now bases)) × (variables ≤ 32) × (actions ≤ 255) ⌝ }
     requires { ⌜ (8192 ≤ length (now conditions)) × (8192 ≤ length (now effects)) ⌝ }
-    requires { ⌜ actions * startOf variables (λ v. getD (now factors) v 0) (λ v. getD (now sizes) v 0) leaves ≤ length (now moves) ⌝ }
-    requires { ⌜ Filled (leaves + 1) (startOf variables (λ v. getD (now factors) v 0) (λ v. getD (now sizes) v 0)) (now bases) ⌝ }
-    requires { ⌜ ((a : ℕ) → a < actions → (i : ℕ) → i < leaves → Small variables (λ v. getD (now factors) v 0) (λ v. getD (now sizes) v 0) (λ v. getD (now effects) (a * 32 + v) 0) (suc i)) ⌝ }
-    ensures { λ _. ⌜ Rows variables (λ v. getD (now (factors .entry)) v 0) (λ v. getD (now (sizes .entry)) v 0) (λ a v. getD (now (conditions .entry)) (a * 32 + v) 0) (λ a v. getD (now (effects .entry)) (a * 32 + v) 0) leaves actions (now (moves .exit)) ⌝ }
-    ensures { λ _. ⌜ Same 0 (actions * startOf variables (λ v. getD (now (factors .entry)) v 0) (λ v. getD (now (sizes .entry)) v 0) leaves) (now (moves .entry)) (now (moves .exit)) ⌝ }
+    requires { ⌜ actions * startOf variables (entries (now factors)) (entries (now sizes)) leaves ≤ length (now moves) ⌝ }
+    requires { ⌜ Filled (leaves + 1) (startOf variables (entries (now factors)) (entries (now sizes))) (now bases) ⌝ }
+    requires { ⌜ ((a : ℕ) → a < actions → (i : ℕ) → i < leaves → Small variables (entries (now factors)) (entries (now sizes)) (entriesFrom (a * 32) (now effects)) (suc i)) ⌝ }
+    ensures { λ _. ⌜ Rows variables (entries (now (factors .entry))) (entries (now (sizes .entry))) (λ a. entriesFrom (a * 32) (now (conditions .entry))) (λ a. entriesFrom (a * 32) (now (effects .entry))) leaves actions (now (moves .exit)) ⌝ }
+    ensures { λ _. ⌜ Same 0 (actions * startOf variables (entries (now (factors .entry))) (entries (now (sizes .entry))) leaves) (now (moves .entry)) (now (moves .exit)) ⌝ }
 {
     let row = bases[leaves];
     let mut from = 0;

@@ -1,34 +1,27 @@
+-- `layer::cost_by` meets its contract. An entry of a list fits a wider number. Assumes nothing.
 use native.Mathlib.Omega.{arith}
 use lib.ListN.{getD}
 use borrow.Author.Needs.{needs}
 use Rattle.layer.proofs.cost_by.Statement.{statement}
 use Rattle.layer.proofs.cost_by.Tie as tie
-use Rattle.layer.proofs.cost_by.Reads as reads
-use Rattle.layer.proofs.cost_by.Lts as lts
 
--- src/lib.rt:41:13
 shared-slice-read-a : tie.Need-shared-slice-read-a
 shared-slice-read-a c = search needs
 
--- src/lib.rt:41:13
 cast-a : tie.Need-cast-a
 cast-a c = search needs
 
--- src/lib.rt:42:5
 mul-result : tie.Need-mul-result
 mul-result c = search needs
 
--- src/lib.rt:42:5
 shared-slice-read-result : tie.Need-shared-slice-read-result
 shared-slice-read-result c = search needs
 
--- src/lib.rt:42:5
 cast-result : tie.Need-cast-result
 cast-result c =
     let a = c .before .before .args in
     omega (arith, c .shared-slice-known2 .given (getD (a .acts .now) (a .j) 0))
 
--- src/lib.rt:37:1
 returns : tie.Need-returns
 returns c = search needs
 

@@ -1,3 +1,5 @@
+-- `layer::enabled` meets its contract. The invariant: the enabled actions so far stand at the front, and behind them the list
+-- is as it was. Assumes nothing.
 use mathlib.Core.Path.{_≡_, refl, sym, ap, _∙_}
 use mathlib.Core.Logic.{⊎-elim}
 use mathlib.Core.List.{_++_}
@@ -7,13 +9,10 @@ use native.Mathlib.Omega.{arith}
 use lib.ListN.{length, drop, length-append, length-set}
 use borrow.Author.Needs.{needs}
 use Rattle.layer.specs.Board.{enabledOn}
-use Rattle.layer.specs.Board.Turns.{enabled-here, enabled-not, enabled-few, push-more}
+use Rattle.layer.specs.Board.Turns.{enabled-here, enabled-not, push-more}
 use Rattle.layer.specs.Lent.{testsOf}
 use Rattle.layer.proofs.enabled.Statement.{statement}
 use Rattle.layer.proofs.enabled.Tie as tie
-use Rattle.layer.proofs.enabled.Reads as reads
-use Rattle.layer.proofs.enabled.Lts as lts
-use Rattle.layer.proofs.is_enabled.Reads as is-enabled-reads
 
 abbrev Inv-loop : tie.InvT-loop
 Inv-loop kinds factors conditions centre i actions acts₀ count₀ a₀ acts count a =
@@ -23,36 +22,28 @@ Inv-loop kinds factors conditions centre i actions acts₀ count₀ a₀ acts co
 abbrev μ-loop : tie.MeasureT-loop
 μ-loop kinds factors conditions centre i actions acts₀ count₀ a₀ acts count a = actions - a
 
--- src/lib.rt:224:5
 loop-holds : tie.Need-loop-holds Inv-loop μ-loop
 unfolding enabledOn
 loop-holds c = (omega arith, omega arith, refl, refl, refl)
 
--- src/lib.rt:225:12
 is-enabled-requires : tie.Need-is-enabled-requires Inv-loop μ-loop
 is-enabled-requires c κs = search needs
 
--- src/lib.rt:226:27
 cast-acts : tie.Need-cast-acts Inv-loop μ-loop
 cast-acts c = search needs
 
--- src/lib.rt:226:13
 slice-write-acts : tie.Need-slice-write-acts Inv-loop μ-loop
 slice-write-acts c = search needs
 
--- src/lib.rt:227:13
 add-count : tie.Need-add-count Inv-loop μ-loop
 add-count c = search needs
 
--- src/lib.rt:224:9
 add-a : tie.Need-add-a Inv-loop μ-loop
 add-a c = search needs
 
--- src/lib.rt:224:5
 loop-less : tie.Need-loop-less Inv-loop μ-loop
 loop-less c = search needs
 
--- src/lib.rt:224:5
 loop-again : tie.Need-loop-again Inv-loop μ-loop
 loop-again c =
     let l = c .before .before .before .loop in
@@ -72,11 +63,9 @@ loop-again c =
     (omega arith, omega (arith, w .2), ap length (w .1) ∙ l .inv .2, rw (e, w .2) (l .inv .3), rw (e, w .1, w .2) (l .inv .4)))
     (c .if1 .came)
 
--- src/lib.rt:213:1
 same-length : tie.Need-same-length Inv-loop μ-loop
 same-length c = c .before .loop .inv .2
 
--- src/lib.rt:213:1
 returns : tie.Need-returns Inv-loop μ-loop
 returns c =
     let all = le-antisymm (c .before .loop .inv .0) (c .loop-test .left) in

@@ -1,3 +1,4 @@
+-- `layer::fill` meets its contract. The invariant: the prices so far are the mark, and those behind are as they were. Assumes nothing.
 use mathlib.Core.Path.{_≡_, refl, _∙_}
 use mathlib.Core.List.{_++_, append-nil}
 use Prim.Native.Nat.{_-_, _≤_}
@@ -9,8 +10,6 @@ use borrow.Author.Fill.{fill-more}
 use Rattle.layer.specs.Layer.{mark}
 use Rattle.layer.proofs.fill.Statement.{statement}
 use Rattle.layer.proofs.fill.Tie as tie
-use Rattle.layer.proofs.fill.Reads as reads
-use Rattle.layer.proofs.fill.Lts as lts
 
 abbrev Inv-loop : tie.InvT-loop
 Inv-loop prices₀ x₀ x-end prices x =
@@ -19,37 +18,29 @@ Inv-loop prices₀ x₀ x-end prices x =
 abbrev μ-loop : tie.MeasureT-loop
 μ-loop prices₀ x₀ x-end prices x = x-end - x
 
--- src/lib.rt:131:5
 loop-holds : tie.Need-loop-holds Inv-loop μ-loop
 loop-holds c = (refl, omega arith, refl, refl)
 
--- src/lib.rt:132:9
 mul-prices : tie.Need-mul-prices Inv-loop μ-loop
 mul-prices c = search needs
 
--- src/lib.rt:132:9
 slice-write-prices : tie.Need-slice-write-prices Inv-loop μ-loop
 slice-write-prices c = search needs
 
--- src/lib.rt:131:9
 add-x : tie.Need-add-x Inv-loop μ-loop
 add-x c = search needs
 
--- src/lib.rt:131:5
 loop-less : tie.Need-loop-less Inv-loop μ-loop
 loop-less c = search needs
 
--- src/lib.rt:131:5
 loop-again : tie.Need-loop-again Inv-loop μ-loop
 loop-again c =
     let l = c .before .loop in
     (refl, omega arith, simp length-set (l .inv .2), rw (l .inv .3) (fill-more (l .x) mark _ (omega arith)))
 
--- src/lib.rt:128:1
 same-length : tie.Need-same-length Inv-loop μ-loop
 same-length c = c .before .loop .inv .2
 
--- src/lib.rt:128:1
 returns : tie.Need-returns Inv-loop μ-loop
 returns c =
     let l = c .before .loop in

@@ -1,39 +1,30 @@
+-- `layer::first_leaf` meets its contract. What settles is the filled list with 0 at the start. Assumes nothing.
 use mathlib.Core.Path.{_∙_}
 use lib.ListN.{length-set}
 use borrow.Author.Needs.{needs}
 use Rattle.layer.proofs.first_leaf.Statement.{statement}
 use Rattle.layer.proofs.first_leaf.Tie as tie
-use Rattle.layer.proofs.first_leaf.Reads as reads
-use Rattle.layer.proofs.first_leaf.Lts as lts
-use Rattle.layer.proofs.fill.Reads as fill-reads
-use Rattle.layer.proofs.settle_leaf.Reads as settle-leaf-reads
 
--- src/lib.rt:296:5
 fill-requires : tie.Need-fill-requires
 fill-requires c κs = search needs
 
--- src/lib.rt:297:5
 mul-prices : tie.Need-mul-prices
 mul-prices c = search needs
 
--- src/lib.rt:297:5
 slice-write-prices : tie.Need-slice-write-prices
 slice-write-prices c = search needs
 
--- src/lib.rt:298:5
 settle-leaf-requires : tie.Need-settle-leaf-requires
 settle-leaf-requires c κs =
     let filled = c .before .before .before in
     let s = filled .before .before .before .before .before .before .before .before in
     (s .pre .0, s .pre .1, simp length-set (filled .fill .kept .0 ∙ s .pre .3))
 
--- src/lib.rt:276:1
 same-length : tie.Need-same-length
 same-length c =
     let filled = c .before .before .before .before .before .before in
     c .before .before .settle-leaf .kept .1 .1 .1 .1 .1 .1 .1 .1 .1 .1 .0 ∙ simp length-set (filled .fill .kept .0)
 
--- src/lib.rt:276:1
 returns : tie.Need-returns
 returns c =
     let filled = c .before .before .before .before .before .before in

@@ -1,34 +1,25 @@
-use mathlib.Core.Path.{_∙_}
+-- `layer::is_enabled` meets its contract. Each return computes, with the test that led there. Assumes nothing.
 use native.Mathlib.Omega.{arith}
 use borrow.Author.Tests.{eq-eqb, ne-eqb}
 use borrow.Author.Needs.{needs}
 use Rattle.layer.proofs.is_enabled.Statement.{statement}
 use Rattle.layer.proofs.is_enabled.Tie as tie
-use Rattle.layer.proofs.is_enabled.Reads as reads
-use Rattle.layer.proofs.is_enabled.Lts as lts
-use Rattle.layer.proofs.is_met.Reads as is-met-reads
 
--- src/lib.rt:206:8
 shared-slice-read-if1 : tie.Need-shared-slice-read-if1
 shared-slice-read-if1 c = search needs
 
--- src/lib.rt:206:8
 cast-if1 : tie.Need-cast-if1
 cast-if1 c = omega (arith, c .shared-slice-known3 .given (c .before .before .before .args .action))
 
--- src/lib.rt:206:34
 add-if1 : tie.Need-add-if1
 add-if1 c = search needs
 
--- src/lib.rt:207:9
 returns : tie.Need-returns
 returns c = rw (ne-eqb _ _ (c .if1 .taken))
 
--- src/lib.rt:209:5
 is-met-requires : tie.Need-is-met-requires
 is-met-requires c κs = search needs
 
--- src/lib.rt:200:1
 returns-2 : tie.Need-returns-2
 returns-2 c = rw (eq-eqb _ _ (c .before .if1 .left)) (c .is-met .ensures)
 

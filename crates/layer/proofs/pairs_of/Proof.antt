@@ -1,3 +1,4 @@
+-- `layer::pairs_of` meets its contract. The invariant: the entries so far are the action's. Assumes nothing.
 use mathlib.Core.Path.{_≡_, refl}
 use mathlib.Core.List.{_++_, append-nil}
 use Prim.Native.Nat.{_+_, _*_, _-_, _≤_}
@@ -8,8 +9,6 @@ use Rattle.loops.specs.Count.{list}
 use Rattle.loops.specs.Count.Laws.{list-more}
 use Rattle.layer.proofs.pairs_of.Statement.{statement}
 use Rattle.layer.proofs.pairs_of.Tie as tie
-use Rattle.layer.proofs.pairs_of.Reads as reads
-use Rattle.layer.proofs.pairs_of.Lts as lts
 
 abbrev Inv-loop : tie.InvT-loop
 Inv-loop conditions action pairs₀ v₀ pairs v =
@@ -18,42 +17,33 @@ Inv-loop conditions action pairs₀ v₀ pairs v =
 abbrev μ-loop : tie.MeasureT-loop
 μ-loop conditions action pairs₀ v₀ pairs v = 32 - v
 
--- src/lib.rt:185:5
 loop-holds : tie.Need-loop-holds Inv-loop μ-loop
 unfolding list
 loop-holds c = (omega arith, refl)
 
--- src/lib.rt:186:31
 mul-pairs : tie.Need-mul-pairs Inv-loop μ-loop
 mul-pairs c = search needs
 
--- src/lib.rt:186:31
 add-pairs : tie.Need-add-pairs Inv-loop μ-loop
 add-pairs c = search needs
 
--- src/lib.rt:186:20
 shared-slice-read-pairs : tie.Need-shared-slice-read-pairs Inv-loop μ-loop
 shared-slice-read-pairs c = search needs
 
--- src/lib.rt:186:9
 array-write-pairs : tie.Need-array-write-pairs Inv-loop μ-loop
 array-write-pairs c = search needs
 
--- src/lib.rt:185:9
 add-v : tie.Need-add-v Inv-loop μ-loop
 add-v c = search needs
 
--- src/lib.rt:185:5
 loop-less : tie.Need-loop-less Inv-loop μ-loop
 loop-less c = search needs
 
--- src/lib.rt:185:5
 loop-again : tie.Need-loop-again Inv-loop μ-loop
 loop-again c =
     let l = c .before .before .loop in
     (omega arith, rw (l .inv .1) (list-more (l .v) _ (replicate 32 0) (c .before .loop-test .taken)))
 
--- src/lib.rt:180:1
 returns : tie.Need-returns Inv-loop μ-loop
 returns c = let e : c .before .loop .v ≡ 32 = omega arith in rw (c .before .loop .inv .1, e, append-nil)
 

@@ -1,3 +1,4 @@
+-- `layer::pass` meets its contract. The invariant: the states so far have passed. Assumes nothing.
 use mathlib.Core.Path.{_≡_, refl, _∙_}
 use Prim.Native.Nat.{_+_, _-_, _≤_}
 use native.Mathlib.Nat.{le-antisymm}
@@ -9,10 +10,6 @@ use Rattle.layer.specs.Pass.Turns.{pass-more}
 use Rattle.layer.specs.Layer.{mark}
 use Rattle.layer.proofs.pass.Statement.{statement}
 use Rattle.layer.proofs.pass.Tie as tie
-use Rattle.layer.proofs.pass.Reads as reads
-use Rattle.layer.proofs.pass.Lts as lts
-use Rattle.layer.proofs.fill.Reads as fill-reads
-use Rattle.layer.proofs.lower.Reads as lower-reads
 
 abbrev Inv-loop : tie.InvT-loop
 Inv-loop old moves at new₀ x₀ x-end new x =
@@ -21,59 +18,47 @@ Inv-loop old moves at new₀ x₀ x-end new x =
 abbrev μ-loop : tie.MeasureT-loop
 μ-loop old moves at new₀ x₀ x-end new x = x-end - x
 
--- src/lib.rt:147:5
 fill-requires : tie.Need-fill-requires Inv-loop μ-loop
 fill-requires c κs = search needs
 
--- src/lib.rt:148:5
 loop-holds : tie.Need-loop-holds Inv-loop μ-loop
 unfolding pass
 loop-holds c =
     let s = c .before .before .before .before .before .before .before in
     (refl, omega arith, c .before .before .fill .kept .0 ∙ s .pre .0, rw (← s .pre .0) (c .before .before .fill .ensures))
 
--- src/lib.rt:149:26
 add-lower : tie.Need-add-lower Inv-loop μ-loop
 add-lower c = search needs
 
--- src/lib.rt:149:20
 mul-lower : tie.Need-mul-lower Inv-loop μ-loop
 mul-lower c = search needs
 
--- src/lib.rt:149:20
 shared-slice-read-lower : tie.Need-shared-slice-read-lower Inv-loop μ-loop
 shared-slice-read-lower c = search needs
 
--- src/lib.rt:149:20
 cast-lower : tie.Need-cast-lower Inv-loop μ-loop
 cast-lower c =
     let s = c .before .before .before .before .before .before .before .before .before .before .before in
     omega (arith, c .shared-slice-known3 .given (s .args .at + c .before .before .before .loop .x))
 
--- src/lib.rt:149:44
 mul-lower-2 : tie.Need-mul-lower-2 Inv-loop μ-loop
 mul-lower-2 c = search needs
 
--- src/lib.rt:149:44
 shared-slice-read-lower-2 : tie.Need-shared-slice-read-lower-2 Inv-loop μ-loop
 shared-slice-read-lower-2 c = search needs
 
--- src/lib.rt:149:9
 lower-requires : tie.Need-lower-requires Inv-loop μ-loop
 lower-requires c κs =
     let l = c .before .before .before .before .loop in
     let s = c .before .before .before .before .before .before .before .before .before .before .before .before in
     omega (arith, l .inv .2, s .pre .2 (l .x) (c .before .before .before .loop-test .taken))
 
--- src/lib.rt:148:9
 add-x : tie.Need-add-x Inv-loop μ-loop
 add-x c = search needs
 
--- src/lib.rt:148:5
 loop-less : tie.Need-loop-less Inv-loop μ-loop
 loop-less c = search needs
 
--- src/lib.rt:148:5
 loop-again : tie.Need-loop-again Inv-loop μ-loop
 loop-again c =
     let called = c .before .before in
@@ -81,13 +66,11 @@ loop-again c =
     let l = t .before .loop in
     (refl, omega arith, called .lower .kept .0 ∙ l .inv .2, called .lower .ensures ∙ pass-more mark _ _ _ (l .new) (l .x) (t .loop-test .taken) (l .inv .3))
 
--- src/lib.rt:137:1
 same-length : tie.Need-same-length Inv-loop μ-loop
 same-length c =
     let s = c .before .before .before .before .before .before .before .before .before in
     omega (arith, c .before .loop .inv .2, s .pre .0)
 
--- src/lib.rt:137:1
 returns : tie.Need-returns Inv-loop μ-loop
 returns c = rw (le-antisymm (c .before .loop .inv .1) (c .loop-test .left)) at (c .before .loop .inv .3)
 

@@ -1,4 +1,5 @@
-use mathlib.Core.Path.{_≡_, refl, sym, ap, _∙_}
+-- `layer::passes` meets its contract. The invariant: no state so far passes. Assumes nothing.
+use mathlib.Core.Path.{_≡_, refl, sym, _∙_}
 use mathlib.Core.Bool.{Bool, false, not, _&&_}
 use mathlib.Core.List.{List}
 use Prim.Native.Nat.{ℕ, _+_, _-_, _≤_}
@@ -13,9 +14,6 @@ use Rattle.layer.specs.Settle.Turns.{at-any}
 use Rattle.layer.specs.Layer.{mark}
 use Rattle.layer.proofs.passes.Statement.{statement}
 use Rattle.layer.proofs.passes.Tie as tie
-use Rattle.layer.proofs.passes.Reads as reads
-use Rattle.layer.proofs.passes.Lts as lts
-use Rattle.layer.proofs.state_passes.Reads as state-passes-reads
 
 -- state x passes
 abbrev through : List ℕ → List ℕ → ℕ → ℕ → Bool
@@ -28,32 +26,25 @@ Inv-loop prices moves at x₀ x-end x =
 abbrev μ-loop : tie.MeasureT-loop
 μ-loop prices moves at x₀ x-end x = x-end - x
 
--- src/lib.rt:171:5
 loop-holds : tie.Need-loop-holds Inv-loop μ-loop
 unfolding any
 loop-holds c = (refl, omega arith, refl)
 
--- src/lib.rt:172:25
 mul-state-passes : tie.Need-mul-state-passes Inv-loop μ-loop
 mul-state-passes c = search needs
 
--- src/lib.rt:172:25
 shared-slice-read-state-passes : tie.Need-shared-slice-read-state-passes Inv-loop μ-loop
 shared-slice-read-state-passes c = search needs
 
--- src/lib.rt:172:42
 add-state-passes : tie.Need-add-state-passes Inv-loop μ-loop
 add-state-passes c = search needs
 
--- src/lib.rt:172:36
 mul-state-passes-2 : tie.Need-mul-state-passes-2 Inv-loop μ-loop
 mul-state-passes-2 c = search needs
 
--- src/lib.rt:172:36
 shared-slice-read-state-passes-2 : tie.Need-shared-slice-read-state-passes-2 Inv-loop μ-loop
 shared-slice-read-state-passes-2 c = search needs
 
--- src/lib.rt:172:12
 state-passes-requires : tie.Need-state-passes-requires Inv-loop μ-loop
 state-passes-requires c κs = search needs
 
@@ -64,27 +55,22 @@ tested c =
     let s = c .before .before .before .before .before .before .before .args in
     rw (at-any (s .prices .now) (c .before .before .before .before .loop .x) mark 0 (omega arith)) (c .state-passes .ensures)
 
--- src/lib.rt:173:13
 returns : tie.Need-returns Inv-loop μ-loop
 returns c =
     let told = tested (c .before) in
     sym (any-in _ _ (c .before .before .before .before .before .loop .x) (omega arith) (sym told ∙ c .if1 .taken))
 
--- src/lib.rt:171:9
 add-x : tie.Need-add-x Inv-loop μ-loop
 add-x c = search needs
 
--- src/lib.rt:171:5
 loop-less : tie.Need-loop-less Inv-loop μ-loop
 loop-less c = search needs
 
--- src/lib.rt:171:5
 loop-again : tie.Need-loop-again Inv-loop μ-loop
 loop-again c =
     let l = c .before .before .before .before .before .loop in
     (refl, omega arith, any-more (l .x) _ (l .inv .2) (sym (tested (c .before)) ∙ c .if1 .left))
 
--- src/lib.rt:164:1
 returns-2 : tie.Need-returns-2 Inv-loop μ-loop
 returns-2 c = sym (rw (le-antisymm (c .before .loop .inv .1) (c .loop-test .left)) at (c .before .loop .inv .2))
 

@@ -1,19 +1,16 @@
-use mathlib.Core.Path.{_≡_, refl, sym, ap, _∙_}
+-- `layer::pick` meets its contract. The invariant: `best` is the pick among the states so far, and `least` its key. Assumes nothing.
+use mathlib.Core.Path.{_≡_, refl, sym, _∙_}
 use mathlib.Core.Logic.{⊎-elim}
-use Prim.Native.Nat.{_+_, _-_, _≤_, _<_}
+use Prim.Native.Nat.{_-_, _≤_}
 use native.Mathlib.Nat.{le-antisymm}
-use native.Mathlib.Numerals.{add-one}
 use native.Mathlib.Omega.{arith}
-use lib.ListN.{length, getD}
+use lib.ListN.{length}
 use borrow.Author.Needs.{needs}
 use Rattle.layer.specs.Settle.{key, keyAt, keyOf, pick}
 use Rattle.layer.specs.Settle.Turns.{at-any, pick-here, pick-kept, key-next}
 use Rattle.layer.specs.Layer.{mark}
 use Rattle.layer.proofs.pick.Statement.{statement}
 use Rattle.layer.proofs.pick.Tie as tie
-use Rattle.layer.proofs.pick.Reads as reads
-use Rattle.layer.proofs.pick.Lts as lts
-use Rattle.layer.proofs.key.Reads as key-reads
 
 abbrev Inv-loop : tie.InvT-loop
 Inv-loop prices done best₀ least₀ u₀ u-end best least u =
@@ -26,35 +23,27 @@ loop-holds : tie.Need-loop-holds Inv-loop μ-loop
 unfolding pick keyOf
 loop-holds c = (refl, omega arith, refl, refl)
 
--- src/lib.rt:89:21
 shared-slice-read-key : tie.Need-shared-slice-read-key Inv-loop μ-loop
 shared-slice-read-key c = search needs
 
--- src/lib.rt:89:30
 mul-key : tie.Need-mul-key Inv-loop μ-loop
 mul-key c = search needs
 
--- src/lib.rt:89:30
 shared-slice-read-key-2 : tie.Need-shared-slice-read-key-2 Inv-loop μ-loop
 shared-slice-read-key-2 c = search needs
 
--- src/lib.rt:89:13
 key-requires : tie.Need-key-requires Inv-loop μ-loop
 key-requires c κs = search needs
 
--- src/lib.rt:91:20
 add-best : tie.Need-add-best Inv-loop μ-loop
 add-best c = search needs
 
--- src/lib.rt:88:9
 add-u : tie.Need-add-u Inv-loop μ-loop
 add-u c = search needs
 
--- src/lib.rt:88:5
 loop-less : tie.Need-loop-less Inv-loop μ-loop
 loop-less c = search needs
 
--- src/lib.rt:88:5
 loop-again : tie.Need-loop-again Inv-loop μ-loop
 unfolding keyAt
 loop-again c =
@@ -62,7 +51,7 @@ loop-again c =
     let l = at .loop in
     let P = at .before .before .before .args .prices .now in
     let D = at .before .before .before .args .done .now in
-    let here : c .before .key .result ≡ keyAt mark P D (l .u) = c .before .key .ensures ∙ ap (key mark (getD D (l .u) 0)) (at-any P (l .u) 0 mark (omega arith)) in
+    let here : c .before .key .result ≡ keyAt mark P D (l .u) = rw (at-any P (l .u) mark 0 (omega arith)) (c .before .key .ensures) in
     ⊎-elim
     (λ w.
     let p = pick-here mark P D (l .u) (omega (arith, w .0 .taken, here, l .inv .3)) in
@@ -72,7 +61,6 @@ loop-again c =
     (refl, omega arith, w .1 ∙ l .inv .2 ∙ sym p, w .2 ∙ rw p (l .inv .3)))
     (c .if1 .came)
 
--- src/lib.rt:82:1
 returns : tie.Need-returns Inv-loop μ-loop
 returns c = rw (le-antisymm (c .before .loop .inv .1) (c .loop-test .left)) at (c .before .loop .inv .2)
 

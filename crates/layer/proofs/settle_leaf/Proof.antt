@@ -1,40 +1,30 @@
-use mathlib.Core.Path.{_≡_, refl, sym, ap, _∙_}
-use mathlib.Core.List.{List}
-use Prim.Native.Nat.{ℕ, _≤_}
+-- `layer::settle_leaf` meets its contract. The actions at the front of the list are the enabled ones, and they can be lent to
+-- settling. Assumes nothing.
+use mathlib.Core.Path.{_≡_, _∙_}
 use native.Mathlib.Omega.{arith}
 use lib.ListN.{length, take, length-take}
-use Rattle.layer.specs.Board.{Board, enabledOn}
-use Rattle.layer.specs.Board.Turns.{enabled-part, enabled-few, front-these, front-many, leaf-lent, leaf-settled}
-use Rattle.layer.specs.Lent.{boardOf}
 use borrow.Author.Needs.{needs}
+use Rattle.layer.specs.Board.{Board, enabledOn}
+use Rattle.layer.specs.Board.Turns.{enabled-part, front-these, front-many, leaf-lent, leaf-settled}
+use Rattle.layer.specs.Lent.{boardOf}
 use Rattle.layer.proofs.settle_leaf.Statement.{statement}
 use Rattle.layer.proofs.settle_leaf.Tie as tie
-use Rattle.layer.proofs.settle_leaf.Reads as reads
-use Rattle.layer.proofs.settle_leaf.Lts as lts
-use Rattle.layer.proofs.enabled.Reads as enabled-reads
-use Rattle.layer.proofs.settle.Reads as settle-reads
 
--- src/lib.rt:260:73
 slice-aggregate-enabled : tie.Need-slice-aggregate-enabled
 slice-aggregate-enabled c = search needs
 
--- src/lib.rt:260:9
 enabled-requires : tie.Need-enabled-requires
 enabled-requires c κs = search needs
 
--- src/lib.rt:261:15
 mul-row : tie.Need-mul-row
 mul-row c = search needs
 
--- src/lib.rt:261:15
 shared-slice-read-row : tie.Need-shared-slice-read-row
 shared-slice-read-row c = search needs
 
--- src/lib.rt:262:14
 mul-at : tie.Need-mul-at
 mul-at c = search needs
 
--- src/lib.rt:262:14
 shared-slice-read-at : tie.Need-shared-slice-read-at
 shared-slice-read-at c = search needs
 
@@ -55,17 +45,14 @@ front c =
 counted : (c : tie.After-enabled) → c .enabled .result ≡ length (take (c .enabled .result) (c .enabled .last .1 .1 .1 .1 .1 .1 .0))
 counted c = front-many (c .enabled .ensures)
 
--- src/lib.rt:263:43
 array-share-prefix-acts : tie.Need-array-share-prefix-acts
 array-share-prefix-acts c =
     let e = c .before .before .before .before in
     omega (arith, counted e, length-take (e .enabled .result) (e .enabled .last .1 .1 .1 .1 .1 .1 .0))
 
--- src/lib.rt:263:43
 slice-aggregate-settle : tie.Need-slice-aggregate-settle
 slice-aggregate-settle c = counted (c .before .before .before .before .before)
 
--- src/lib.rt:263:5
 settle-requires : tie.Need-settle-requires
 settle-requires c κs =
     let e = c .before .before .before .before .before in
@@ -75,11 +62,9 @@ settle-requires c κs =
       rw (s .pre .2) (leaf-lent (board s) i (s .args .centre) _ _ (front e) (counted e) (s .pre .0) (s .pre .1)),
     )
 
--- src/lib.rt:234:1
 same-length : tie.Need-same-length
 same-length c = search needs
 
--- src/lib.rt:234:1
 returns : tie.Need-returns
 returns c =
     let e = c .before .before .before .before .before .before .before .before in

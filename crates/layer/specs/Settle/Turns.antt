@@ -1,5 +1,5 @@
 -- The loops of settling, a turn at a time: one price lowered, one state looked at, one action, one round. Assumes nothing.
-use mathlib.Core.Path.{_≡_, refl, sym, ap, ap₂, _∙_}
+use mathlib.Core.Path.{_≡_, refl, ap}
 use mathlib.Core.Bool.{Bool, true, false, cond}
 use mathlib.Core.List.{List, [], _∷_}
 use Prim.Native.Nat.{ℕ, zero, suc, _+_, _-_, _≤_, _<_, min}
@@ -8,9 +8,9 @@ use native.Mathlib.Numerals.{add-one}
 use native.Mathlib.Decide.{decLe}
 use native.Mathlib.Omega.{arith}
 use lib.Dec.{ltb}
-use lib.ListN.{length, getD, set, take, replicate, length-set, List·getD-eq-default}
+use lib.ListN.{length, getD, set, take, replicate, List·getD-eq-default}
 use lib.Seq.{set-getD, take-set-lt}
-use borrow.Author.Tests.{lt-ltb, le-ltb, ltb-true}
+use borrow.Author.Tests.{lt-ltb, le-ltb}
 use Rattle.layer.specs.Settle.{lower, key, keyAt, keyOf, pick, relax, settle, settled}
 
 -- ---- lists
@@ -35,11 +35,6 @@ take-replicate (suc n) zero a h = absurd (not-suc-le-zero h)
 take-replicate (suc n) (suc m) a h = ap (λ (l : List ℕ). a ∷ l) (take-replicate n m a (le-of-suc-le-suc h))
 
 -- ---- lower
-
-pub lower-length : (M : ℕ) (P : List ℕ) (k v : ℕ) → length (lower M P k v) ≡ length P
-unfolding lower
-lower-length M P zero v = refl
-lower-length M P (suc t) v = length-set P t (min (getD P t M) v)
 
 pub lower-none : (M : ℕ) (P : List ℕ) (k v : ℕ) → k ≡ 0 → lower M P k v ≡ P
 unfolding lower
@@ -75,11 +70,6 @@ module _ (M : ℕ) (cost : ℕ → ℕ) (to : ℕ → ℕ → ℕ) (x d : ℕ) (
       → lower M Q k v ≡ relax M cost to x d P (j + 1)
   unfolding relax
   relax-more j k v Q q h e f = rw (add-one, relax, ← q, e, f) (lower-capped M Q (to j x) (d + cost j) h)
-
-  pub relax-length : (j : ℕ) → length (relax M cost to x d P j) ≡ length P
-  unfolding relax
-  relax-length zero = refl
-  relax-length (suc j) = lower-length M (relax M cost to x d P j) (to j x) (d + cost j) ∙ relax-length j
 
 -- ---- pick
 

@@ -1,19 +1,20 @@
 -- `tables::bases_of` meets its contract. The invariant: each entry up to the i-th counts the states of the leaves before, and the sum is the
 -- last of them; no leaf has more than 256 states, so the cap leaves each count as it is. Assumes nothing.
-use mathlib.Core.Path.{_≡_, refl, _∙_}
-use Prim.Native.Nat.{_+_, _-_, _*_, _≤_}
+use mathlib.Core.Path.{_≡_, refl}
+use Prim.Native.Nat.{_+_, _-_, _≤_}
 use native.Mathlib.Nat.{le-antisymm}
 use native.Mathlib.Omega.{arith}
-use lib.ListN.{length, getD, length-set, length-replicate}
+use lib.ListN.{length, length-set}
 use borrow.Author.Needs.{needs}
 use Rattle.loops.specs.Count.{sum}
-use Rattle.tables.specs.Tables.{Filled, startOf}
+use Rattle.tables.specs.Tables.{entries, Filled, startOf}
 use Rattle.tables.specs.Tables.Laws.{filled-more, start-capped, start-few}
 use Rattle.tables.proofs.bases_of.Statement.{statement}
 use Rattle.tables.proofs.bases_of.Tie as tie
 
 abbrev Inv-loop : tie.InvT-loop
-Inv-loop sizes factors variables leaves bases₀ sum₀ i₀ bases sum i = (i ≤ leaves) × (length bases ≡ 9) × (sum ≡ startOf variables (λ v. getD factors v 0) (λ v. getD sizes v 0) i) × Filled (i + 1) (startOf variables (λ v. getD factors v 0) (λ v. getD sizes v 0)) bases
+Inv-loop sizes factors variables leaves bases₀ sum₀ i₀ bases sum i =
+    (i ≤ leaves) × (length bases ≡ 9) × (sum ≡ startOf variables (entries factors) (entries sizes) i) × Filled (i + 1) (startOf variables (entries factors) (entries sizes)) bases
 
 abbrev μ-loop : tie.MeasureT-loop
 μ-loop sizes factors variables leaves bases₀ sum₀ i₀ bases sum i = leaves - i
@@ -36,7 +37,7 @@ add-sum c =
     let start = c .before .before .before .before .before in
     let a = start .args in
     let l = c .before .before .loop in
-    let few = start-few (a .variables) (λ v. getD (a .factors .now) v 0) (λ v. getD (a .sizes .now) v 0) (l .i) (λ j m. start .pre .1 j (omega arith)) in
+    let few = start-few (a .variables) (entries (a .factors .now)) (entries (a .sizes .now)) (l .i) (λ j m. start .pre .1 j (omega arith)) in
     omega arith
 
 add-bases : tie.Need-add-bases Inv-loop μ-loop

@@ -5,17 +5,17 @@ use Prim.Native.Nat.{_+_, _-_, _≤_}
 use native.Mathlib.Nat.{le-antisymm, not-suc-le-zero}
 use native.Mathlib.Numerals.{add-one}
 use native.Mathlib.Omega.{arith}
-use lib.ListN.{length, getD}
+use lib.ListN.{length}
 use borrow.Author.Needs.{needs}
-use Rattle.tables.specs.Tables.{Same, Row, startOf}
+use Rattle.tables.specs.Tables.{entries, entriesFrom, Same, Row, startOf}
 use Rattle.tables.specs.Tables.Laws.{leaf-here, row-more, row-same}
 use Rattle.tables.proofs.fill_action.Statement.{statement}
 use Rattle.tables.proofs.fill_action.Tie as tie
 
 abbrev Inv-loop : tie.InvT-loop
 Inv-loop sizes factors conditions effects bases variables leaves at from moves₀ i₀ moves i =
-    (i ≤ leaves) × (length moves ≡ length moves₀) × Same from (from + startOf variables (λ v. getD factors v 0) (λ v. getD sizes v 0) i) moves₀ moves ×
-    Row variables (λ v. getD factors v 0) (λ v. getD sizes v 0) (λ v. getD conditions (at + v) 0) (λ v. getD effects (at + v) 0) from i moves
+    (i ≤ leaves) × (length moves ≡ length moves₀) × Same from (from + startOf variables (entries factors) (entries sizes) i) moves₀ moves ×
+    Row variables (entries factors) (entries sizes) (entriesFrom at conditions) (entriesFrom at effects) from i moves
 
 abbrev μ-loop : tie.MeasureT-loop
 μ-loop sizes factors conditions effects bases variables leaves at from moves₀ i₀ moves i = leaves - i
@@ -40,9 +40,11 @@ shared-slice-read-states c = search needs
 
 sub-states : tie.Need-sub-states Inv-loop μ-loop
 sub-states c =
-    let a = c .before .before .before .before .before .before .before .before .before .before .args in
-    let i = c .before .before .before .loop .i in
-    let here = leaf-here (a .variables) (λ v. getD (a .factors .now) v 0) (λ v. getD (a .sizes .now) v 0) (a .bases .now) (a .leaves) i (c .before .before .loop-test .taken) (c .before .before .before .before .before .before .before .before .before .before .pre .1 .1 .1 .0) in
+    let turn = c .before .before in
+    let start = turn .before .before .before .before .before .before .before .before in
+    let a = start .args in
+    let i = turn .before .loop .i in
+    let here = leaf-here (a .variables) (entries (a .factors .now)) (entries (a .sizes .now)) (a .bases .now) (a .leaves) i (turn .loop-test .taken) (start .pre .1 .1 .1 .0) in
     omega arith
 
 add-fill-leaf : tie.Need-add-fill-leaf Inv-loop μ-loop
@@ -50,19 +52,23 @@ add-fill-leaf c = search needs
 
 add-fill-leaf-2 : tie.Need-add-fill-leaf-2 Inv-loop μ-loop
 add-fill-leaf-2 c =
-    let a = c .before .before .before .before .before .before .before .before .before .before .args in
-    let i = c .before .before .before .loop .i in
-    let here = leaf-here (a .variables) (λ v. getD (a .factors .now) v 0) (λ v. getD (a .sizes .now) v 0) (a .bases .now) (a .leaves) i (c .before .before .loop-test .taken) (c .before .before .before .before .before .before .before .before .before .before .pre .1 .1 .1 .0) in
-    omega (arith, c .before .before .before .before .before .before .before .before .before .before .pre .1 .1 .0)
+    let turn = c .before .before in
+    let start = turn .before .before .before .before .before .before .before .before in
+    let a = start .args in
+    let i = turn .before .loop .i in
+    let here = leaf-here (a .variables) (entries (a .factors .now)) (entries (a .sizes .now)) (a .bases .now) (a .leaves) i (turn .loop-test .taken) (start .pre .1 .1 .1 .0) in
+    omega (arith, start .pre .1 .1 .0)
 
 fill-leaf-requires : tie.Need-fill-leaf-requires Inv-loop μ-loop
 fill-leaf-requires c κs =
-    let a = c .before .before .before .before .before .before .before .before .before .before .before .args in
-    let i = c .before .before .before .before .loop .i in
-    let here = leaf-here (a .variables) (λ v. getD (a .factors .now) v 0) (λ v. getD (a .sizes .now) v 0) (a .bases .now) (a .leaves) i (c .before .before .before .loop-test .taken) (c .before .before .before .before .before .before .before .before .before .before .before .pre .1 .1 .1 .0) in
-    let pre = c .before .before .before .before .before .before .before .before .before .before .before .pre in
-    let small = pre .1 .1 .1 .1 i (c .before .before .before .loop-test .taken) in
-    (omega (arith, pre .0, small .few), (pre .1 .0, (omega (arith, pre .1 .1 .0, c .before .before .before .before .loop .inv .1), rw add-one small)))
+    let turn = c .before .before .before in
+    let start = turn .before .before .before .before .before .before .before .before in
+    let a = start .args in
+    let i = turn .before .loop .i in
+    let here = leaf-here (a .variables) (entries (a .factors .now)) (entries (a .sizes .now)) (a .bases .now) (a .leaves) i (turn .loop-test .taken) (start .pre .1 .1 .1 .0) in
+    let pre = start .pre in
+    let small = pre .1 .1 .1 .1 i (turn .loop-test .taken) in
+    (omega (arith, pre .0, small .few), (pre .1 .0, (omega (arith, pre .1 .1 .0, turn .before .loop .inv .1), rw add-one small)))
 
 add-i : tie.Need-add-i Inv-loop μ-loop
 add-i c = search needs
@@ -72,16 +78,18 @@ loop-less c = search needs
 
 loop-again : tie.Need-loop-again Inv-loop μ-loop
 loop-again c =
-    let a = c .before .before .before .before .before .before .before .before .before .before .before .before .before .before .args in
-    let i = c .before .before .before .before .before .before .before .loop .i in
-    let here = leaf-here (a .variables) (λ v. getD (a .factors .now) v 0) (λ v. getD (a .sizes .now) v 0) (a .bases .now) (a .leaves) i (c .before .before .before .before .before .before .loop-test .taken) (c .before .before .before .before .before .before .before .before .before .before .before .before .before .before .pre .1 .1 .1 .0) in
-    let l = c .before .before .before .before .before .before .before .loop in
+    let turn = c .before .before .before .before .before .before in
+    let start = turn .before .before .before .before .before .before .before .before in
+    let a = start .args in
+    let i = turn .before .loop .i in
+    let here = leaf-here (a .variables) (entries (a .factors .now)) (entries (a .sizes .now)) (a .bases .now) (a .leaves) i (turn .loop-test .taken) (start .pre .1 .1 .1 .0) in
+    let l = turn .before .loop in
     let filled = c .before .before .fill-leaf .ensures in
     let next = c .before .before .fill-leaf .last .1 .1 .1 .1 .1 .1 .1 .1 .1 .0 in (
       omega arith,
       c .before .before .fill-leaf .kept .1 .1 .1 .1 .1 .1 .1 .1 .1 .0 ∙ l .inv .1,
-      row-same (a .variables) (λ v. getD (a .factors .now) v 0) (λ v. getD (a .sizes .now) v 0) (a .from) i (a .moves .now) (l .moves) next (here .0) (here .2) (l .inv .2) (filled .1),
-      row-more (a .variables) (λ v. getD (a .factors .now) v 0) (λ v. getD (a .sizes .now) v 0) _ _ (a .from) i (l .moves) next (here .0) (here .2) (l .inv .3) (filled .0) (filled .1),
+      row-same (a .variables) (entries (a .factors .now)) (entries (a .sizes .now)) (a .from) i (a .moves .now) (l .moves) next (here .0) (here .2) (l .inv .2) (filled .1),
+      row-more (a .variables) (entries (a .factors .now)) (entries (a .sizes .now)) _ _ (a .from) i (l .moves) next (here .0) (here .2) (l .inv .3) (filled .0) (filled .1),
     )
 
 same-length : tie.Need-same-length Inv-loop μ-loop

@@ -4,10 +4,10 @@ use mathlib.Core.Path.{_≡_}
 use Prim.Native.Nat.{_+_, _-_, _≤_}
 use native.Mathlib.Nat.{le-antisymm}
 use native.Mathlib.Omega.{arith}
-use lib.ListN.{length, getD, length-set}
+use lib.ListN.{length, length-set}
 use borrow.Author.Needs.{needs}
 use Rattle.tables.specs.Moves.{toWith}
-use Rattle.tables.specs.Tables.{Placed, Same}
+use Rattle.tables.specs.Tables.{entries, entriesFrom, Placed, Same}
 use Rattle.tables.specs.Tables.Laws.{placed-more, same-set}
 use Rattle.tables.proofs.fill_leaf.Statement.{statement}
 use Rattle.tables.proofs.fill_leaf.Tie as tie
@@ -15,7 +15,7 @@ use Rattle.tables.proofs.fill_leaf.Tie as tie
 abbrev Inv-loop : tie.InvT-loop
 Inv-loop sizes factors conditions effects variables at leaf states from moves₀ x₀ moves x =
     (x ≤ states) × (length moves ≡ length moves₀) × Same from (from + states) moves₀ moves ×
-    Placed from x (toWith variables (λ v. getD factors v 0) (λ v. getD sizes v 0) (λ v. getD conditions (at + v) 0) (λ v. getD effects (at + v) 0) leaf) moves
+    Placed from x (toWith variables (entries factors) (entries sizes) (entriesFrom at conditions) (entriesFrom at effects) leaf) moves
 
 abbrev μ-loop : tie.MeasureT-loop
 μ-loop sizes factors conditions effects variables at leaf states from moves₀ x₀ moves x = states - x

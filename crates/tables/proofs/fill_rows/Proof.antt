@@ -1,20 +1,21 @@
 -- `tables::fill_rows` meets its contract. The invariant: the actions so far have their rows, the next row begins at `from`, and all other
 -- entries of the list are as they were. Assumes nothing.
 use mathlib.Core.Path.{_≡_, refl, sym, _∙_}
-use Prim.Native.Nat.{_+_, _-_, _*_, _≤_}
+use Prim.Native.Nat.{ℕ, _-_, _*_, _≤_}
 use native.Mathlib.Nat.{le-antisymm, not-suc-le-zero, zero-mul}
 use native.Mathlib.Omega.{arith}
-use lib.ListN.{length, getD}
+use lib.ListN.{length}
 use borrow.Author.Needs.{needs}
-use Rattle.tables.specs.Tables.{Same, Rows, startOf}
+use Rattle.tables.specs.Tables.{entries, entriesFrom, Same, Rows, startOf}
 use Rattle.tables.specs.Tables.Laws.{row-inside, row-next, rows-more, rows-same}
 use Rattle.tables.proofs.fill_rows.Statement.{statement}
 use Rattle.tables.proofs.fill_rows.Tie as tie
 
 abbrev Inv-loop : tie.InvT-loop
 Inv-loop sizes factors conditions effects bases variables leaves actions moves₀ row from₀ a₀ moves from a =
-    (a ≤ actions) × (length moves ≡ length moves₀) × (from ≡ a * startOf variables (λ v. getD factors v 0) (λ v. getD sizes v 0) leaves) × Same 0 (a * startOf variables (λ v. getD factors v 0) (λ v. getD sizes v 0) leaves) moves₀ moves ×
-    Rows variables (λ v. getD factors v 0) (λ v. getD sizes v 0) (λ k v. getD conditions (k * 32 + v) 0) (λ k v. getD effects (k * 32 + v) 0) leaves a moves
+    (a ≤ actions) × (length moves ≡ length moves₀) × (from ≡ a * startOf variables (entries factors) (entries sizes) leaves) ×
+    Same 0 (a * startOf variables (entries factors) (entries sizes) leaves) moves₀ moves ×
+    Rows variables (entries factors) (entries sizes) (λ k. entriesFrom (k * 32) conditions) (λ k. entriesFrom (k * 32) effects) leaves a moves
 
 abbrev μ-loop : tie.MeasureT-loop
 μ-loop sizes factors conditions effects bases variables leaves actions moves₀ row from₀ a₀ moves from a =
@@ -34,19 +35,23 @@ mul-fill-action c = search needs
 
 fill-action-requires : tie.Need-fill-action-requires Inv-loop μ-loop
 fill-action-requires c κs =
-    let l = c .before .before .loop in
-    let a = c .before .before .before .before .before .before .before .before .before .before .args in
-    let pre = c .before .before .before .before .before .before .before .before .before .before .pre in
-    let inside = row-inside (l .a) (a .actions) (startOf (a .variables) (λ v. getD (a .factors .now) v 0) (λ v. getD (a .sizes .now) v 0) (a .leaves)) (c .before .loop-test .taken) in
-    (omega (arith, pre .0), (omega (arith, pre .0, pre .1 .0), (omega (arith, pre .1 .1 .0), (pre .1 .1 .1 .0, pre .1 .1 .1 .1 (l .a) (c .before .loop-test .taken)))))
+    let turn = c .before in
+    let l = turn .before .loop in
+    let start = turn .before .before .before .before .before .before .before .before .before in
+    let a = start .args in
+    let pre = start .pre in
+    let inside = row-inside (l .a) (a .actions) (startOf (a .variables) (entries (a .factors .now)) (entries (a .sizes .now)) (a .leaves)) (turn .loop-test .taken) in
+    let small = pre .1 .1 .1 .1 (l .a) (turn .loop-test .taken) in
+    (omega (arith, pre .0), (omega (arith, pre .0, pre .1 .0), (omega (arith, pre .1 .1 .0), (pre .1 .1 .1 .0, small))))
 
 add-from : tie.Need-add-from Inv-loop μ-loop
 add-from c =
-    let l = c .before .before .before .before .before .loop in
-    let a = c .before .before .before .before .before .before .before .before .before .before .before .before .before .args in
-    let pre = c .before .before .before .before .before .before .before .before .before .before .before .before .before .pre in
-    let inside = row-inside (l .a) (a .actions) (startOf (a .variables) (λ v. getD (a .factors .now) v 0) (λ v. getD (a .sizes .now) v 0) (a .leaves)) (c .before .before .before .before .loop-test .taken) in
-    omega (arith, pre .1 .1 .0, pre .1 .1 .1 .0 (a .leaves) (omega arith))
+    let turn = c .before .before .before .before in
+    let l = turn .before .loop in
+    let start = turn .before .before .before .before .before .before .before .before .before in
+    let a = start .args in
+    let inside = row-inside (l .a) (a .actions) (startOf (a .variables) (entries (a .factors .now)) (entries (a .sizes .now)) (a .leaves)) (turn .loop-test .taken) in
+    omega (arith, start .pre .1 .1 .0, start .pre .1 .1 .1 .0 (a .leaves) (omega arith))
 
 add-a : tie.Need-add-a Inv-loop μ-loop
 add-a c = search needs
@@ -56,16 +61,19 @@ loop-less c = search needs
 
 loop-again : tie.Need-loop-again Inv-loop μ-loop
 loop-again c =
-    let l = c .before .before .before .before .before .loop in
-    let a = c .before .before .before .before .before .before .before .before .before .before .before .before .before .args in
-    let pre = c .before .before .before .before .before .before .before .before .before .before .before .before .before .pre in
+    let turn = c .before .before .before .before in
+    let l = turn .before .loop in
+    let start = turn .before .before .before .before .before .before .before .before .before in
+    let a = start .args in
     let filled = c .before .before .fill-action .ensures in
-    let next = c .before .before .fill-action .last .1 .1 .1 .1 .1 .1 .1 .1 .1 .0 in (
+    let next = c .before .before .fill-action .last .1 .1 .1 .1 .1 .1 .1 .1 .1 .0 in
+    let con : ℕ → ℕ → ℕ = λ k. entriesFrom (k * 32) (a .conditions .now) in
+    let eff : ℕ → ℕ → ℕ = λ k. entriesFrom (k * 32) (a .effects .now) in (
       omega arith,
       c .before .before .fill-action .kept .1 .1 .1 .1 .1 .1 .1 .1 .1 .0 ∙ l .inv .1,
-      row-next (l .a) _ (l .inv .2) (pre .1 .1 .1 .0 (a .leaves) (omega arith)),
+      row-next (l .a) _ (l .inv .2) (start .pre .1 .1 .1 .0 (a .leaves) (omega arith)),
       rows-same (l .a) _ (a .moves .now) (l .moves) next (l .inv .2) (l .inv .3) (filled .1),
-      rows-more (a .variables) (λ v. getD (a .factors .now) v 0) (λ v. getD (a .sizes .now) v 0) (λ k v. getD (a .conditions .now) (k * 32 + v) 0) (λ k v. getD (a .effects .now) (k * 32 + v) 0) (a .leaves) (l .a) (l .moves) next (l .inv .2) (l .inv .4) (filled .0) (filled .1),
+      rows-more (a .variables) (entries (a .factors .now)) (entries (a .sizes .now)) con eff (a .leaves) (l .a) (l .moves) next (l .inv .2) (l .inv .4) (filled .0) (filled .1),
     )
 
 same-length : tie.Need-same-length Inv-loop μ-loop

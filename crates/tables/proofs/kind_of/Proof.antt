@@ -2,21 +2,22 @@
 -- leaf is left. Assumes nothing.
 use mathlib.Core.Path.{_≡_, refl, sym, _∙_}
 use mathlib.Core.Bool.{false, true≢false}
-use Prim.Native.Nat.{suc, _+_, _-_, _≤_}
+use Prim.Native.Nat.{suc, _-_, _≤_}
 use native.Mathlib.Nat.{le-antisymm}
 use native.Mathlib.Omega.{arith}
-use lib.ListN.{getD}
 use borrow.Author.Needs.{needs}
 use Rattle.loops.specs.Count.Laws.{told}
 use Rattle.loops.specs.Count.{any}
 use Rattle.task.specs.Factors.{leafPairs}
 use Rattle.whole.specs.Whole.Laws.{star-more, star-none}
+use Rattle.tables.specs.Tables.{entries, entriesFrom}
 use Rattle.tables.specs.Tables.Laws.{kind-centre, kind-leaf}
 use Rattle.tables.proofs.kind_of.Statement.{statement}
 use Rattle.tables.proofs.kind_of.Tie as tie
 
 abbrev Inv-loop : tie.InvT-loop
-Inv-loop factors conditions effects at variables leaves i₀ i = (i ≤ leaves) × (any i (λ k. leafPairs variables (λ v. getD factors v 0) (λ v. getD conditions (at + v) 0) (λ v. getD effects (at + v) 0) (suc k)) ≡ false)
+Inv-loop factors conditions effects at variables leaves i₀ i =
+    (i ≤ leaves) × (any i (λ k. leafPairs variables (entries factors) (entriesFrom at conditions) (entriesFrom at effects) (suc k)) ≡ false)
 
 abbrev μ-loop : tie.MeasureT-loop
 μ-loop factors conditions effects at variables leaves i₀ i = leaves - i

@@ -1,12 +1,12 @@
 -- `tables::kinds_of` meets its contract. The invariant: the first a entries are the kinds of the actions. Assumes nothing.
 use mathlib.Core.Path.{_≡_, refl}
 use mathlib.Core.List.{List}
-use Prim.Native.Nat.{ℕ, _+_, _-_, _*_, _≤_}
+use Prim.Native.Nat.{ℕ, _-_, _*_, _≤_}
 use native.Mathlib.Nat.{le-antisymm, not-suc-le-zero}
 use native.Mathlib.Omega.{arith}
-use lib.ListN.{length, getD, length-set, length-replicate}
+use lib.ListN.{length, length-set}
 use borrow.Author.Needs.{needs}
-use Rattle.tables.specs.Tables.{Each, KindIs}
+use Rattle.tables.specs.Tables.{entries, entriesFrom, Each, KindIs}
 use Rattle.tables.specs.Tables.Laws.{each-more}
 use Rattle.tables.proofs.kinds_of.Statement.{statement}
 use Rattle.tables.proofs.kinds_of.Tie as tie
@@ -14,7 +14,7 @@ use Rattle.tables.proofs.kinds_of.Tie as tie
 -- entry x is the kind of action k
 abbrev kind : List ℕ → List ℕ → List ℕ → ℕ → ℕ → ℕ → ℕ → Type 0
 kind factors conditions effects variables leaves k x =
-    KindIs variables (λ v. getD factors v 0) leaves (λ v. getD conditions (k * 32 + v) 0) (λ v. getD effects (k * 32 + v) 0) x
+    KindIs variables (entries factors) leaves (entriesFrom (k * 32) conditions) (entriesFrom (k * 32) effects) x
 
 abbrev Inv-loop : tie.InvT-loop
 Inv-loop factors conditions effects variables leaves actions kinds₀ a₀ kinds a = (a ≤ actions) × (length kinds ≡ 256) × Each a (kind factors conditions effects variables leaves) kinds

@@ -4,19 +4,19 @@ use mathlib.Core.Logic.{⊎-elim}
 use Prim.Native.Nat.{_-_, _≤_}
 use native.Mathlib.Nat.{le-antisymm}
 use native.Mathlib.Omega.{arith}
-use lib.ListN.{getD}
 use borrow.Author.Needs.{needs}
 use Rattle.loops.specs.Count.Laws.{told}
 use Rattle.task.specs.Factors.{numberTo}
+use Rattle.tables.specs.Tables.{entries}
 use Rattle.tables.specs.Tables.Laws.{number-on, number-by, number-fits}
 use Rattle.tables.proofs.number_of.Statement.{statement}
 use Rattle.tables.proofs.number_of.Tie as tie
 
 abbrev Inv-loop : tie.InvT-loop
-Inv-loop sizes factors values variables leaf number₀ v₀ number v = (v ≤ variables) × (number ≡ numberTo (λ k. getD factors k 0) (λ k. getD sizes k 0) leaf (λ k. getD values k 0) v)
+Inv-loop sizes factors values variables factor number₀ v₀ number v = (v ≤ variables) × (number ≡ numberTo (entries factors) (entries sizes) factor (entries values) v)
 
 abbrev μ-loop : tie.MeasureT-loop
-μ-loop sizes factors values variables leaf number₀ v₀ number v = variables - v
+μ-loop sizes factors values variables factor number₀ v₀ number v = variables - v
 
 loop-holds : tie.Need-loop-holds Inv-loop μ-loop
 unfolding numberTo
@@ -41,7 +41,9 @@ mul-number c =
     let start = turn .before .before .before .before .before in
     let a = start .args in
     let e = told (c .before .before .is-factor .ensures) (c .before .if1 .taken) in
-    omega (arith, number-fits (λ k. getD (a .factors .now) k 0) (λ k. getD (a .sizes .now) k 0) (a .leaf) (λ k. getD (a .values .now) k 0) (l .v) (a .variables) (turn .loop-test .taken) (start .pre .1 .0) (start .pre .1 .1) e (l .inv .1))
+    let fits =
+    number-fits (entries (a .factors .now)) (entries (a .sizes .now)) (a .factor) (entries (a .values .now)) (l .v) (a .variables) (turn .loop-test .taken) (start .pre .1 .0) (start .pre .1 .1) e (l .inv .1) in
+    omega arith
 
 shared-slice-read-number-2 : tie.Need-shared-slice-read-number-2 Inv-loop μ-loop
 shared-slice-read-number-2 c = search needs
@@ -56,7 +58,9 @@ add-number c =
     let start = turn .before .before .before .before .before in
     let a = start .args in
     let e = told (c .before .before .before .is-factor .ensures) (c .before .before .if1 .taken) in
-    omega (arith, number-fits (λ k. getD (a .factors .now) k 0) (λ k. getD (a .sizes .now) k 0) (a .leaf) (λ k. getD (a .values .now) k 0) (l .v) (a .variables) (turn .loop-test .taken) (start .pre .1 .0) (start .pre .1 .1) e (l .inv .1))
+    let fits =
+    number-fits (entries (a .factors .now)) (entries (a .sizes .now)) (a .factor) (entries (a .values .now)) (l .v) (a .variables) (turn .loop-test .taken) (start .pre .1 .0) (start .pre .1 .1) e (l .inv .1) in
+    omega arith
 
 add-v : tie.Need-add-v Inv-loop μ-loop
 add-v c = search needs

@@ -1,19 +1,20 @@
 -- `tables::starts_of` meets its contract. The invariant: the first i entries are the numbers of the leaves' states. Assumes nothing.
 use mathlib.Core.Path.{_≡_}
-use Prim.Native.Nat.{suc, _+_, _-_, _≤_}
+use Prim.Native.Nat.{suc, _-_, _≤_}
 use native.Mathlib.Nat.{le-antisymm}
 use native.Mathlib.Numerals.{add-one}
 use native.Mathlib.Omega.{arith}
-use lib.ListN.{length, getD, length-set, length-replicate}
+use lib.ListN.{length, length-set}
 use borrow.Author.Needs.{needs}
 use Rattle.task.specs.Factors.{numberTo}
-use Rattle.tables.specs.Tables.{Filled}
+use Rattle.tables.specs.Tables.{entries, Filled}
 use Rattle.tables.specs.Tables.Laws.{filled-more}
 use Rattle.tables.proofs.starts_of.Statement.{statement}
 use Rattle.tables.proofs.starts_of.Tie as tie
 
 abbrev Inv-loop : tie.InvT-loop
-Inv-loop sizes factors values variables leaves starts₀ i₀ starts i = (i ≤ leaves) × (length starts ≡ 8) × Filled i (λ k. numberTo (λ v. getD factors v 0) (λ v. getD sizes v 0) (suc k) (λ v. getD values v 0) variables) starts
+Inv-loop sizes factors values variables leaves starts₀ i₀ starts i =
+    (i ≤ leaves) × (length starts ≡ 8) × Filled i (λ k. numberTo (entries factors) (entries sizes) (suc k) (entries values) variables) starts
 
 abbrev μ-loop : tie.MeasureT-loop
 μ-loop sizes factors values variables leaves starts₀ i₀ starts i = leaves - i

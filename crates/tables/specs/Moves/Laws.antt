@@ -1,11 +1,12 @@
 -- Laws of moves: one pass over the variables, the last first, gives what an action makes of a leaf state. Digits are taken from the last
 -- variable down, as a number's digits are defined. Assumes nothing.
 use mathlib.Core.Path.{_≡_, refl, sym, ap, ap₂, _∙_}
-use mathlib.Core.Bool.{Bool, true, false, cond, _&&_, and-true, and-false}
+use mathlib.Core.Bool.{Bool, true, false, _&&_, and-true, and-false}
 use mathlib.Core.Logic.{inl, inr}
 use Prim.Native.Nat.{ℕ, zero, suc, _+_, _*_, _/_, _%_, _≤_, _<_}
-use native.Mathlib.Nat.{add-mul, mul-assoc, mul-comm, mul-le-mul, mul-le-mul-left, mul-le-mul-right, one-mul, suc-mul, mod-lt}
+use native.Mathlib.Nat.{add-mul, mul-assoc, mul-comm, mul-le-mul-left, mul-le-mul-right, mul-one, one-mul, suc-mul, mod-lt}
 use native.Mathlib.Omega.{arith}
+use native.Mathlib.Decide.{ℕ-discrete}
 use lib.Dec.{eqb}
 use borrow.Author.Tests.{eqb-false, eq-eqb, ne-eqb}
 use Rattle.loops.specs.Count.{all}
@@ -16,7 +17,7 @@ use Rattle.task.specs.Valid.{PairIn}
 use Rattle.task.specs.Pairs.{holds-ext}
 use Rattle.task.specs.Radix.{num-ext}
 use Rattle.tables.specs.declared.Walk.{Walk}
-use Rattle.tables.specs.Moves.{toWith, fresh, stepped, down, Small, Steps, Room}
+use Rattle.tables.specs.Moves.{toWith, fresh, valueAfter, stepped, down, Small, Steps, Room}
 
 -- ---- the definition on a task
 
@@ -59,7 +60,7 @@ module _ (fac siz : ℕ → ℕ) (l x n : ℕ) where
   -- a variable more: the number behind the effects
   number-leaf : (eff : Partial) → eqb (fac n) l ≡ true
       → numberTo fac siz l (put eff (values fac siz l x (suc n))) (suc n)
-      ≡ numberTo fac siz l (put eff (values fac siz l (x / siz n) n)) n * siz n + cond (eqb (eff n) free) (x % siz n) (eff n)
+      ≡ numberTo fac siz l (put eff (values fac siz l (x / siz n) n)) n * siz n + valueAfter (eff n) (x % siz n)
   unfolding numberTo
   number-leaf eff e =
       let q = num-ext fac siz l (put eff (values fac siz l x (suc n))) (put eff (values fac siz l (x / siz n) n)) n (λ v m f. rw (low e v m)) in
@@ -97,7 +98,7 @@ module _ (fac siz : ℕ → ℕ) (con eff : Partial) (l : ℕ) where
           → down fac siz con eff l (suc n) w ≡ rest fac siz con eff l (suc n) (w .rest) (w .stride) (w .number)
       go true e true d r =
           rw (holds-leaf fac siz l (w .rest) n con e, number-leaf fac siz l (w .rest) n eff e, e, d, and-true, ← carried)
-          (r (stepped w (siz n) (eff n)))
+          (r (stepped w (siz n) (valueAfter (eff n) (w .rest % siz n))))
       go true e false d r = rw (holds-leaf fac siz l (w .rest) n con e, e, d, and-false)
       go false e b d r = rw (holds-other fac siz l (w .rest) n con e, number-other fac siz l (w .rest) n eff e, e) (r w)
 
@@ -111,7 +112,7 @@ module _ (fac siz : ℕ → ℕ) (con eff : Partial) (l : ℕ) where
   module _ (u v : ℕ) (w : Walk) (p : v ≡ suc u) where
     -- at a variable of the leaf whose condition holds
     pub down-on : eqb (fac u) l ≡ true → met (con u) (w .rest % siz u) ≡ true
-        → down fac siz con eff l v w ≡ down fac siz con eff l u (stepped w (siz u) (eff u))
+        → down fac siz con eff l v w ≡ down fac siz con eff l u (stepped w (siz u) (valueAfter (eff u) (w .rest % siz u)))
     unfolding down
     down-on e d = rw (p, down, e, d)
 
@@ -127,22 +128,25 @@ module _ (fac siz : ℕ → ℕ) (con eff : Partial) (l : ℕ) where
 
 -- ---- numbers that fit
 
-module _ (fac siz : ℕ → ℕ) (l : ℕ) where
-  -- a leaf has a state
-  pub states-some : (n : ℕ) → ((v : ℕ) → v < n → 1 ≤ siz v) → 1 ≤ statesTo fac siz l n
-  unfolding statesTo
-  states-some zero h = omega arith
-  states-some (suc n) h = go _ refl (states-some n (λ v m. h v (omega arith)))
-    where
-      go : (b : Bool) → eqb (fac n) l ≡ b → 1 ≤ statesTo fac siz l n → 1 ≤ statesTo fac siz l (suc n)
-      go true e r = rw e (mul-le-mul r (h n (omega arith)))
-      go false e r = rw e r
+-- the leaf of fewer variables has fewer states
+pub states-less : (fac siz : ℕ → ℕ) (l v n : ℕ) → v ≤ n → ((k : ℕ) → k < n → 1 ≤ siz k) → statesTo fac siz l v ≤ statesTo fac siz l n
+unfolding statesTo
+states-less fac siz l v zero m h = let e : v ≡ 0 = omega arith in rw e (omega arith)
+states-less fac siz l v (suc n) m h = go (ℕ-discrete v (suc n)) (λ m′. states-less fac siz l v n m′ (λ k o. h k (omega arith)))
+  where
+    one-more : (b : Bool) → eqb (fac n) l ≡ b → statesTo fac siz l n ≤ statesTo fac siz l (suc n)
+    one-more true e = rw e (omega (arith, mul-one (statesTo fac siz l n), mul-le-mul-left (statesTo fac siz l n) (h n (omega arith))))
+    one-more false e = rw e (omega arith)
+
+    go : Dec (v ≡ suc n) → (v ≤ n → statesTo fac siz l v ≤ statesTo fac siz l n) → statesTo fac siz l v ≤ statesTo fac siz l (suc n)
+    go (yes e) r = rw e (omega arith)
+    go (no d) r = omega (arith, r (omega arith), one-more _ refl)
 
 -- the next value of a variable is one of its values
-value-in : (z x y : ℕ) → 1 ≤ z → PairIn z x → cond (eqb x free) (y % z) x < z
+value-in : (z x y : ℕ) → 1 ≤ z → PairIn z x → valueAfter x (y % z) < z
 value-in z x y h k = go k _ refl
   where
-    go : PairIn z x → (b : Bool) → eqb x free ≡ b → cond (eqb x free) (y % z) x < z
+    go : PairIn z x → (b : Bool) → eqb x free ≡ b → valueAfter x (y % z) < z
     go k true e = rw e (mod-lt y h)
     go (inl q) false e = absurd (eqb-false x free e q)
     go (inr m) false e = rw e m
@@ -152,8 +156,8 @@ digit-below : (k s v z : ℕ) → k < s → v < z → k + v * s < s * z
 digit-below k s v z h m = omega (arith, mul-comm s z, suc-mul v s, mul-le-mul-right s m)
 
 -- a digit more leaves the number below its bound
-pub step-below : (w : Walk) (z x : ℕ) → Steps w z x → stepped w z x .number < stepped w z x .stride
-step-below w z x h = digit-below (w .number) (w .stride) _ z (h .below) (value-in z x (w .rest) (h .sized) (h .inside))
+pub step-below : (w : Walk) (z y : ℕ) → Steps w z y → w .number + y * w .stride < w .stride * z
+step-below w z y h = digit-below (w .number) (w .stride) y z (h .below) (h .inside)
 
 module _ (fac siz : ℕ → ℕ) (l : ℕ) where
   -- before the first digit
@@ -167,25 +171,24 @@ module _ (fac siz : ℕ → ℕ) (l : ℕ) where
 
   module _ (eff : Partial) (n u v : ℕ) (w : Walk) (p : v ≡ suc u) (small : Small n fac siz eff l) (m : u < n) (room : Room fac siz l v w) where
     -- at a variable of the leaf: its digit can go over
-    pub room-steps : eqb (fac u) l ≡ true → Steps w (siz u) (eff u)
+    pub room-steps : eqb (fac u) l ≡ true → Steps w (siz u) (valueAfter (eff u) (w .rest % siz u))
     unfolding statesTo
     room-steps e =
         let few : w .stride * (statesTo fac siz l u * siz u) ≤ 256 = rw (p, statesTo, e) at (room .few) in
-        let some = states-some fac siz l u (λ k h. small .sized k (omega arith)) in
+        let some = states-less fac siz l 0 u (omega arith) (λ k h. small .sized k (omega arith)) in
         let more : siz u ≤ statesTo fac siz l u * siz u = omega (arith, one-mul (siz u), mul-le-mul-right (siz u) some) in
         record {
-          sized = small .sized u m;
-          inside = small .inside u m;
+          inside = value-in (siz u) (eff u) (w .rest) (small .sized u m) (small .inside u m);
           below = room .below;
           few = omega (arith, mul-le-mul-left (w .stride) more, few);
         }
 
     -- and the numbers stay small
-    pub room-on : eqb (fac u) l ≡ true → Room fac siz l u (stepped w (siz u) (eff u))
+    pub room-on : eqb (fac u) l ≡ true → Room fac siz l u (stepped w (siz u) (valueAfter (eff u) (w .rest % siz u)))
     unfolding statesTo
     room-on e =
         let few : w .stride * (statesTo fac siz l u * siz u) ≤ 256 = rw (p, statesTo, e) at (room .few) in
-        record { below = step-below w (siz u) (eff u) (room-steps e); few = rw (mul-assoc, mul-comm (siz u)) few }
+        record { below = step-below w (siz u) _ (room-steps e); few = rw (mul-assoc, mul-comm (siz u)) few }
 
     -- at any other variable
     pub room-by : eqb (fac u) l ≡ false → Room fac siz l u w

@@ -1,10 +1,10 @@
 -- Laws of the tables: a turn of each loop that fills one, and numbers that fit. Each is about lists and functions, no task. Assumes nothing.
 use mathlib.Core.Path.{_≡_, refl, sym, _∙_}
-use mathlib.Core.Bool.{Bool, true, false}
+use mathlib.Core.Bool.{true, false}
 use mathlib.Core.Logic.{_⊎_, inl, inr}
 use mathlib.Core.List.{List}
 use Prim.Native.Nat.{ℕ, zero, suc, _+_, _-_, _*_, _≤_, _<_, min}
-use native.Mathlib.Nat.{mul-le-mul-left, mul-le-mul-right, mul-one, suc-mul, not-suc-le-zero}
+use native.Mathlib.Nat.{mul-le-mul-right, suc-mul, not-suc-le-zero}
 use native.Mathlib.Numerals.{add-one}
 use native.Mathlib.Omega.{arith}
 use native.Mathlib.Decide.{ℕ-discrete}
@@ -17,6 +17,7 @@ use Rattle.task.specs.Meaning.{State, Partial}
 use Rattle.task.specs.Factors.{touches, leafPairs, numberTo, statesTo}
 use Rattle.task.specs.Radix.{num-lt}
 use Rattle.tables.specs.Moves.{toWith}
+use Rattle.tables.specs.Moves.Laws.{states-less}
 use Rattle.tables.specs.Tables.{Each, Filled, Placed, Same, startOf, Row, Rows, KindIs}
 
 -- ---- lists
@@ -114,20 +115,6 @@ module _ (fac siz : ℕ → ℕ) (l : ℕ) (s : State) where
   pub number-by : (v : ℕ) → eqb (fac v) l ≡ false → numberTo fac siz l s v ≡ numberTo fac siz l s (v + 1)
   unfolding numberTo
   number-by v e = rw (add-one, e)
-
--- the leaf of fewer variables has fewer states
-states-less : (fac siz : ℕ → ℕ) (l v n : ℕ) → v ≤ n → ((k : ℕ) → k < n → 1 ≤ siz k) → statesTo fac siz l v ≤ statesTo fac siz l n
-unfolding statesTo
-states-less fac siz l v zero m h = let e : v ≡ 0 = omega arith in rw e (omega arith)
-states-less fac siz l v (suc n) m h = go (ℕ-discrete v (suc n)) (λ m′. states-less fac siz l v n m′ (λ k o. h k (omega arith)))
-  where
-    one-more : (b : Bool) → eqb (fac n) l ≡ b → statesTo fac siz l n ≤ statesTo fac siz l (suc n)
-    one-more true e = rw e (omega (arith, mul-one (statesTo fac siz l n), mul-le-mul-left (statesTo fac siz l n) (h n (omega arith))))
-    one-more false e = rw e (omega arith)
-
-    go : Dec (v ≡ suc n) → (v ≤ n → statesTo fac siz l v ≤ statesTo fac siz l n) → statesTo fac siz l v ≤ statesTo fac siz l (suc n)
-    go (yes e) r = rw e (omega arith)
-    go (no d) r = omega (arith, r (omega arith), one-more _ refl)
 
 -- a number on the way is small
 number-few : (fac siz : ℕ → ℕ) (l : ℕ) (s : State) (v n : ℕ) → v ≤ n → ((k : ℕ) → k < n → s k < siz k) → statesTo fac siz l n ≤ 256
