@@ -6,6 +6,7 @@ pub mod Depths
 pub mod WayBack
 pub mod Stages
 pub mod Reaches
+pub mod Found
 use mathlib.Core.Bool.{Bool, true, false, cond, _&&_}
 use mathlib.Core.List.{List, [], _∷_, _++_}
 use Prim.Native.Nat.{ℕ, zero, suc, _+_}
