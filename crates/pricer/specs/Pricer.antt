@@ -1,0 +1,103 @@
+-- What the pricer answers, and what the lent slice holds afterwards. Follows "Prices and layers" and "Refused because of the state":
+-- the pricer's order is 1 to 11, 12, 21, 13.
+pub mod Laws
+use mathlib.Core.Path.{_≡_}
+use mathlib.Core.Bool.{Bool, true, false, cond, _&&_}
+use mathlib.Core.List.{List, _++_}
+use Prim.Native.Nat.{ℕ, suc, _+_, _*_, _≤_}
+use lib.Dec.{ltb, leb, eqb}
+use lib.ListN.{length, getD, take, drop}
+use Rattle.loops.specs.Count.{all, sum}
+use Rattle.task.specs.declared.Task.{Task}
+use Rattle.task.specs.declared.Centre.{Centre}
+use Rattle.task.specs.Centre.{centreAfter}
+use Rattle.task.specs.Factors.{centreAction, states, allStates}
+use Rattle.fields.specs.Answers.{numberOf}
+use Rattle.whole.specs.declared.Verdict.{Verdict}
+use Rattle.whole.specs.declared.Verdict.the-variants.{Accepted, Refused as NotAccepted}
+use Rattle.record.specs.Record.{readRecord}
+use Rattle.layer.specs.Layer.{mark}
+use Rattle.layer.specs.Board.{Board, rowOn, nextOn, appliesOn}
+use Rattle.pricer.specs.declared.PriceRefusal.{PriceRefusal}
+use Rattle.pricer.specs.declared.PriceRefusal.the-variants.{InRecord, PathWrong, SliceShort, NotApplicable}
+use Rattle.pricer.specs.declared.PriceAnswer.{PriceAnswer}
+use Rattle.pricer.specs.declared.PriceAnswer.the-variants.{Prices, Refused}
+use Rattle.tables.specs.Tables.{Bases, Starts, Costs, Kinds, Moves}
+use Rattle.pricer.specs.declared.Walked.{Walked}
+use Rattle.price.specs.Path.{Layer, End, ends, stuck, firstLayer, walk}
+
+-- "For paths: 12 longer than 4,095, or an entry not a centre action; 13 an entry that doesn't apply. 21 price slice too short."
+abbrev pub refusalNumber : PriceRefusal → ℕ
+refusalNumber (InRecord why) = numberOf why
+refusalNumber PathWrong = 12
+refusalNumber SliceShort = 21
+refusalNumber NotApplicable = 13
+
+-- the answer, and the slice's words afterwards
+pub record Outcome : Type 0 where
+  pub answer : PriceAnswer
+  pub words : List ℕ
+
+-- a refusal leaves the slice as it was
+abbrev pub refuse : PriceRefusal → List ℕ → Outcome
+refuse why out = record { answer = Refused why; words = out }
+
+abbrev pub unless : Bool → PriceRefusal → List ℕ → Outcome → Outcome
+unless true why out rest = rest
+unless false why out rest = refuse why out
+
+-- 12 is not met
+unfoldable pub pathFits : Task → List ℕ → Bool
+pathFits t path = leb (length path) 4095 && all (length path) (λ k. ltb (getD path k 0) (t .actions) && centreAction t (getD path k 0))
+
+-- "writes S prices, 64 bits each, leaf 1 first; words behind them are untouched"
+abbrev pub atEnd : Task → List ℕ → End → Outcome
+atEnd t out (ends l) = record { answer = Prices (allStates t); words = l .prices ++ drop (allStates t) out }
+atEnd t out stuck = refuse NotApplicable out
+
+-- the answer for a task
+unfoldable pub taskPrices : Task → List ℕ → List ℕ → Outcome
+taskPrices t path out =
+    unless (pathFits t path) PathWrong out
+    (unless (leb (allStates t) (length out)) SliceShort out
+    (atEnd t out (walk t (firstLayer t) path)))
+
+abbrev pub onVerdict : Verdict → Task → List ℕ → List ℕ → Outcome
+onVerdict Accepted t path out = taskPrices t path out
+onVerdict (NotAccepted why) t path out = refuse (InRecord why) out
+
+-- the answer for a record
+unfoldable pub pricesOf : List ℕ → List ℕ → List ℕ → Outcome
+pricesOf rec path out = onVerdict (readRecord rec .verdict) (readRecord rec .task) path out
+
+-- the word that holds the price of state x of the leaf behind i leaves
+abbrev pub priceIn : Task → List ℕ → ℕ → ℕ → ℕ
+priceIn t words i x = getD words (sum i (λ j. states t (suc j)) + x) mark
+
+-- ---- what the code goes by
+
+-- where a walk ends, as the code tells it: whether all actions applied, the last centre state, the last prices
+abbrev pub walked : Walked → List ℕ → End
+walked w P = cond (w .ends) (ends (record { spot = w .spot; prices = P })) stuck
+
+-- 12 is not met, by the table of kinds
+abbrev pub entryBy : ℕ → List ℕ → List ℕ → ℕ → Bool
+entryBy actions kinds path k = ltb (getD path k 0) actions && eqb (getD kinds (getD path k 0) 0) 0
+
+unfoldable pub fitsBy : ℕ → List ℕ → List ℕ → Bool
+fitsBy actions kinds path = leb (length path) 4095 && all (length path) (entryBy actions kinds path)
+
+-- one centre action of a walk by the tables: whether it applies, and where it does the centre state behind it and the prices at the front
+pub record Stepped (b : Board) (effects : List ℕ) (spot : Centre) (a : ℕ) (old : List ℕ) (w : Walked) (new : List ℕ) : Type 0 where
+  pub applied : w .ends ≡ appliesOn b spot old a
+  pub behind : w .ends ≡ true → w .spot ≡ centreAfter (λ v. getD (b .factors) v 0) (λ v. getD effects (a * 32 + v) 0) spot
+  pub written : w .ends ≡ true → (rest : List ℕ) × (new ≡ take (rowOn b) (nextOn b (w .spot) a old ++ rest) ++ drop (rowOn b) old)
+
+-- the tables of a task
+pub record Tabled (t : Task) (bases moves costs kinds starts : List ℕ) : Type 0 where
+  pub is-bases : Bases t bases
+  pub is-moves : Moves t moves
+  pub long-moves : t .actions * allStates t ≤ length moves
+  pub is-costs : Costs t costs
+  pub is-kinds : Kinds t kinds
+  pub is-starts : Starts t starts

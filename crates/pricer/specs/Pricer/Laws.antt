@@ -1,0 +1,395 @@
+-- Laws of the pricer: the test of the path, a walk by the tables turn by turn, and what its answers say of sequences. Assumes nothing.
+use mathlib.Core.Path.{_≡_, refl, sym, ap, _∙_}
+use mathlib.Core.Bool.{Bool, true, false, _&&_, true≢false}
+use mathlib.Core.List.{List, [], _∷_, _++_}
+use Prim.Native.Nat.{ℕ, suc, _+_, _*_, _≤_, _<_}
+use native.Mathlib.Numerals.{add-one}
+use native.Mathlib.Nat.{mul-le-mul-right}
+use native.Mathlib.Omega.{arith}
+use lib.Dec.{ltb, leb, eqb}
+use lib.ListN.{length, getD, set, take, drop, length-drop, take-append-drop, drop-of-length-le, List·getD-append}
+use lib.Seq.{length-take-le, take-append-le, drop-append-le, take-at, take-suc, drop-cons, set-at, append-snoc, getD-take, getD-drop}
+use borrow.Author.Tests.{ltb-true, le-ltb, lt-leb, le-leb, leb-true, ne-eqb}
+use Rattle.loops.specs.Count.{all, sum, list}
+use Rattle.loops.specs.Count.Laws.{and-in, and-out, all-out, all-not, all-ext, sum-ext, list-at, list-ext}
+use Rattle.task.specs.declared.Task.{Task}
+use Rattle.task.specs.declared.Centre.{Centre}
+use Rattle.task.specs.Meaning.{Partial, initial, factor, condition, effect, final}
+use Rattle.task.specs.Factors.{centreAction, number, states, allStates, leafCost}
+use Rattle.task.specs.Centre.{centre, centreMeets, centreAfter}
+use Rattle.task.specs.Valid.{Valid}
+use Rattle.task.specs.Star.{number-lt}
+use Rattle.fields.specs.declared.Refusal.{Refusal}
+use Rattle.whole.specs.declared.Verdict.{Verdict}
+use Rattle.whole.specs.declared.Verdict.the-variants.{Accepted, Refused as NotAccepted}
+use Rattle.record.specs.Record.{readRecord}
+use Rattle.record.specs.Record.Laws.{accepted-valid}
+use Rattle.layer.specs.Layer.{mark, base, leafPart, nextCentre, firstPrices, nextPrices, appliesTo}
+use Rattle.layer.specs.Layer.Laws.{base-fits, first-length, next-length}
+use Rattle.layer.specs.Board.{Board, Fits, rowOn, statesOn, firstOn, nextOn, appliesOn}
+use Rattle.layer.specs.Board.Laws.{joined-ext, states-on, row-on, first-on, next-on, applies-on}
+use Rattle.tables.specs.Tables.{Bases, Starts, Kinds}
+use Rattle.price.specs.Path.{Layer, End, ends, stuck, firstLayer, nextLayer, walk}
+use Rattle.price.specs.Path.Laws.{walk-next}
+use Rattle.price.specs.Prices.{Centred}
+use Rattle.price.specs.Sequences.{final-inside}
+use Rattle.price.specs.Demand.{EndsAt, Choice, NoSequence, Priced}
+use Rattle.price.specs.Demand2.{walk-stuck, walk-priced, walk-full}
+use Rattle.pricer.specs.declared.Walked.{Walked}
+use Rattle.pricer.specs.declared.PriceAnswer.{PriceAnswer}
+use Rattle.pricer.specs.declared.PriceAnswer.the-variants.{Prices, Refused}
+use Rattle.pricer.specs.declared.PriceRefusal.the-variants.{InRecord, PathWrong, SliceShort, NotApplicable}
+use Rattle.pricer.specs.Pricer.{Outcome, refuse, unless, onVerdict, entryBy, fitsBy, pathFits, atEnd, taskPrices, pricesOf, walked, priceIn, Stepped}
+
+-- ---- the path
+
+and-not : (a : Bool) {b : Bool} → b ≡ false → (a && b) ≡ false
+and-not true e = e
+and-not false e = refl
+
+module _ (actions : ℕ) (kinds path : List ℕ) where
+  -- it is too long
+  pub fits-long : 4095 < length path → false ≡ fitsBy actions kinds path
+  unfolding fitsBy
+  fits-long h = rw (lt-leb (length path) 4095 h)
+
+  -- an entry is no centre action
+  fits-not : (k : ℕ) → k < length path → entryBy actions kinds path k ≡ false → false ≡ fitsBy actions kinds path
+  unfolding fitsBy
+  fits-not k l e = sym (and-not (leb (length path) 4095) (all-not (length path) (entryBy actions kinds path) k l e))
+
+  -- it is no action
+  pub fits-high : (k : ℕ) → k < length path → actions ≤ getD path k 0 → false ≡ fitsBy actions kinds path
+  fits-high k l h = fits-not k l (rw (le-ltb (getD path k 0) actions h))
+
+  -- it is a leaf's
+  pub fits-leaf : (k : ℕ) → k < length path → (getD kinds (getD path k 0) 0 ≡ 0 → ⊥) → false ≡ fitsBy actions kinds path
+  fits-leaf k l h = fits-not k l (and-not (ltb (getD path k 0) actions) (ne-eqb (getD kinds (getD path k 0) 0) 0 h))
+
+  -- every entry is a centre action
+  pub fits-all : (n : ℕ) → n ≡ length path → length path ≤ 4095 → all n (entryBy actions kinds path) ≡ true → true ≡ fitsBy actions kinds path
+  unfolding fitsBy
+  fits-all n q h e = sym (and-in (le-leb (length path) 4095 h) (rw q at e))
+
+module _ (t : Task) (path : List ℕ) where
+  -- by the table of kinds
+  pub fits-is : (kinds : List ℕ) → Kinds t kinds → fitsBy (t .actions) kinds path ≡ pathFits t path
+  unfolding fitsBy pathFits
+  fits-is kinds isk = ap (λ b. leb (length path) 4095 && b) (all-ext (length path) _ _ (λ k l. same k _ refl))
+    where
+      same : (k : ℕ) (b : Bool) → ltb (getD path k 0) (t .actions) ≡ b
+          → entryBy (t .actions) kinds path k ≡ (ltb (getD path k 0) (t .actions) && centreAction t (getD path k 0))
+      same k true e = rw (e, isk .centre (getD path k 0) (ltb-true _ _ e))
+      same k false e = rw e
+
+  -- what a path that fits has
+  pub fits-short : pathFits t path ≡ true → length path ≤ 4095
+  unfolding pathFits
+  fits-short e = leb-true _ _ (and-out (leb (length path) 4095) _ e .0)
+
+  pub fits-centred : pathFits t path ≡ true → Centred t path
+  unfolding pathFits
+  fits-centred e k l =
+      let w = and-out (ltb (getD path k 0) (t .actions)) (centreAction t (getD path k 0)) (all-out (length path) _ (and-out (leb (length path) 4095) _ e .1) k l) in
+      (ltb-true _ _ (w .0), w .1)
+
+-- ---- words
+
+-- one word more is copied
+pub copy-more : (d s : List ℕ) (j : ℕ) → j < length d → j < length s → set (take j s ++ drop j d) j (getD s j 0) ≡ take (j + 1) s ++ drop (j + 1) d
+copy-more d s j hd hs =
+    ap (λ r. set (take j s ++ r) j (getD s j 0)) (drop-cons d j 0 hd)
+    ∙ set-at (take j s) (getD d j 0) (drop (suc j) d) (getD s j 0) j (length-take-le j s (omega arith))
+    ∙ sym (append-snoc (take j s) (getD s j 0) (drop (suc j) d))
+    ∙ ap (λ xs. xs ++ drop (suc j) d) (sym (take-suc s j 0 hs))
+    ∙ rw add-one
+
+-- ---- prices with words behind them
+
+module _ (t : Task) (P R : List ℕ) (full : length P ≡ allStates t) where
+  -- a leaf's prices
+  part-front : (i : ℕ) → i < t .leaves → leafPart t i (P ++ R) ≡ leafPart t i P
+  unfolding leafPart
+  part-front i l =
+      let f = base-fits t i l in
+      rw (
+        drop-append-le (base t i) P R (omega arith),
+        take-append-le (states t (suc i)) (drop (base t i) P) R (simp length-drop (omega arith)),
+      )
+
+  -- the next layer
+  next-front : (c : Centre) (a : ℕ) → nextPrices t c a (P ++ R) ≡ nextPrices t c a P
+  unfolding nextPrices
+  next-front c a = joined-ext (t .leaves) _ _ (λ i l. rw (part-front i l))
+
+  -- whether an action applies
+  applies-front : (c : Centre) (a : ℕ) → appliesTo t c (P ++ R) a ≡ appliesTo t c P a
+  unfolding appliesTo
+  applies-front c a = ap (λ b. centreMeets (factor t) (condition t a) c && b) (all-ext (t .leaves) _ _ (λ i l. rw (part-front i l)))
+
+-- ---- the walk
+
+-- the layer of these prices
+abbrev pub front : Task → Centre → List ℕ → Layer
+front t spot P = record { spot = spot; prices = take (allStates t) P }
+
+-- the centre state behind effects that are listed
+pub after-list : (fac : ℕ → ℕ) (q : Partial) (c : Centre)
+    (qs : List ℕ) → ((v : ℕ) → v < 32 → getD qs v 0 ≡ q v) → centreAfter fac (λ v. getD qs v 0) c ≡ centreAfter fac q c
+unfolding centreAfter
+after-list fac q c qs h = ap {B = Centre} (λ xs. record { values = xs }) (list-ext 32 _ _ (λ v l. rw (h v l)))
+
+module _ (t : Task) (b : Board) (f : Fits t b) where
+  -- the first layer
+  pub walk-first : (starts : List ℕ) (spot : Centre) (rest new : List ℕ) → ((i : ℕ) → i < t .leaves → getD starts i 0 ≡ number t (suc i) (initial t))
+      → spot ≡ centre t (initial t) → new ≡ firstOn b starts spot ++ rest → front t spot new ≡ firstLayer t
+  walk-first starts spot rest new s c e =
+      let e′ : new ≡ firstPrices t ++ rest = e ∙ rw c (ap (λ xs. xs ++ rest) (first-on t b f starts s)) in
+      rw (c, e′, take-at (firstPrices t) rest (allStates t) (first-length t))
+
+  module _ (spot : Centre) (a : ℕ) (old : List ℕ) (w : Walked) (new : List ℕ) (known : a < t .actions) (long : allStates t ≤ length old)
+      (effects : List ℕ) (is : t .effects ≡ effects) (s : Stepped b effects spot a old w new) where
+    -- the prices at the front, and the words behind them
+    whole : take (allStates t) old ++ drop (allStates t) old ≡ old
+    whole = take-append-drop (allStates t) old
+
+    full : length (take (allStates t) old) ≡ allStates t
+    full = length-take-le (allStates t) old long
+
+    -- whether the action applies to the layer
+    applied-is : w .ends ≡ appliesTo t spot (take (allStates t) old) a
+    applied-is =
+        s .applied
+        ∙ applies-on t b f spot old a known
+        ∙ ap (λ xs. appliesTo t spot xs a) (sym whole)
+        ∙ applies-front t (take (allStates t) old) (drop (allStates t) old) full spot a
+
+    -- the layer behind it
+    prices-is : w .ends ≡ true → take (allStates t) new ≡ nextPrices t (w .spot) a (take (allStates t) old)
+    prices-is e =
+        let (rest, q) = s .written e in
+        let n : nextOn b (w .spot) a old ≡ nextPrices t (w .spot) a old = next-on t b f (w .spot) a old known in
+        let m = next-length t (w .spot) a old in
+        let r = row-on t b f in
+        let h : take (allStates t) new ≡ nextPrices t (w .spot) a old =
+        rw (q, r, n, take-at (nextPrices t (w .spot) a old) rest (allStates t) m, take-at (nextPrices t (w .spot) a old) (drop (allStates t) old) (allStates t) m) in
+        h ∙ ap (nextPrices t (w .spot) a) (sym whole) ∙ next-front t (take (allStates t) old) (drop (allStates t) old) full (w .spot) a
+
+    spot-is : w .ends ≡ true → w .spot ≡ nextCentre t a spot
+    spot-is e = rw (f .factors-is, ← is) at (s .behind e)
+
+    -- a turn of the walk, where the action applies
+    pub turn-on : w .ends ≡ true → (p : List ℕ) → walk t (front t spot old) (a ∷ p) ≡ walk t (front t (w .spot) new) p
+    unfolding nextLayer
+    turn-on e p = walk-next t (front t spot old) a p (sym applied-is ∙ e) ∙ rw (prices-is e, ← spot-is e)
+
+    -- and where it does not
+    pub turn-off : w .ends ≡ false → (p : List ℕ) → walk t (front t spot old) (a ∷ p) ≡ stuck
+    unfolding walk
+    turn-off e p = let n : appliesTo t spot (take (allStates t) old) a ≡ false = sym applied-is ∙ e in rw (n, walk)
+
+-- what the tests of a turn tell
+module _ (b : Board) (effects : List ℕ) (spot : Centre) (a : ℕ) (old : List ℕ) where
+  -- the action does not apply
+  pub stepped-not : {c : Centre} {new : List ℕ} → appliesOn b spot old a ≡ false → Stepped b effects spot a old (record { ends = false; spot = c }) new
+  stepped-not e = record { applied = sym e; behind = λ h. absurd (true≢false (sym h)); written = λ h. absurd (true≢false (sym h)) }
+
+  -- it applies: the centre state behind its effects, and the next prices copied to the front
+  pub stepped-on : {c : Centre} (pairs rest : List ℕ) {next new : List ℕ} → appliesOn b spot old a ≡ true
+      → c ≡ centreAfter (λ v. getD (b .factors) v 0) (λ v. getD pairs v 0) spot → pairs ≡ list 32 (λ v. getD effects (a * 32 + v) 0)
+      → next ≡ nextOn b c a old ++ rest → new ≡ take (rowOn b) next ++ drop (rowOn b) old
+      → Stepped b effects spot a old (record { ends = true; spot = c }) new
+  stepped-on {c} pairs rest e f g h k =
+      record {
+        applied = sym e;
+        behind = λ _. f ∙ after-list (λ v. getD (b .factors) v 0) (λ v. getD effects (a * 32 + v) 0) spot pairs (λ v l. rw g (list-at 32 (λ v. getD effects (a * 32 + v) 0) v l));
+        written = λ _. (rest, rw h at k);
+      }
+
+-- an entry more of a path
+pub path-more : (path : List ℕ) (k : ℕ) → k < length path → drop k path ≡ getD path k 0 ∷ drop (k + 1) path
+path-more path k l = rw (add-one, drop-cons path k 0 l)
+
+-- a walk at its path's end
+pub walk-end : (t : Task) (l : Layer) (path : List ℕ) (k : ℕ) → length path ≤ k → walk t l (drop k path) ≡ ends l
+unfolding walk
+walk-end t l path k h = rw (drop-of-length-le path h)
+
+-- where a walk by the tables stands behind k entries of the path: what is left goes where the whole goes
+abbrev pub AlongBy : Board → List ℕ → List ℕ → Centre → List ℕ → Centre → List ℕ → ℕ → Type 0
+AlongBy b effects path first₀ P₀ spot P k = (t : Task) → Fits t b → t .effects ≡ effects → walk t (front t spot P) (drop k path) ≡ walk t (front t first₀ P₀) path
+
+module _ (b : Board) (effects path : List ℕ) (spot₀ : Centre) (P₀ : List ℕ) (spot : Centre) (P : List ℕ) (k : ℕ) (w : Walked) (Q : List ℕ)
+    (l : k < length path) (known : getD path k 0 < b .actions) (long : rowOn b ≤ length P) (s : Stepped b effects spot (getD path k 0) P w Q)
+    (h : AlongBy b effects path spot₀ P₀ spot P k) where
+  -- the entry applies
+  pub along-more : w .ends ≡ true → AlongBy b effects path spot₀ P₀ (w .spot) Q (k + 1)
+  along-more e t f q =
+      let known′ : getD path k 0 < t .actions = omega (arith, f .actions-is) in
+      let long′ : allStates t ≤ length P = omega (arith, row-on t b f) in
+      sym (turn-on t b f spot (getD path k 0) P w Q known′ long′ effects q s e (drop (k + 1) path))
+      ∙ ap (walk t (front t spot P)) (sym (path-more path k l))
+      ∙ h t f q
+
+  -- it does not
+  pub along-stuck : w .ends ≡ false → (t : Task) → Fits t b → t .effects ≡ effects → stuck ≡ walk t (front t spot₀ P₀) path
+  along-stuck e t f q =
+      let known′ : getD path k 0 < t .actions = omega (arith, f .actions-is) in
+      let long′ : allStates t ≤ length P = omega (arith, row-on t b f) in
+      sym (turn-off t b f spot (getD path k 0) P w Q known′ long′ effects q s e (drop (k + 1) path))
+      ∙ ap (walk t (front t spot P)) (sym (path-more path k l))
+      ∙ h t f q
+
+-- ---- the tables
+
+-- each leaf's initial state is one of its states
+pub start-in : (t : Task) (ok : Valid t) (b : Board) → Fits t b → (starts : List ℕ) → Starts t starts → (i : ℕ) → i < t .leaves → getD starts i 0 < statesOn b i
+start-in t ok b f starts s i l = omega (arith, s .is i l, number-lt t (suc i) (ok .fields .initial-inside), states-on t b f i l)
+
+-- S by the table of bases
+pub row-of : (t : Task) (bases : List ℕ) → Bases t bases → getD bases (t .leaves) 0 ≡ allStates t
+unfolding base allStates
+row-of t bases s = s .is (t .leaves) (omega arith)
+
+-- the moves of the largest task
+pub moves-fit : (t : Task) → Valid t → t .actions * allStates t ≤ 261120
+moves-fit t ok = omega (arith, mul-le-mul-right (allStates t) (ok .fields .few-actions), ok .whole .few-all-states)
+
+-- ---- the answers, step by step
+
+module _ (t : Task) (path out : List ℕ) where
+  -- 12
+  pub task-wrong : pathFits t path ≡ false → refuse PathWrong out ≡ taskPrices t path out
+  unfolding taskPrices
+  task-wrong e = rw e
+
+  -- 21
+  pub task-short : pathFits t path ≡ true → length out < allStates t → refuse SliceShort out ≡ taskPrices t path out
+  unfolding taskPrices
+  task-short e h = rw (e, lt-leb (allStates t) (length out) h)
+
+  -- what the walk says
+  pub task-end : {o : Outcome} → pathFits t path ≡ true → allStates t ≤ length out → o ≡ atEnd t out (walk t (firstLayer t) path) → o ≡ taskPrices t path out
+  unfolding taskPrices
+  task-end e h q = rw (e, le-leb (allStates t) (length out) h) q
+
+module _ (t : Task) (out : List ℕ) (w : Walked) where
+  -- 13
+  pub end-stuck : (P : List ℕ) (n : End) → walked w P ≡ n → w .ends ≡ false → refuse NotApplicable out ≡ atEnd t out n
+  end-stuck P n f e = rw (← f, e)
+
+  -- prices
+  pub end-prices : (L ws : List ℕ) (n : End) (s : ℕ) → walked w (take (allStates t) L) ≡ n → w .ends ≡ true → s ≡ allStates t → ws ≡ take s L ++ drop s out
+      → _≡_ {A = Outcome} (record { answer = Prices s; words = ws }) (atEnd t out n)
+  end-prices L ws n s f e q h = rw (← f, e, h, q)
+
+-- ---- what the words say
+
+module _ (t : Task) (ok : Valid t) (path : List ℕ) (fits : length path ≤ 4095) (centred : Centred t path) (l : Layer) (e : walk t (firstLayer t) path ≡ ends l) (rest : List ℕ) where
+  -- a leaf state's price in the words
+  word-is : (i x : ℕ) → i < t .leaves → x < states t (suc i) → priceIn t (l .prices ++ rest) i x ≡ getD (leafPart t i (l .prices)) x mark
+  unfolding leafPart base
+  word-is i x m h =
+      let g = base-fits t i m in
+      let n = walk-full t ok path fits centred l e in
+      List·getD-append (l .prices) rest mark (base t i + x) (omega arith)
+      ∙ sym (getD-take (states t (suc i)) (drop (base t i) (l .prices)) x mark h ∙ getD-drop (base t i) (l .prices) x mark)
+
+  -- demand 2 of the words
+  pub priced-words : Priced t path mark (priceIn t (l .prices ++ rest))
+  priced-words = record { reached = reached; least = least }
+    where
+      w : Priced t path mark (λ i x. getD (leafPart t i (l .prices)) x mark)
+      w = walk-priced t ok path fits centred l e
+
+      sums : (xs : ℕ → ℕ) → Choice t xs
+          → sum (t .leaves) (λ i. priceIn t (l .prices ++ rest) i (xs i)) ≡ sum (t .leaves) (λ i. getD (leafPart t i (l .prices)) (xs i) mark)
+      sums xs c = sum-ext (t .leaves) _ _ (λ i m. word-is i (xs i) m (c i m))
+
+      reached : (xs : ℕ → ℕ) → Choice t xs → ((i : ℕ) → i < t .leaves → priceIn t (l .prices ++ rest) i (xs i) < mark)
+          → (acts : List ℕ) × (EndsAt t path xs acts × (leafCost t acts ≡ sum (t .leaves) (λ i. priceIn t (l .prices ++ rest) i (xs i))))
+      reached xs c h =
+          let (acts, r) = w .reached xs c (λ i m. rw (← word-is i (xs i) m (c i m)) (h i m)) in
+          (acts, (r .0, r .1 ∙ sym (sums xs c)))
+
+      least : (xs : ℕ → ℕ) (acts : List ℕ) → EndsAt t path xs acts
+          → ((i : ℕ) → i < t .leaves → priceIn t (l .prices ++ rest) i (xs i) < mark)
+          × (sum (t .leaves) (λ i. priceIn t (l .prices ++ rest) i (xs i)) ≤ leafCost t acts)
+      least xs acts z =
+          let inside = final-inside t ok (initial t) acts (ok .fields .initial-inside) (z .along .carries) in
+          let c : Choice t xs = λ i m. rw (← z .chosen i m) (number-lt t (suc i) inside) in
+          let r = w .least xs acts z in
+          (λ i m. rw (word-is i (xs i) m (c i m)) (r .0 i m), rw (sums xs c) (r .1))
+
+-- ---- what the answers say
+
+module _ (t : Task) (out : List ℕ) where
+  -- 13 is answered where the path fits and its walk is stuck
+  stuck-13 : (b d : Bool) (n : End) → unless b PathWrong out (unless d SliceShort out (atEnd t out n)) .answer ≡ Refused NotApplicable → (b ≡ true) × (n ≡ stuck)
+  stuck-13 true true stuck e = (refl, refl)
+  stuck-13 true true (ends l) e = absurd (let z : _≡_ {A = ℕ} 0 1 = cc in omega arith)
+  stuck-13 true false n e = absurd (let z : _≡_ {A = ℕ} 0 1 = cc in omega arith)
+  stuck-13 false d n e = absurd (let z : _≡_ {A = ℕ} 0 1 = cc in omega arith)
+
+  -- prices are answered where the path fits and its walk ends: the last layer's
+  ends-prices : (b d : Bool) (n : End) {m : ℕ} → unless b PathWrong out (unless d SliceShort out (atEnd t out n)) .answer ≡ Prices m
+      → (b ≡ true) × ((l : Layer) × ((n ≡ ends l) × (unless b PathWrong out (unless d SliceShort out (atEnd t out n)) .words ≡ l .prices ++ drop (allStates t) out)))
+  ends-prices true true (ends l) e = (refl, (l, (refl, refl)))
+  ends-prices true true stuck e = absurd (let z : _≡_ {A = ℕ} 0 1 = cc in omega arith)
+  ends-prices true false n e = absurd (let z : _≡_ {A = ℕ} 0 1 = cc in omega arith)
+  ends-prices false d n e = absurd (let z : _≡_ {A = ℕ} 0 1 = cc in omega arith)
+
+  module _ (ok : Valid t) (path : List ℕ) where
+    -- "A centre path is refused 13 only where no action sequence has just those centre actions in that order."
+    pub task-13 : taskPrices t path out .answer ≡ Refused NotApplicable → NoSequence t path
+    unfolding taskPrices
+    task-13 e =
+        let (f, s) = stuck-13 (pathFits t path) (leb (allStates t) (length out)) (walk t (firstLayer t) path) e in
+        walk-stuck t ok path (fits-short t path f) (fits-centred t path f) s
+
+    -- "A choice of one leaf state per leaf is priced exactly when such a sequence ends there, and the prices add up to the least leaf cost of
+    -- doing so."
+    pub task-priced : (n : ℕ) → taskPrices t path out .answer ≡ Prices n → Priced t path mark (priceIn t (taskPrices t path out .words))
+    unfolding taskPrices
+    task-priced n e =
+        let (f, (l, (s, q))) = ends-prices (pathFits t path) (leb (allStates t) (length out)) (walk t (firstLayer t) path) e in
+        rw q (priced-words t ok path (fits-short t path f) (fits-centred t path f) l s (drop (allStates t) out))
+
+module _ (rec path out : List ℕ) where
+  -- the same of a record
+  pub outcome-13 : pricesOf rec path out .answer ≡ Refused NotApplicable → NoSequence (readRecord rec .task) path
+  unfolding pricesOf
+  outcome-13 = go (readRecord rec .verdict) refl
+    where
+      go : (v : Verdict) → readRecord rec .verdict ≡ v → onVerdict v (readRecord rec .task) path out .answer ≡ Refused NotApplicable → NoSequence (readRecord rec .task) path
+      go Accepted q e = task-13 (readRecord rec .task) out (accepted-valid rec q) path e
+      go (NotAccepted why) q e = absurd (let z : _≡_ {A = ℕ} 0 1 = cc in omega arith)
+
+  pub outcome-priced : (n : ℕ) → pricesOf rec path out .answer ≡ Prices n → Priced (readRecord rec .task) path mark (priceIn (readRecord rec .task) (pricesOf rec path out .words))
+  unfolding pricesOf
+  outcome-priced n = go (readRecord rec .verdict) refl
+    where
+      go : (v : Verdict) → readRecord rec .verdict ≡ v → onVerdict v (readRecord rec .task) path out .answer ≡ Prices n
+          → Priced (readRecord rec .task) path mark (priceIn (readRecord rec .task) (onVerdict v (readRecord rec .task) path out .words))
+      go Accepted q e = task-priced (readRecord rec .task) out (accepted-valid rec q) path n e
+      go (NotAccepted why) q e = absurd (let z : _≡_ {A = ℕ} 0 1 = cc in omega arith)
+
+  -- a refused record
+  pub record-refused : {why : Refusal} → readRecord rec .verdict ≡ NotAccepted why → refuse (InRecord why) out ≡ pricesOf rec path out
+  unfolding pricesOf
+  record-refused e = rw e
+
+  -- an accepted one
+  pub record-accepted : {o : Outcome} → readRecord rec .verdict ≡ Accepted → o ≡ taskPrices (readRecord rec .task) path out → o ≡ pricesOf rec path out
+  unfolding pricesOf
+  record-accepted e q = rw e q
+
+  -- what the answer says
+  pub outcome-says : (r : PriceAnswer) (ws : List ℕ) → _≡_ {A = Outcome} (record { answer = r; words = ws }) (pricesOf rec path out)
+      → _≡_ {A = Outcome} (record { answer = r; words = ws }) (pricesOf rec path out)
+      × ((r ≡ Refused NotApplicable → NoSequence (readRecord rec .task) path)
+      × ((n : ℕ) → r ≡ Prices n → Priced (readRecord rec .task) path mark (priceIn (readRecord rec .task) ws)))
+  outcome-says r ws e =
+      let a : r ≡ pricesOf rec path out .answer = ap (λ (o : Outcome). o .answer) e in
+      let w : ws ≡ pricesOf rec path out .words = ap (λ (o : Outcome). o .words) e in
+      (e, (λ q. outcome-13 (sym a ∙ q), λ n q. rw w (outcome-priced n (sym a ∙ q))))
