@@ -24,7 +24,7 @@ use Rattle.pricer.specs.declared.PriceAnswer.{PriceAnswer}
 use Rattle.pricer.specs.declared.PriceAnswer.the-variants.{Prices, Refused}
 use Rattle.tables.specs.Tables.{Bases, Starts, Costs, Kinds, Moves}
 use Rattle.pricer.specs.declared.Walked.{Walked}
-use Rattle.price.specs.Path.{Layer, End, ends, stuck, firstLayer, walk}
+use Rattle.price.specs.Path.{End, ends, stuck, firstLayer, walk}
 
 -- "For paths: 12 longer than 4,095, or an entry not a centre action; 13 an entry that doesn't apply. 21 price slice too short."
 abbrev pub refusalNumber : PriceRefusal → ℕ

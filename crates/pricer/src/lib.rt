@@ -191,7 +191,7 @@ fn walk_path(
         layer,
     );
     for k in 0..path.len() {
-        let w = advance(
+        let turn = advance(
             leaves,
             actions,
             bases,
@@ -205,10 +205,10 @@ fn walk_path(
             path[k] as usize,
             layer,
         );
-        if !w.ends {
-            return w;
+        if !turn.ends {
+            return turn;
         }
-        spot = w.spot;
+        spot = turn.spot;
     }
     Walked { ends: true, spot }
 }

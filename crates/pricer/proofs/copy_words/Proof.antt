@@ -1,5 +1,5 @@
 -- `pricer::copy_words` meets its contract: after i turns the first i words are copied. Assumes nothing.
-use Prim.Native.Nat.{_≤_, _<_, _-_}
+use Prim.Native.Nat.{_≤_, _-_}
 use mathlib.Core.Path.{_≡_, _∙_}
 use mathlib.Core.List.{_++_}
 use native.Mathlib.Omega.{arith}

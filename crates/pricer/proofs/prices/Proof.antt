@@ -1,5 +1,5 @@
 -- `pricer::prices` meets its contract: what the reader accepts is priced, and what the answer says of sequences follows. Assumes nothing.
-use mathlib.Core.Path.{_≡_, ap, sym, _∙_}
+use mathlib.Core.Path.{ap, sym, _∙_}
 use denote.Ref.{now}
 use borrow.Author.Needs.{needs}
 use Rattle.pricer.specs.Pricer.{taskPrices}

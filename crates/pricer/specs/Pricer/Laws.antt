@@ -1,12 +1,12 @@
 -- Laws of the pricer: the test of the path, a walk by the tables turn by turn, and what its answers say of sequences. Assumes nothing.
 use mathlib.Core.Path.{_≡_, refl, sym, ap, _∙_}
 use mathlib.Core.Bool.{Bool, true, false, _&&_, true≢false}
-use mathlib.Core.List.{List, [], _∷_, _++_}
+use mathlib.Core.List.{List, _∷_, _++_}
 use Prim.Native.Nat.{ℕ, suc, _+_, _*_, _≤_, _<_}
 use native.Mathlib.Numerals.{add-one}
 use native.Mathlib.Nat.{mul-le-mul-right}
 use native.Mathlib.Omega.{arith}
-use lib.Dec.{ltb, leb, eqb}
+use lib.Dec.{ltb, leb}
 use lib.ListN.{length, getD, set, take, drop, length-drop, take-append-drop, drop-of-length-le, List·getD-append}
 use lib.Seq.{length-take-le, take-append-le, drop-append-le, take-at, take-suc, drop-cons, set-at, append-snoc, getD-take, getD-drop}
 use borrow.Author.Tests.{ltb-true, le-ltb, lt-leb, le-leb, leb-true, ne-eqb}
@@ -14,7 +14,7 @@ use Rattle.loops.specs.Count.{all, sum, list}
 use Rattle.loops.specs.Count.Laws.{and-in, and-out, all-out, all-not, all-ext, sum-ext, list-at, list-ext}
 use Rattle.task.specs.declared.Task.{Task}
 use Rattle.task.specs.declared.Centre.{Centre}
-use Rattle.task.specs.Meaning.{Partial, initial, factor, condition, effect, final}
+use Rattle.task.specs.Meaning.{Partial, initial, factor, condition}
 use Rattle.task.specs.Factors.{centreAction, number, states, allStates, leafCost}
 use Rattle.task.specs.Centre.{centre, centreMeets, centreAfter}
 use Rattle.task.specs.Valid.{Valid}
