@@ -82,7 +82,7 @@ loop-again c =
       refl,
       omega arith,
       relaxed .relax .kept .0 ∙ l .inv .2,
-      length-set (l .done) x 1 ∙ l .inv .3,
+      simp length-set (l .inv .3),
       rw (relaxed .relax .ensures)
           (sym (settle-on mark _ _ _ (l .prices) (l .done) _ (l .k) x (t .loop-test .taken) (sym (here .before .pick .ensures) ∙ is) of-leaf) ∙ l .inv .4),
     )
