@@ -4,7 +4,7 @@ pub mod Laws
 use mathlib.Core.Path.{_≡_}
 use mathlib.Core.Bool.{Bool, true, false, cond, _&&_}
 use mathlib.Core.List.{List, _++_}
-use Prim.Native.Nat.{ℕ, suc, _+_, _*_, _≤_}
+use Prim.Native.Nat.{ℕ, suc, _+_, _*_}
 use lib.Dec.{ltb, leb, eqb}
 use lib.ListN.{length, getD, take, drop}
 use Rattle.loops.specs.Count.{all, sum}
@@ -22,7 +22,6 @@ use Rattle.pricer.specs.declared.PriceRefusal.{PriceRefusal}
 use Rattle.pricer.specs.declared.PriceRefusal.the-variants.{InRecord, PathWrong, SliceShort, NotApplicable}
 use Rattle.pricer.specs.declared.PriceAnswer.{PriceAnswer}
 use Rattle.pricer.specs.declared.PriceAnswer.the-variants.{Prices, Refused}
-use Rattle.tables.specs.Tables.{Bases, Starts, Costs, Kinds, Moves}
 use Rattle.pricer.specs.declared.Walked.{Walked}
 use Rattle.price.specs.Path.{End, ends, stuck, firstLayer, walk}
 
@@ -92,12 +91,3 @@ pub record Stepped (b : Board) (effects : List ℕ) (spot : Centre) (a : ℕ) (o
   pub applied : w .ends ≡ appliesOn b spot old a
   pub behind : w .ends ≡ true → w .spot ≡ centreAfter (λ v. getD (b .factors) v 0) (λ v. getD effects (a * 32 + v) 0) spot
   pub written : w .ends ≡ true → (rest : List ℕ) × (new ≡ take (rowOn b) (nextOn b (w .spot) a old ++ rest) ++ drop (rowOn b) old)
-
--- the tables of a task
-pub record Tabled (t : Task) (bases moves costs kinds starts : List ℕ) : Type 0 where
-  pub is-bases : Bases t bases
-  pub is-moves : Moves t moves
-  pub long-moves : t .actions * allStates t ≤ length moves
-  pub is-costs : Costs t costs
-  pub is-kinds : Kinds t kinds
-  pub is-starts : Starts t starts

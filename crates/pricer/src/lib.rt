@@ -14,8 +14,8 @@ use tables::leaf_starts;
 use task::Centre;
 use task::Task;
 use whole::Verdict;
+use words::copy_words;
 ghost use mathlib.Core.Path.{_≡_};
-ghost use mathlib.Core.List.{_++_};
 ghost use Prim.Native.Nat.{ℕ, _<_, _≤_};
 ghost use lib.ListN.{length, getD, take, drop};
 ghost use Rattle.task.specs.declared.Task.{Task};
@@ -25,12 +25,12 @@ ghost use Rattle.record.specs.Record.{readRecord};
 ghost use Rattle.layer.specs.Layer.{mark};
 ghost use Rattle.layer.specs.Board.{Sound};
 ghost use Rattle.layer.specs.Lent.{boardOf};
-ghost use Rattle.tables.specs.Tables.{Bases, Kinds};
+ghost use Rattle.tables.specs.Tables.{Bases, Kinds, Tabled};
 ghost use Rattle.price.specs.Path.{firstLayer, walk};
 ghost use Rattle.price.specs.Demand.{NoSequence, Priced};
 ghost use Rattle.pricer.specs.declared.PriceAnswer.the-variants.{Prices, Refused};
 ghost use Rattle.pricer.specs.declared.PriceRefusal.the-variants.{NotApplicable};
-ghost use Rattle.pricer.specs.Pricer.{Outcome, refusalNumber, atEnd, taskPrices, pricesOf, walked, fitsBy, Stepped, Tabled, priceIn};
+ghost use Rattle.pricer.specs.Pricer.{Outcome, refusalNumber, atEnd, taskPrices, pricesOf, walked, fitsBy, Stepped, priceIn};
 
 // Why no prices are given: the record's own refusals, then 12, 21, 13.
 pub enum PriceRefusal {
@@ -82,16 +82,6 @@ fn path_fits(path: &[u8], kinds: &[u8], actions: usize) -> bool
         }
     }
     true
-}
-
-// The first `count` words of `from`, at the front of `into`.
-fn copy_words(from: &[u64], into: &mut [u64], count: usize)
-    requires { ⌜ (count ≤ length (now from)) × (count ≤ length (now into)) ⌝ }
-    ensures { λ _. ⌜ now (into .exit) ≡ take count (now (from .entry)) ++ drop count (now (into .entry)) ⌝ }
-{
-    for i in 0..count {
-        into[i] = from[i];
-    }
 }
 
 // One centre action of the walk: whether it applies, and where it does the centre state behind it, with the prices behind it at the front of `layer`.

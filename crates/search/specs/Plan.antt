@@ -7,6 +7,8 @@ pub mod WayBack
 pub mod Stages
 pub mod Reaches
 pub mod Found
+pub mod Backwards
+pub mod Laid
 use mathlib.Core.Bool.{Bool, true, false, cond, _&&_}
 use mathlib.Core.List.{List, [], _∷_, _++_}
 use Prim.Native.Nat.{ℕ, zero, suc, _+_}

@@ -1,4 +1,4 @@
--- Numbers stay small: what a node has paid, its key and its goal cost are below 2^36 where its path has at most 4,095 actions, so no sum of them
+-- Numbers stay small: what a node has paid, its key and its goal cost are below 2^36 where its path has at most 4,096 actions, so no sum of them
 -- wraps. Assumes nothing.
 use mathlib.Core.Path.{_≡_}
 use mathlib.Core.Bool.{true}
@@ -28,8 +28,8 @@ use Rattle.search.specs.Made.{Made, made-sound}
 abbrev pub Live : Task → Layer → Type 0
 Live t l = (i : ℕ) → i < t .leaves → (x : ℕ) × ((x < states t (suc i)) × (price t l i x < mark))
 
--- terms of 4,096 rises at most, in a sum of n
-pub sum-small : (n : ℕ) (f : ℕ → ℕ) → ((i : ℕ) → i < n → f i ≤ 4096 * rise) → sum n f ≤ n * (4096 * rise)
+-- terms of 4,097 rises at most, in a sum of n
+pub sum-small : (n : ℕ) (f : ℕ → ℕ) → ((i : ℕ) → i < n → f i ≤ 4097 * rise) → sum n f ≤ n * (4097 * rise)
 unfolding sum
 sum-small zero f h = omega arith
 sum-small (suc n) f h = omega (arith, sum-small n f (λ i l. h i (omega arith)), h n (omega arith))
@@ -65,21 +65,21 @@ module _ (t : Task) (ok : Valid t) where
   path-cost [] c = omega arith
   path-cost (a ∷ p) c = omega (arith, path-cost p (λ k n. c (suc k) (omega arith)), ok .fields .cost-bound a (c 0 (omega arith) .0))
 
-  module _ (u : ℕ) (n : Node) (few : u < 4096) (m : Made t u n) where
+  module _ (u : ℕ) (n : Node) (few : u ≤ 4096) (m : Made t u n) where
     -- each leaf has a reachable state in the node
     pub made-live : Live t (layerOf n)
     made-live = walk-live (m .path) (firstLayer t) (layerOf n) (m .centred) first-live (m .walked)
 
-    -- no price below the mark is above 4,096 rises
-    pub made-price : (i : ℕ) → i < t .leaves → (x : ℕ) → price t (layerOf n) i x < mark → price t (layerOf n) i x ≤ 4096 * rise
+    -- no price below the mark is above 4,097 rises
+    pub made-price : (i : ℕ) → i < t .leaves → (x : ℕ) → price t (layerOf n) i x < mark → price t (layerOf n) i x ≤ 4097 * rise
     made-price i l x h = omega (arith, made-sound t ok u n m .small i l x h)
 
     -- what the node has paid
-    pub made-paid : n .paid ≤ 4095 * 4807
+    pub made-paid : n .paid ≤ 4096 * 4807
     made-paid = omega (arith, m .spent, path-cost (m .path) (m .centred), m .short)
 
     -- a leaf's least price
-    pub made-least : (i : ℕ) → i < t .leaves → leastOf (leafPart t i (n .prices)) ≤ 4096 * rise
+    pub made-least : (i : ℕ) → i < t .leaves → leastOf (leafPart t i (n .prices)) ≤ 4097 * rise
     made-least i l =
         let (x, (_, h)) = made-live i l in
         omega (arith, leastOf-le (leafPart t i (n .prices)) x, made-price i l x h)
@@ -94,7 +94,7 @@ module _ (t : Task) (ok : Valid t) where
     unfolding goalCost
     made-goal g = omega (arith, made-paid, sum-small (t .leaves) (λ i. leastOf (goalPrices t i n)) low, ok .fields .few-leaves)
       where
-        low : (i : ℕ) → i < t .leaves → leastOf (goalPrices t i n) ≤ 4096 * rise
+        low : (i : ℕ) → i < t .leaves → leastOf (goalPrices t i n) ≤ 4097 * rise
         low i l =
             let (b, (x, (_, _, q))) = isGoal-out t n g .1 i l in
             omega (arith, made-price i l x (omega arith))

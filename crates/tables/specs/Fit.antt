@@ -1,26 +1,27 @@
 -- The tables of a valid task fit the task and can be indexed: what the layers and the search ask of them. Assumes nothing.
-use mathlib.Core.Path.{_≡_, refl, sym, _∙_}
-use mathlib.Core.Bool.{Bool, true, false, true≢false}
+use mathlib.Core.Path.{_≡_, refl, sym, ap, _∙_}
+use mathlib.Core.Bool.{Bool, true, false, not, _||_, true≢false}
 use mathlib.Core.Logic.{_⊎_, inl, inr}
 use mathlib.Core.List.{List}
 use Prim.Native.Nat.{ℕ, zero, suc, _+_, _-_, _*_, _≤_, _<_}
 use native.Mathlib.Numerals.{add-one}
+use native.Mathlib.Nat.{zero-add}
 use native.Mathlib.Omega.{arith}
 use native.Mathlib.Decide.{ℕ-discrete}
 use lib.Dec.{eqb}
-use lib.ListN.{length, getD}
+use lib.ListN.{length, getD, replicate, getD-replicate}
 use borrow.Author.Tests.{eq-eqb, ne-eqb}
 use Rattle.loops.specs.Count.{sum}
-use Rattle.loops.specs.Count.Laws.{or-in-left, or-in-right, any-in, sum-more}
+use Rattle.loops.specs.Count.Laws.{or-in-left, or-in-right, any-in, all-ext, sum-more}
 use Rattle.task.specs.declared.Task.{Task}
-use Rattle.task.specs.Meaning.{size, factor, condition, effect}
-use Rattle.task.specs.Factors.{starPairs, centreAction, leafAction, states, allStates, to}
+use Rattle.task.specs.Meaning.{free, met, size, factor, goal, condition, effect}
+use Rattle.task.specs.Factors.{starPairs, centreAction, leafAction, states, allStates, valuesOf, holdsIn, meetsIn, gate, to}
 use Rattle.task.specs.Valid.{Valid}
 use Rattle.task.specs.Star.{leaf-not-centre, leaf-one, to-in}
 use Rattle.layer.specs.Layer.{base}
 use Rattle.layer.specs.Board.{Board, Sound, Fits}
-use Rattle.tables.specs.Moves.{Small}
-use Rattle.tables.specs.Tables.{KindIs, Bases, Costs, Kinds, Moves}
+use Rattle.tables.specs.Moves.{Small, toWith}
+use Rattle.tables.specs.Tables.{entriesFrom, startOf, Row, KindIs, Bases, Costs, Kinds, Moves, Goals}
 
 -- ---- kinds
 
@@ -77,6 +78,41 @@ small-is t ok a la i l =
       sized = λ v m. omega (arith, ok .fields .size-low v m);
       inside = ok .fields .effect-in a la;
       few = ok .whole .few-states i l;
+    }
+
+-- ---- goals
+
+-- what an action makes of a state is 0 just where the test fails
+gate-none : (b : Bool) (y : ℕ) {x : ℕ} → x ≡ gate b y → eqb x 0 ≡ not b
+gate-none true y e = rw e (ne-eqb (suc y) 0 (λ q. omega arith))
+gate-none false y e = rw e (eq-eqb 0 0 refl)
+
+-- an action with no effects makes small numbers
+pub still-small : (t : Task) → Valid t → (i : ℕ) → i < t .leaves → Small (t .variables) (factor t) (size t) (entriesFrom 0 (replicate 32 free)) (suc i)
+unfolding states
+still-small t ok i l =
+    record {
+      sized = λ v m. omega (arith, ok .fields .size-low v m);
+      inside = λ v m. inl (rw zero-add (getD-replicate 32 v free 0 (omega (arith, ok .fields .few-variables))));
+      few = ok .whole .few-states i l;
+    }
+
+-- the goal's pairs as conditions that are counted from 0 on
+goal-counted : (t : Task) (i x : ℕ)
+    → holdsIn (t .variables) (factor t) (suc i) (entriesFrom 0 (t .goal)) (valuesOf t (suc i) x) ≡ meetsIn t (suc i) (goal t) (valuesOf t (suc i) x)
+unfolding meetsIn holdsIn
+goal-counted t i x = all-ext (t .variables) _ _ (λ v l. ap (λ k. not (eqb (factor t v) (suc i)) || met (getD (t .goal) k 0) (valuesOf t (suc i) x v)) (zero-add v))
+
+-- it passes just where its conditions, the goal's pairs, are met
+pub goals-are : (t : Task) (xs : List ℕ) → length xs ≡ 1024
+    → Row (t .variables) (factor t) (size t) (entriesFrom 0 (t .goal)) (entriesFrom 0 (replicate 32 free)) 0 (t .leaves) xs → Goals t xs
+unfolding startOf base states valuesOf toWith
+goals-are t xs e row =
+    record {
+      long = e;
+      is = λ i x l m.
+          gate-none (holdsIn (t .variables) (factor t) (suc i) (entriesFrom 0 (t .goal)) (valuesOf t (suc i) x)) _ (simp zero-add at (row i x l m))
+          ∙ ap not (goal-counted t i x);
     }
 
 -- ---- the board

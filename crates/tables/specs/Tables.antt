@@ -1,7 +1,7 @@
 -- The tables of a task, each entry by what it stands for.
 pub mod Laws
 use mathlib.Core.Path.{_≡_}
-use mathlib.Core.Bool.{true}
+use mathlib.Core.Bool.{true, not}
 use mathlib.Core.Logic.{_⊎_}
 use mathlib.Core.List.{List}
 use Prim.Native.Nat.{ℕ, suc, _+_, _*_, _≤_, _<_}
@@ -9,8 +9,8 @@ use lib.Dec.{eqb}
 use lib.ListN.{length, getD}
 use Rattle.loops.specs.Count.{sum}
 use Rattle.task.specs.declared.Task.{Task}
-use Rattle.task.specs.Meaning.{Partial, initial, cost}
-use Rattle.task.specs.Factors.{touches, leafPairs, statesTo, centreAction, leafAction, number, states, allStates, to}
+use Rattle.task.specs.Meaning.{Partial, initial, goal, cost}
+use Rattle.task.specs.Factors.{touches, leafPairs, statesTo, centreAction, leafAction, number, states, allStates, valuesOf, meetsIn, to}
 use Rattle.layer.specs.Layer.{base}
 use Rattle.tables.specs.Moves.{toWith}
 
@@ -87,3 +87,17 @@ pub record Kinds (t : Task) (kinds : List ℕ) : Type 0 where
 -- what each action makes of each leaf state: a row of S entries for each action
 abbrev pub Moves : Task → List ℕ → Type 0
 Moves t moves = (i a x : ℕ) → i < t .leaves → a < t .actions → x < states t (suc i) → getD moves (a * allStates t + (base t i + x)) 0 ≡ to t (suc i) a x
+
+-- not 0 at each leaf state that meets the goal's pairs on its leaf
+pub record Goals (t : Task) (goals : List ℕ) : Type 0 where
+  pub long : length goals ≡ 1024
+  pub is : (i x : ℕ) → i < t .leaves → x < states t (suc i) → eqb (getD goals (base t i + x) 0) 0 ≡ not (meetsIn t (suc i) (goal t) (valuesOf t (suc i) x))
+
+-- the tables of a task
+pub record Tabled (t : Task) (bases moves costs kinds starts : List ℕ) : Type 0 where
+  pub is-bases : Bases t bases
+  pub is-moves : Moves t moves
+  pub long-moves : t .actions * allStates t ≤ length moves
+  pub is-costs : Costs t costs
+  pub is-kinds : Kinds t kinds
+  pub is-starts : Starts t starts

@@ -10,7 +10,7 @@ ghost use Rattle.task.specs.Meaning.{met};
 ghost use Rattle.task.specs.Factors.{numberTo, starPairs, statesTo, allStates};
 ghost use Rattle.task.specs.Valid.{Valid};
 ghost use Rattle.tables.specs.Moves.{Small, Steps, toWith, stepped, valueAfter};
-ghost use Rattle.tables.specs.Tables.{entries, entriesFrom, Each, Filled, Placed, Same, KindIs, Row, Rows, Bases, Starts, Costs, Kinds, Moves, startOf};
+ghost use Rattle.tables.specs.Tables.{entries, entriesFrom, Each, Filled, Placed, Same, KindIs, Row, Rows, Bases, Starts, Costs, Kinds, Moves, Goals, startOf};
 
 // ---- where each leaf's states begin
 
@@ -400,4 +400,32 @@ pub fn fill_moves(task: Task, bases: [usize; 9], moves: &mut [u16])
         actions,
         moves,
     );
+}
+
+// Not 0 at each leaf state that meets the goal: what an action makes of it whose conditions are the goal's pairs, and that has no effects.
+pub fn leaf_goals(task: Task, bases: [usize; 9]) -> [u16; 1024]
+    requires { ⌜ Valid task ⌝ }
+    requires { ⌜ Bases task bases ⌝ }
+    ensures { λ r. ⌜ Goals task r ⌝ }
+{
+    let sizes = task.sizes;
+    let factors = task.factors;
+    let goal = task.goal;
+    let variables = task.variables as usize;
+    let leaves = task.leaves as usize;
+    let none = [FREE; 32];
+    let mut goals = [0u16; 1024];
+    fill_action(
+        &sizes,
+        &factors,
+        &goal,
+        &none,
+        &bases,
+        variables,
+        leaves,
+        0,
+        0,
+        &mut goals,
+    );
+    goals
 }

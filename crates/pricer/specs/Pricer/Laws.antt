@@ -7,8 +7,8 @@ use native.Mathlib.Numerals.{add-one}
 use native.Mathlib.Nat.{mul-le-mul-right}
 use native.Mathlib.Omega.{arith}
 use lib.Dec.{ltb, leb}
-use lib.ListN.{length, getD, set, take, drop, length-drop, take-append-drop, drop-of-length-le, List·getD-append}
-use lib.Seq.{length-take-le, take-append-le, drop-append-le, take-at, take-suc, drop-cons, set-at, append-snoc, getD-take, getD-drop}
+use lib.ListN.{length, getD, take, drop, length-drop, take-append-drop, drop-of-length-le, List·getD-append}
+use lib.Seq.{length-take-le, take-append-le, drop-append-le, take-at, drop-cons, getD-take, getD-drop}
 use borrow.Author.Tests.{ltb-true, le-ltb, lt-leb, le-leb, leb-true, ne-eqb}
 use Rattle.loops.specs.Count.{all, sum, list}
 use Rattle.loops.specs.Count.Laws.{and-in, and-out, all-out, all-not, all-ext, sum-ext, list-at, list-ext}
@@ -92,17 +92,6 @@ module _ (t : Task) (path : List ℕ) where
   fits-centred e k l =
       let w = and-out (ltb (getD path k 0) (t .actions)) (centreAction t (getD path k 0)) (all-out (length path) _ (and-out (leb (length path) 4095) _ e .1) k l) in
       (ltb-true _ _ (w .0), w .1)
-
--- ---- words
-
--- one word more is copied
-pub copy-more : (d s : List ℕ) (j : ℕ) → j < length d → j < length s → set (take j s ++ drop j d) j (getD s j 0) ≡ take (j + 1) s ++ drop (j + 1) d
-copy-more d s j hd hs =
-    ap (λ r. set (take j s ++ r) j (getD s j 0)) (drop-cons d j 0 hd)
-    ∙ set-at (take j s) (getD d j 0) (drop (suc j) d) (getD s j 0) j (length-take-le j s (omega arith))
-    ∙ sym (append-snoc (take j s) (getD s j 0) (drop (suc j) d))
-    ∙ ap (λ xs. xs ++ drop (suc j) d) (sym (take-suc s j 0 hs))
-    ∙ rw add-one
 
 -- ---- prices with words behind them
 

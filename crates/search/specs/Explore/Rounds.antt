@@ -31,7 +31,7 @@ module _ (t : Task) (nodes : ℕ) where
   -- ---- the start
 
   -- a search of no nodes has what every search has
-  base-none : Base t nodes (record { kept = []; done = []; begun = 0; best = 0 })
+  pub base-none : Base t nodes (record { kept = []; done = []; begun = 0; best = 0 })
   base-none =
       record {
         even = refl;
@@ -64,7 +64,7 @@ module _ (t : Task) (nodes : ℕ) where
   -- ---- a round
 
   -- the search whose next expansion has begun has what every search has
-  begin-base : (x : ℕ) (s : Search) → Base t nodes s → Base t nodes (begin x s)
+  pub begin-base : (x : ℕ) (s : Search) → Base t nodes s → Base t nodes (begin x s)
   unfolding begin belowBest
   begin-base x s b = record { even = length-set (s .done) x 1 ∙ b .even; room = b .room; made = b .made; best-in = b .best-in; goals = b .goals }
 

@@ -73,7 +73,7 @@ tightTo-out t l P a x y q = go (to t l a x) refl
 -- ---- where depths begin
 
 -- depth 0 at the states that have kept the price that they began with
-abbrev depth0 : List ℕ → List ℕ → List ℕ
+abbrev pub depth0 : List ℕ → List ℕ → List ℕ
 depth0 B P = list (length P) (λ x. cond (ltb (getD P x mark) mark && eqb (getD B x mark) (getD P x mark)) 0 mark)
 
 module _ (B P : List ℕ) where
@@ -99,7 +99,7 @@ module _ (B P : List ℕ) where
       go (no h) = inr (List·getD-eq-default (depth0 B P) mark (rw list-length (omega arith)))
 
   -- what is not at the mark has kept its price
-  depth0-out : (x : ℕ) → getD (depth0 B P) x mark < mark → (getD (depth0 B P) x mark ≡ 0) × (getD P x mark < mark) × (getD B x mark ≡ getD P x mark)
+  pub depth0-out : (x : ℕ) → getD (depth0 B P) x mark < mark → (getD (depth0 B P) x mark ≡ 0) × (getD P x mark < mark) × (getD B x mark ≡ getD P x mark)
   depth0-out x h = go (depth0-cases x)
     where
       go : ((getD (depth0 B P) x mark ≡ 0) × (getD P x mark < mark) × (getD B x mark ≡ getD P x mark)) ⊎ (getD (depth0 B P) x mark ≡ mark)
@@ -108,7 +108,7 @@ module _ (B P : List ℕ) where
       go (inr e) = absurd (omega arith)
 
   -- no depth is above the mark
-  depth0-cap : Capped mark (depth0 B P)
+  pub depth0-cap : Capped mark (depth0 B P)
   depth0-cap x = go (depth0-cases x)
     where
       go : {q : ℕ} → ((q ≡ 0) × (getD P x mark < mark) × (getD B x mark ≡ getD P x mark)) ⊎ (q ≡ mark) → q ≤ mark

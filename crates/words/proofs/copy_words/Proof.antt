@@ -1,13 +1,13 @@
--- `pricer::copy_words` meets its contract: after i turns the first i words are copied. Assumes nothing.
+-- `words::copy_words` meets its contract: after i turns the first i words are copied. Assumes nothing.
 use Prim.Native.Nat.{_≤_, _-_}
 use mathlib.Core.Path.{_≡_, _∙_}
 use mathlib.Core.List.{_++_}
 use native.Mathlib.Omega.{arith}
 use lib.ListN.{length, take, drop, length-set}
 use borrow.Author.Needs.{needs}
-use Rattle.pricer.specs.Pricer.Laws.{copy-more}
-use Rattle.pricer.proofs.copy_words.Statement.{statement}
-use Rattle.pricer.proofs.copy_words.Tie as tie
+use Rattle.words.specs.Words.{copy-more}
+use Rattle.words.proofs.copy_words.Statement.{statement}
+use Rattle.words.proofs.copy_words.Tie as tie
 
 abbrev Inv-loop : tie.InvT-loop
 Inv-loop from into₀ count i₀ into i = (i ≤ count) × (length into ≡ length into₀) × (into ≡ take i from ++ drop i into₀)

@@ -1,0 +1,173 @@
+-- `explore::explore` meets its contract: before each round what is left of the search is the whole, and each begins another expansion. Assumes nothing.
+use Prim.Native.Nat.{suc, _+_, _-_, _≤_}
+use mathlib.Core.Path.{_≡_, refl, sym, _∙_}
+use native.Mathlib.Nat.{mul-le-mul-right}
+use native.Mathlib.Omega.{arith}
+use denote.Ref.{now}
+use lib.ListN.{length, getD}
+use borrow.Author.Needs.{needs}
+use Rattle.task.specs.Factors.{allStates}
+use Rattle.layer.specs.Board.{Board, Sound}
+use Rattle.layer.specs.Board.Laws.{row-on}
+use Rattle.layer.specs.Lent.{boardOf}
+use Rattle.explore.specs.declared.Round.the-variants.{Goes}
+use Rattle.explore.specs.Held.{Suits, Room}
+use Rattle.explore.specs.Held.Start.{tables-suit}
+use Rattle.explore.specs.Held.Rounds.{Ahead, AheadBy, Rounded, ahead-start, ahead-begun, ahead-count}
+use Rattle.explore.proofs.explore.Statement.{statement}
+use Rattle.explore.proofs.explore.Tie as tie
+
+abbrev Inv-loop : tie.InvT-loop
+Inv-loop bases moves costs kinds starts goals nodes budget table₀ keys₀ leaves actions factors goal conditions effects run₀ table keys run =
+    (length table ≡ length table₀) × (length keys ≡ 4096)
+    × AheadBy (boardOf leaves actions bases moves costs kinds factors conditions) effects goals goal nodes budget table₀ keys₀ run₀ table keys run
+
+abbrev μ-loop : tie.MeasureT-loop
+μ-loop bases moves costs kinds starts goals nodes budget table₀ keys₀ leaves actions factors goal conditions effects run₀ table keys run = suc nodes - run .begun
+
+-- the Board of the task
+abbrev board : tie.Start Inv-loop μ-loop → Board
+board s =
+    let a = s .args in
+    boardOf (a .task .leaves) (a .task .actions) (now (a .bases)) (now (a .moves)) (now (a .costs)) (now (a .kinds)) (a .task .factors) (a .task .conditions)
+
+-- the lengths of the task's lists
+lists : (s : tie.Start Inv-loop μ-loop) → let t = s .args .task in (length (t .factors) ≡ 32) × (length (t .conditions) ≡ 8192) × (length (t .effects) ≡ 8192)
+lists s = (search needs, search needs, search needs)
+
+-- the Board is that of the task, and can be indexed
+fit : (s : tie.Start Inv-loop μ-loop) → Suits (s .args .task) (board s) (s .args .task .effects) (now (s .args .goals)) (s .args .task .goal) × Sound (board s)
+fit s =
+    let a = s .args in
+    tables-suit (a .task) (s .pre .0) (now (a .bases)) (now (a .moves)) (now (a .costs)) (now (a .kinds)) (now (a .starts)) (now (a .goals))
+    (s .pre .1 .0 .0) (s .pre .1 .0 .1) (lists s .0) (lists s .1)
+
+-- the start, seen from the loop
+abbrev first : tie.At-loop Inv-loop μ-loop → tie.Start Inv-loop μ-loop
+first l = l .before .before .before .before .before .before .before .before .before .before .before .before .before .before .before .before .before .before .before .before .before .before
+
+-- before each round the rest of the task's search is ahead
+ahead : (l : tie.At-loop Inv-loop μ-loop) → let a = first l .args in
+    Ahead (a .task) (a .nodes) (a .budget) (allStates (a .task)) (l .loop .table) (l .loop .keys) (l .loop .run)
+ahead l =
+    let s = first l in
+    let f = l .before .before .before .before .before .start in
+    l .loop .inv .2 (s .args .task) (fit s .0)
+    (ahead-start (s .args .task) (s .args .nodes) (s .args .budget) (allStates (s .args .task)) (f .last .1 .1 .1 .1 .1 .1 .1 .0) (f .last .1 .1 .1 .1 .1 .1 .1 .1 .0) (f .result)
+    (s .pre .1 .1 .0) (f .ensures .0) (f .ensures .1))
+
+-- the table is as long as it was
+long : (l : tie.At-loop Inv-loop μ-loop) → length (l .loop .table) ≡ length (now (first l .args .table))
+long l =
+    let kept : length (l .before .before .before .before .before .start .last .1 .1 .1 .1 .1 .1 .1 .0) ≡ length (now (first l .args .table)) = l .before .before .before .before .before .start .kept .1 .1 .1 .1 .1 .1 .1 .0 in
+    l .loop .inv .0 ∙ kept
+
+-- there is room for the nodes
+room : (l : tie.At-loop Inv-loop μ-loop) → let a = first l .args in
+    Room (getD (now (a .bases)) (a .task .leaves) 0) (a .nodes) (l .loop .table) (l .loop .keys) (l .loop .run)
+room l =
+    let s = first l in
+    let w = fit s in
+    let row = row-on (s .args .task) (board s) (w .0 .fits) in
+    record {
+      few-states = w .1 .few-all;
+      few-nodes = s .pre .1 .1 .1;
+      table-long = rw (row, long l) (s .pre .1 .1 .2);
+      open-long = l .loop .inv .1;
+      count-few = ahead-count (s .args .task) (s .pre .0) (s .args .nodes) (s .pre .1 .1 .1) (s .args .budget) (allStates (s .args .task)) (l .loop .table) (l .loop .keys) (l .loop .run) (ahead l);
+    }
+
+-- no more expansions have begun than there are nodes
+few : (l : tie.At-loop Inv-loop μ-loop) → l .loop .run .begun ≤ first l .args .nodes
+few l =
+    let s = first l in
+    ahead-begun (s .args .task) (s .pre .0) (s .args .nodes) (s .pre .1 .1 .1) (s .args .budget) (allStates (s .args .task)) (l .loop .table) (l .loop .keys) (l .loop .run) (ahead l)
+
+cast-leaves : tie.Need-cast-leaves Inv-loop μ-loop
+cast-leaves c = search needs
+
+cast-actions : tie.Need-cast-actions Inv-loop μ-loop
+cast-actions c = search needs
+
+start-requires : tie.Need-start-requires Inv-loop μ-loop
+start-requires c κs =
+    let s = c .before .before .before .before .before .before .before .before .before .before .before .before .before .before .before .before in
+    let row = mul-le-mul-right {m = 1} {n = s .args .nodes + 1} (40 + allStates (s .args .task)) (omega arith) in
+    (s .pre .0, (s .pre .1 .0, (omega (arith, row, s .pre .1 .1 .2), s .pre .1 .1 .3)))
+
+loop-holds : tie.Need-loop-holds Inv-loop μ-loop
+loop-holds c =
+    let s = c .before .before .before .before .before .before .before .before .before .before .before .before .before .before .before .before .before .before .before .before .before in
+    let kept : length (c .before .before .before .before .start .last .1 .1 .1 .1 .1 .1 .1 .1 .0) ≡ length (now (s .args .keys)) = c .before .before .before .before .start .kept .1 .1 .1 .1 .1 .1 .1 .1 .0 in
+    (refl, kept ∙ s .pre .1 .1 .3, λ t f a. a)
+
+slice-aggregate-next-round : tie.Need-slice-aggregate-next-round Inv-loop μ-loop
+slice-aggregate-next-round c = sym (lists (first (c .before)) .1)
+
+slice-aggregate-next-round-2 : tie.Need-slice-aggregate-next-round-2 Inv-loop μ-loop
+slice-aggregate-next-round-2 c = sym (lists (first (c .before .before)) .2)
+
+next-round-requires : tie.Need-next-round-requires Inv-loop μ-loop
+next-round-requires c κs =
+    let l = c .before .before .before .before in
+    let s = first l in
+    (fit s .1, ((lists s .2, s .pre .1 .0 .1 .long, omega (arith, few l, s .pre .1 .1 .1)), room l))
+
+enum-known-round : tie.Need-enum-known-round Inv-loop μ-loop
+enum-known-round c = search needs
+
+same-length : tie.Need-same-length Inv-loop μ-loop
+same-length c =
+    let kept : length (c .before .before .before .before .before .before .before .next-round .last .1 .1 .1 .1 .1 .1 .1 .1 .1 .1 .1 .1 .1 .0) ≡ length (c .before .before .before .before .before .before .before .before .before .before .before .before .loop .table) = c .before .before .before .before .before .before .before .next-round .kept .1 .1 .1 .1 .1 .1 .1 .1 .1 .1 .1 .1 .1 .0 in
+    kept ∙ long (c .before .before .before .before .before .before .before .before .before .before .before .before)
+
+same-length-2 : tie.Need-same-length-2 Inv-loop μ-loop
+same-length-2 c =
+    let kept : length (c .before .before .before .before .before .before .before .next-round .last .1 .1 .1 .1 .1 .1 .1 .1 .1 .1 .1 .1 .1 .1 .0) ≡ length (c .before .before .before .before .before .before .before .before .before .before .before .before .loop .keys) = c .before .before .before .before .before .before .before .next-round .kept .1 .1 .1 .1 .1 .1 .1 .1 .1 .1 .1 .1 .1 .1 .0 in
+    kept ∙ c .before .before .before .before .before .before .before .before .before .before .before .before .loop .inv .1 ∙ sym (first (c .before .before .before .before .before .before .before .before .before .before .before .before) .pre .1 .1 .3)
+
+returns : tie.Need-returns Inv-loop μ-loop
+returns c =
+    let l = c .before .before .before .before .before .before .before .before .before .before .before .before in
+    let s = first l in
+    rw (c .before .round .given .1) at (c .before .before .before .before .before .before .before .next-round .ensures (s .args .task) (fit s .0) (ahead l))
+
+enum-known-round-2 : tie.Need-enum-known-round-2 Inv-loop μ-loop
+enum-known-round-2 c = search needs
+
+loop-less : tie.Need-loop-less Inv-loop μ-loop
+loop-less c =
+    let l = c .before .before .before .before .before .before .before .before .before .before .before .before in
+    let s = first l in
+    let told : Rounded (s .args .task) (s .args .nodes) (s .args .budget) (l .loop .run .begun) (allStates (s .args .task)) (c .before .before .before .before .before .before .before .next-round .last .1 .1 .1 .1 .1 .1 .1 .1 .1 .1 .1 .1 .1 .0) (c .before .before .before .before .before .before .before .next-round .last .1 .1 .1 .1 .1 .1 .1 .1 .1 .1 .1 .1 .1 .1 .0) (Goes (c .before .round2 .given .0 .0)) =
+    rw (c .before .round2 .given .1) at (c .before .before .before .before .before .before .before .next-round .ensures (s .args .task) (fit s .0) (ahead l)) in
+    omega (arith, told .1, few l)
+
+loop-again : tie.Need-loop-again Inv-loop μ-loop
+loop-again c =
+    let l = c .before .before .before .before .before .before .before .before .before .before .before .before in
+    let n = c .before .before .before .before .before .before .before .next-round in
+    let table-kept : length (n .last .1 .1 .1 .1 .1 .1 .1 .1 .1 .1 .1 .1 .1 .0) ≡ length (l .loop .table) = n .kept .1 .1 .1 .1 .1 .1 .1 .1 .1 .1 .1 .1 .1 .0 in
+    let open-kept : length (n .last .1 .1 .1 .1 .1 .1 .1 .1 .1 .1 .1 .1 .1 .1 .0) ≡ length (l .loop .keys) = n .kept .1 .1 .1 .1 .1 .1 .1 .1 .1 .1 .1 .1 .1 .1 .0 in
+    (table-kept ∙ l .loop .inv .0, open-kept ∙ l .loop .inv .1, λ t f a. (rw (c .before .round2 .given .1) at (n .ensures t f (l .loop .inv .2 t f a))) .0)
+
+pub explore-spec : {M : Type 1} → statement M
+explore-spec =
+    tie.close
+    (tie.spec
+    Inv-loop
+    μ-loop
+    cast-leaves
+    cast-actions
+    start-requires
+    loop-holds
+    slice-aggregate-next-round
+    slice-aggregate-next-round-2
+    next-round-requires
+    enum-known-round
+    same-length
+    same-length-2
+    returns
+    enum-known-round-2
+    loop-less
+    loop-again)

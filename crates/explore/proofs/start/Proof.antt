@@ -1,0 +1,123 @@
+-- `explore::start` meets its contract: the first layer's prices by tables are node 0's, and node 0 is kept. Assumes nothing.
+use mathlib.Core.Path.{_≡_, ap, sym, _∙_}
+use native.Mathlib.Omega.{arith}
+use denote.Ref.{now}
+use lib.ListN.{length, getD, drop, replicate}
+use borrow.Author.Needs.{needs}
+use Rattle.task.specs.Meaning.{factor, initial}
+use Rattle.task.specs.Centre.{centreAfter}
+use Rattle.task.specs.Star.{initial-centre}
+use Rattle.layer.specs.Layer.{mark}
+use Rattle.layer.specs.Board.{Board, Sound}
+use Rattle.layer.specs.Board.Laws.{row-on}
+use Rattle.layer.specs.Lent.{boardOf}
+use Rattle.nodes.specs.Scan.{Cut}
+use Rattle.explore.specs.Held.{Suits}
+use Rattle.explore.specs.Held.Start.{sound-cut, tables-suit, start-in, start-is}
+use Rattle.explore.proofs.start.Statement.{statement}
+use Rattle.explore.proofs.start.Tie as tie
+
+-- the Board of the task
+abbrev board : tie.Start → Board
+board s =
+    let a = s .args in
+    boardOf (a .task .leaves) (a .task .actions) (now (a .bases)) (now (a .moves)) (now (a .costs)) (now (a .kinds)) (a .task .factors) (a .task .conditions)
+
+-- the lengths of the task's lists
+lists : (s : tie.Start) → (length (s .args .task .factors) ≡ 32) × (length (s .args .task .conditions) ≡ 8192)
+lists s = (search needs, search needs)
+
+-- the Board is that of the task, and can be indexed
+fit : (s : tie.Start) → Suits (s .args .task) (board s) (s .args .task .effects) (now (s .args .goals)) (s .args .task .goal) × Sound (board s)
+fit s =
+    let a = s .args in
+    tables-suit (a .task) (s .pre .0) (now (a .bases)) (now (a .moves)) (now (a .costs)) (now (a .kinds)) (now (a .starts)) (now (a .goals))
+    (s .pre .1 .0 .0) (s .pre .1 .0 .1) (lists s .0) (lists s .1)
+
+-- the first layer's prices are cut into leaves
+cut : (c : tie.After-first-layer) → let s = c .before .before .before .before .before .before .before .before .before .before .before .before .before .before .before .before .before .before .before in
+    Cut (s .args .task .leaves) (now (s .args .bases)) (length (c .first-layer .last .1 .1 .1 .1 .1 .1 .1 .1 .1 .1 .0))
+cut c =
+    let s = c .before .before .before .before .before .before .before .before .before .before .before .before .before .before .before .before .before .before .before in
+    let kept : length (c .first-layer .last .1 .1 .1 .1 .1 .1 .1 .1 .1 .1 .0) ≡ 1024 = c .first-layer .kept .1 .1 .1 .1 .1 .1 .1 .1 .1 .1 .0 in
+    sound-cut (board s) (fit s .1) _ (omega (arith, fit s .1 .few-all))
+
+cast-leaves : tie.Need-cast-leaves
+cast-leaves c = search needs
+
+cast-actions : tie.Need-cast-actions
+cast-actions c = search needs
+
+blank-requires : tie.Need-blank-requires
+blank-requires c κs = search needs
+
+after-requires : tie.Need-after-requires
+after-requires c κs = search needs
+
+slice-aggregate-first-layer : tie.Need-slice-aggregate-first-layer
+slice-aggregate-first-layer c = sym (lists (c .before .before .before .before .before .before .before .before .before .before .before .before .before .before .before .before .before) .1)
+
+slice-aggregate-first-layer-2 : tie.Need-slice-aggregate-first-layer-2
+slice-aggregate-first-layer-2 c = search needs
+
+first-layer-requires : tie.Need-first-layer-requires
+first-layer-requires c κs =
+    let s = c .before .before .before .before .before .before .before .before .before .before .before .before .before .before .before .before .before .before in
+    let t = s .args .task in
+    let w = fit s in
+    let h = s .pre .1 .0 .0 .is-starts in
+    (w .1, w .1 .few-all, omega (arith, s .pre .0 .fields .few-leaves, h .long), start-in t (s .pre .0) (board s) (w .0 .fits) (now (s .args .starts)) h)
+
+slice-aggregate-key-of : tie.Need-slice-aggregate-key-of
+slice-aggregate-key-of c = search needs
+
+key-of-requires : tie.Need-key-of-requires
+key-of-requires c κs = cut (c .before .before)
+
+slice-aggregate-keep : tie.Need-slice-aggregate-keep
+slice-aggregate-keep c = search needs
+
+keep-requires : tie.Need-keep-requires
+keep-requires c κs =
+    let s = c .before .before .before .before .before .before .before .before .before .before .before .before .before .before .before .before .before .before .before .before .before .before .before .before .before in
+    let w = fit s in (
+      (cut (c .before .before .before .before .before .before), sound-cut (board s) (w .1) (length (now (s .args .goals))) (omega (arith, w .1 .few-all, s .pre .1 .0 .1 .long))),
+      (w .1 .few-all, omega arith, omega (arith, row-on (s .args .task) (board s) (w .0 .fits), s .pre .1 .1 .0), s .pre .1 .1 .1),
+    )
+
+same-length : tie.Need-same-length
+same-length c = search needs
+
+same-length-2 : tie.Need-same-length-2
+same-length-2 c = search needs
+
+returns : tie.Need-returns
+returns c =
+    let s = c .before .before .before .before .before .before .before .before .before .before .before .before .before .before .before .before .before .before .before .before .before .before .before .before .before .before .before .before .before .before in
+    let a = s .args in
+    let t = a .task in
+    let f = c .before .before .before .before .before .before .before .before .before .before .before .first-layer in
+    let k = c .before .before .before .before .keep in
+    let spot = c .before .before .before .before .before .before .before .before .before .before .before .before .before .before .after .ensures ∙ ap (centreAfter (factor t) (initial t)) (c .before .before .before .before .before .before .before .before .before .before .before .before .before .before .before .blank .ensures) ∙ initial-centre t (s .pre .0) in
+    start-is t (board s) (t .effects) (now (a .goals)) (t .goal) (fit s .0) (now (a .starts)) (s .pre .1 .0 .0 .is-starts) (c .before .before .before .before .before .before .before .before .before .before .before .before .before .before .after .result) (drop (getD (now (a .bases)) (t .leaves) 0) (replicate 1024 mark)) (f .last .1 .1 .1 .1 .1 .1 .1 .1 .1 .1 .0)
+    spot (f .ensures) (now (a .table)) (now (a .keys)) (k .last .1 .1 .1 .1 .1 .1 .1 .1 .1 .1 .1 .0) (k .last .1 .1 .1 .1 .1 .1 .1 .1 .1 .1 .1 .1 .0) (k .result)
+    (c .before .before .before .before .before .before .before .before .key-of .result) (s .pre .1 .1 .1) (c .before .before .before .before .before .before .before .before .key-of .ensures) (k .ensures)
+
+pub start-spec : {M : Type 1} → statement M
+start-spec =
+    tie.close
+    (tie.spec
+    cast-leaves
+    cast-actions
+    blank-requires
+    after-requires
+    slice-aggregate-first-layer
+    slice-aggregate-first-layer-2
+    first-layer-requires
+    slice-aggregate-key-of
+    key-of-requires
+    slice-aggregate-keep
+    keep-requires
+    same-length
+    same-length-2
+    returns)

@@ -1,0 +1,142 @@
+-- The search that the lent table, the open keys and the counts hold.
+pub mod Laws
+pub mod Turns
+pub mod Rounds
+pub mod Start
+use mathlib.Core.Path.{_≡_}
+use mathlib.Core.Bool.{true, cond}
+use mathlib.Core.Logic.{_⊎_}
+use mathlib.Core.List.{List}
+use Prim.Native.Nat.{ℕ, suc, _+_, _*_, _≤_, _<_}
+use lib.Dec.{ltb, eqb}
+use lib.ListN.{length, getD, set, take}
+use Rattle.loops.specs.Count.{list}
+use Rattle.task.specs.declared.Task.{Task}
+use Rattle.task.specs.declared.Centre.{Centre}
+use Rattle.task.specs.Valid.{Valid}
+use Rattle.layer.specs.Layer.{mark, base}
+use Rattle.layer.specs.Board.{Board, Fits, rowOn}
+use Rattle.tables.specs.Tables.{Goals}
+use Rattle.search.specs.Node.{Node, key, goalCost}
+use Rattle.search.specs.Explore.{Search, Reason, finished, tableFull, budgetSpent, Stopped, Turn, on, full, offer, turn, Expanded, through, filled}
+use Rattle.search.specs.Explore.Laws.{Base}
+use Rattle.search.specs.Made.{Made}
+use Rattle.nodes.specs.Row.{nodeIn, nodesIn}
+use Rattle.explore.specs.declared.Run.{Run}
+use Rattle.explore.specs.declared.Turned.{Turned}
+use Rattle.explore.specs.declared.Stop.{Stop}
+use Rattle.explore.specs.declared.Why.{Why}
+use Rattle.explore.specs.declared.Why.the-variants.{Finished, TableFull, BudgetSpent}
+
+-- the search in the table T (rows of 40 + S words), with the open keys O: a node's key, or the mark once its expansion has begun
+unfoldable pub searchOf : ℕ → List ℕ → List ℕ → Run → Search
+searchOf S T O r =
+    record {
+      kept = nodesIn S T (r .count);
+      done = list (r .count) (λ u. cond (eqb (getD O u 0) mark) 1 0);
+      begun = r .begun;
+      best = r .best;
+    }
+
+-- each open key is its node's key, and the best cost is the goal cost of best's node, the mark where there is none
+pub record Cached (t : Task) (S : ℕ) (T O : List ℕ) (r : Run) : Type 0 where
+  pub keys : (u : ℕ) → u < r .count → (getD O u 0 ≡ mark) ⊎ (getD O u 0 ≡ key t (nodeIn S T u))
+  pub none : r .best ≡ 0 → r .«best_cost» ≡ mark
+  pub some : (u : ℕ) → r .best ≡ suc u → r .«best_cost» ≡ goalCost t (nodeIn S T u)
+
+-- the tables are those of the task
+pub record Suits (t : Task) (b : Board) (effects goals goalPairs : List ℕ) : Type 0 where
+  pub valid : Valid t
+  pub fits : Fits t b
+  pub effects-is : effects ≡ t .effects
+  pub goals-is : Goals t goals
+  pub goal-is : goalPairs ≡ t .goal
+
+-- the tables that offering a node reads are those of the task
+pub record Scans (t : Task) (leaves : ℕ) (bases goals factors goalPairs : List ℕ) : Type 0 where
+  pub valid : Valid t
+  pub leaves-is : leaves ≡ t .leaves
+  pub bases-is : (i : ℕ) → i ≤ t .leaves → getD bases i 0 ≡ base t i
+  pub factors-is : factors ≡ t .factors
+  pub goals-is : Goals t goals
+  pub goal-is : goalPairs ≡ t .goal
+
+-- the lent table has room for the nodes and one row more
+pub record Room (S nodes : ℕ) (T O : List ℕ) (r : Run) : Type 0 where
+  pub few-states : S ≤ 1024
+  pub few-nodes : nodes ≤ 4096
+  pub table-long : (nodes + 1) * (40 + S) ≤ length T
+  pub open-long : length O ≡ 4096
+  pub count-few : r .count ≤ nodes
+
+-- what a turn and an expansion say
+abbrev pub turnOf : Turned → Search → Turn
+turnOf r s = cond (r .full) full (on s)
+
+abbrev pub expandedOf : Turned → Search → Expanded
+expandedOf r s = cond (r .full) (filled s) (through s)
+
+abbrev pub reasonOf : Why → Reason
+reasonOf Finished = finished
+reasonOf TableFull = tableFull
+reasonOf BudgetSpent = budgetSpent
+
+-- why and with what the search stops
+abbrev pub stoppedOf : ℕ → List ℕ → List ℕ → Stop → Stopped
+stoppedOf S T O r = record { reason = reasonOf (r .why); search = searchOf S T O (r .run) }
+
+-- ---- a node more
+
+-- the node has this centre state, centre cost and these prices
+pub record Has (n : Node) (spot : Centre) (paid : ℕ) (P : List ℕ) : Type 0 where
+  pub spot-is : n .spot ≡ spot
+  pub paid-is : n .paid ≡ paid
+  pub prices-is : n .prices ≡ P
+
+-- the counts with one node more, whose goal cost is `cost`, the mark where it is no goal node
+abbrev pub keptRun : Run → ℕ → Run
+keptRun r cost =
+    record {
+      count = r .count + 1;
+      begun = r .begun;
+      best = cond (ltb cost (r .«best_cost»)) (r .count + 1) (r .best);
+      «best_cost» = cond (ltb cost (r .«best_cost»)) cost (r .«best_cost»);
+    }
+
+-- the table and the open keys with one node more: the node n, its key and its goal cost
+pub record Kept (S : ℕ) (T O : List ℕ) (r : Run) (n : Node) (opens cost : ℕ) (T′ O′ : List ℕ) (r′ : Run) : Type 0 where
+  pub old : (u : ℕ) → u < r .count → nodeIn S T′ u ≡ nodeIn S T u
+  pub new : nodeIn S T′ (r .count) ≡ n
+  pub keyed : O′ ≡ set O (r .count) opens
+  pub counted : r′ ≡ keptRun r cost
+
+-- ---- a turn
+
+-- what a turn leaves true whatever the task: counts do not fall, the nodes stay within `nodes`, and a full table leaves all as it was
+pub record Went (nodes : ℕ) (T O : List ℕ) (r : Run) (T′ O′ : List ℕ) (w : Turned) : Type 0 where
+  pub more : r .count ≤ w .run .count
+  pub room : w .run .count ≤ nodes
+  pub begun-is : w .run .begun ≡ r .begun
+  pub table-still : w .full ≡ true → T′ ≡ T
+  pub keys-still : w .full ≡ true → O′ ≡ O
+  pub run-still : w .full ≡ true → w .run ≡ r
+
+-- a turn came out as the search says: the search to go on with stands in the table
+pub record Stands (t : Task) (S : ℕ) (T O : List ℕ) (w : Turned) (x : Turn) : Type 0 where
+  pub said : x ≡ turnOf w (searchOf S T O (w .run))
+  pub held : Cached t S T O (w .run)
+
+-- the node n was offered, for every task whose tables these are
+pub record Offered (leaves : ℕ) (bases goals factors goalPairs : List ℕ) (nodes : ℕ) (T O : List ℕ) (r : Run) (n : Node) (T′ O′ : List ℕ) (w : Turned)
+    : Type 0 where
+  pub went : Went nodes T O r T′ O′ w
+  pub offered : (t : Task) → Scans t leaves bases goals factors goalPairs → Base t nodes (searchOf (getD bases leaves 0) T O r)
+      → Cached t (getD bases leaves 0) T O r → Made t (r .count) n
+      → Stands t (getD bases leaves 0) T′ O′ w (offer t nodes (searchOf (getD bases leaves 0) T O r) n)
+
+-- action a had its turn at node u, for every task whose tables these are; the node's parts are given, with words behind the prices
+pub record Moved (b : Board) (effects goals goalPairs : List ℕ) (nodes : ℕ) (spot : Centre) (paid : ℕ) (old : List ℕ) (u a : ℕ) (T O : List ℕ) (r : Run)
+    (T′ O′ : List ℕ) (w : Turned) : Type 0 where
+  pub went : Went nodes T O r T′ O′ w
+  pub moved : (t : Task) → Suits t b effects goals goalPairs → Base t nodes (searchOf (rowOn b) T O r) → Cached t (rowOn b) T O r
+      → Has (nodeIn (rowOn b) T u) spot paid (take (rowOn b) old) → Stands t (rowOn b) T′ O′ w (turn t nodes u a (searchOf (rowOn b) T O r))

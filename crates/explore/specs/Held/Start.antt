@@ -1,0 +1,112 @@
+-- The search at its start: node 0 kept in an empty table. Assumes nothing.
+use mathlib.Core.Path.{_≡_, refl, _∙_}
+use mathlib.Core.Bool.{true}
+use mathlib.Core.List.{List, _++_}
+use Prim.Native.Nat.{ℕ, suc, _≤_, _<_}
+use native.Mathlib.Omega.{arith}
+use lib.ListN.{length, getD, take}
+use lib.Seq.{take-at}
+use Rattle.loops.specs.Count.{list}
+use Rattle.task.specs.declared.Task.{Task}
+use Rattle.task.specs.declared.Centre.{Centre}
+use Rattle.task.specs.Meaning.{initial}
+use Rattle.task.specs.Factors.{allStates}
+use Rattle.task.specs.Centre.{centre}
+use Rattle.task.specs.Valid.{Valid}
+use Rattle.task.specs.Star.{number-lt}
+use Rattle.layer.specs.Layer.{mark, firstPrices}
+use Rattle.layer.specs.Layer.Laws.{first-length}
+use Rattle.layer.specs.Board.{Board, rowOn, statesOn, firstOn, Fits, Sound}
+use Rattle.layer.specs.Board.Laws.{states-on, row-on, first-on}
+use Rattle.layer.specs.Lent.{boardOf}
+use Rattle.tables.specs.Tables.{Starts, Goals, Tabled}
+use Rattle.tables.specs.Fit.{tables-fit}
+use Rattle.search.specs.Node.{firstNode, key, isGoal, goalCost}
+use Rattle.search.specs.Made.{Made, made-first}
+use Rattle.search.specs.Small.{made-key, made-goal}
+use Rattle.search.specs.Explore.{keep, start}
+use Rattle.search.specs.Explore.Laws.{Base}
+use Rattle.search.specs.Explore.Rounds.{base-none}
+use Rattle.nodes.specs.Row.{nodesIn, nodeWith}
+use Rattle.nodes.specs.Scan.{Cut, keyBy, goalCostBy}
+use Rattle.explore.specs.declared.Run.{Run}
+use Rattle.explore.specs.Held.{searchOf, Cached, Suits, Kept}
+use Rattle.explore.specs.Held.Laws.{key-is, goal-is, keep-is, keep-cached}
+use Rattle.explore.specs.Held.Turns.{suits-scans}
+
+-- ---- the tables
+
+-- S entries can be cut into leaves
+pub sound-cut : (b : Board) → Sound b → (n : ℕ) → rowOn b ≤ n → Cut (b .leaves) (b .bases) n
+sound-cut b s n h = record { few = s .few-leaves; long = s .bases-long; rise = s .bases-rise; fits = h }
+
+-- the tables of a valid task suit it, and can be indexed
+pub tables-suit : (t : Task) → Valid t → (bases moves costs kinds starts goals : List ℕ) → Tabled t bases moves costs kinds starts → Goals t goals
+    → length (t .factors) ≡ 32 → length (t .conditions) ≡ 8192
+    → let b = boardOf (t .leaves) (t .actions) bases moves costs kinds (t .factors) (t .conditions) in
+    Suits t b (t .effects) goals (t .goal) × Sound b
+tables-suit t ok bases moves costs kinds starts goals h g f c =
+    let w = tables-fit t ok bases moves costs kinds (h .is-bases) (h .is-moves) (h .is-costs) (h .is-kinds) (h .long-moves) f c in
+    (record { valid = ok; fits = w .0; effects-is = refl; goals-is = g; goal-is = refl }, w .1)
+
+-- each leaf's initial state is one of its states
+pub start-in : (t : Task) → Valid t → (b : Board) → Fits t b → (starts : List ℕ) → Starts t starts → (i : ℕ) → i < b .leaves
+    → getD starts i 0 < statesOn b i
+start-in t ok b f starts s i l =
+    let m : i < t .leaves = omega (arith, f .leaves-is) in
+    omega (arith, s .is i m, number-lt t (suc i) (ok .fields .initial-inside), states-on t b f i m)
+
+-- ---- a search of no nodes
+
+-- its run
+abbrev pub noRun : Run
+noRun = record { count = 0; begun = 0; best = 0; «best_cost» = mark }
+
+module _ (t : Task) (S : ℕ) (T O : List ℕ) where
+  -- it has what every search has
+  none-base : Base t 1 (searchOf S T O noRun)
+  unfolding searchOf nodesIn list
+  none-base = base-none t 1
+
+  -- it has no keys
+  none-cached : Cached t S T O noRun
+  none-cached = record { keys = λ u l. absurd (omega arith); none = λ _. refl; some = λ u e. absurd (omega arith) }
+
+  -- with node 0 it is the search at its start
+  none-start : keep t (searchOf S T O noRun) (firstNode t) ≡ start t
+  unfolding searchOf nodesIn list start
+  none-start = refl
+
+-- ---- node 0
+
+module _ (t : Task) (b : Board) (effects goals goalPairs : List ℕ) (suits : Suits t b effects goals goalPairs)
+    (starts : List ℕ) (starts-is : Starts t starts) (spot : Centre) (rest P : List ℕ) (isSpot : spot ≡ centre t (initial t)) (isPrices : P ≡ firstOn b starts spot ++ rest) where
+  -- node 0 by its parts
+  node-first : nodeWith spot 0 (take (rowOn b) P) 0 0 ≡ firstNode t
+  unfolding firstNode
+  node-first =
+      let row = row-on t b (suits .fits) in
+      let first = first-on t b (suits .fits) starts (starts-is .is) in
+      let e : take (rowOn b) P ≡ firstPrices t = rw (isPrices, isSpot, first, row) (take-at (firstPrices t) rest (allStates t) (first-length t)) in
+      rw (e, isSpot)
+
+  -- node 0 is kept: the search at its start
+  pub start-is : (T O T′ O′ : List ℕ) (r′ : Run) (opens : ℕ) → length O ≡ 4096 → opens ≡ keyBy (b .leaves) (b .bases) 0 P
+      → Kept (rowOn b) T O noRun (nodeWith spot 0 (take (rowOn b) P) 0 0) opens
+      (goalCostBy (b .leaves) (b .bases) goals (b .factors) goalPairs spot 0 P) T′ O′ r′
+      → (searchOf (allStates t) T′ O′ r′ ≡ start t) × Cached t (allStates t) T′ O′ r′
+  start-is T O T′ O′ r′ opens long own kept =
+      let row = row-on t b (suits .fits) in
+      let scans = suits-scans b effects goals goalPairs t suits in
+      let n = nodeWith spot 0 (take (rowOn b) P) 0 0 in
+      let m : Made t 0 n = rw node-first (made-first t) in
+      let isKey = own ∙ key-is t (b .leaves) (b .bases) goals (b .factors) goalPairs scans 0 n (omega arith) m P refl in
+      let isCost = goal-is t (b .leaves) (b .bases) goals (b .factors) goalPairs scans 0 n (omega arith) m P refl in
+      let small : key t n < mark = omega (arith, made-key t (suits .valid) 0 n (omega arith) m) in
+      let cheap : isGoal t n ≡ true → goalCost t n < mark = λ g. omega (arith, made-goal t (suits .valid) 0 n (omega arith) m g) in
+      let v = none-base t (rowOn b) T O in
+      let held = none-cached t (rowOn b) T O in
+      let e = keep-is t 1 (rowOn b) T O noRun n _ _ T′ O′ r′ v held kept (omega arith) isKey small isCost cheap (omega arith) in
+      let c = keep-cached t 1 (rowOn b) T O noRun n _ _ T′ O′ r′ v held kept (omega arith) isKey small isCost cheap (omega arith) in
+      let z : keep t (searchOf (rowOn b) T O noRun) n ≡ start t = rw node-first (none-start t (rowOn b) T O) in
+      (rw row at (e ∙ z), rw row at c)

@@ -1,0 +1,414 @@
+-- The cases of an offer, of a turn and of an expansion by tables, one law for each. Assumes nothing.
+use mathlib.Core.Path.{_≡_, refl, sym, ap, _∙_}
+use mathlib.Core.Bool.{Bool, true, false, not, _&&_, true≢false}
+use mathlib.Core.List.{List, _++_}
+use Prim.Native.Nat.{ℕ, suc, _+_, _-_, _*_, _≤_, _<_, min}
+use native.Mathlib.Omega.{arith}
+use borrow.Author.Tests.{lt-ltb, le-ltb, eq-eqb, ne-eqb}
+use lib.Dec.{ltb}
+use lib.ListN.{length, getD, take}
+use lib.Seq.{take-at}
+use Rattle.loops.specs.Count.{any, list}
+use Rattle.loops.specs.Count.Laws.{told-true, told-false, all-ext, list-at, list-ext}
+use Rattle.task.specs.declared.Task.{Task}
+use Rattle.task.specs.declared.Centre.{Centre}
+use Rattle.task.specs.Meaning.{Partial, factor, condition, effect, cost}
+use Rattle.task.specs.Factors.{states, allStates, centreAction}
+use Rattle.task.specs.Centre.{centreMeets, centreAfter}
+use Rattle.layer.specs.Layer.{mark, base, leafPart, nextPrices, appliesTo}
+use Rattle.layer.specs.Layer.Laws.{base-fits, next-length}
+use Rattle.layer.specs.Board.{Board, rowOn, nextOn, appliesOn}
+use Rattle.layer.specs.Board.Laws.{joined-ext, row-on, next-on, applies-on}
+use Rattle.search.specs.Node.{Node, nextNode, dominates, key, isGoal, goalCost}
+use Rattle.search.specs.Made.{Made, made-next}
+use Rattle.search.specs.Small.{made-key, made-goal, made-paid}
+use Rattle.search.specs.Explore.{Search, nodeAt, belowBest, keep, on, full, offer, turn, through, filled, expand}
+use Rattle.search.specs.Explore.Laws.{Base}
+use Rattle.search.specs.Explore.Turns.{turn-on}
+use Rattle.nodes.specs.Row.{nodeIn, nodeWith}
+use Rattle.nodes.specs.Scan.{keyBy, goalCostBy}
+use Rattle.explore.specs.declared.Run.{Run}
+use Rattle.explore.specs.declared.Turned.{Turned}
+use Rattle.explore.specs.Held.{searchOf, Cached, Suits, Scans, Room, Has, Kept, expandedOf, Went, Stands, Offered, Moved}
+use Rattle.explore.specs.Held.Laws.{part-take, kept-length, node-at, below-is, best-cap, key-is, goal-is, dominated-is, keep-is, keep-cached}
+
+-- ---- offer
+
+-- a turn that changes nothing
+went-same : (nodes : ℕ) (T O : List ℕ) (r : Run) (f : Bool) → r .count ≤ nodes → Went nodes T O r T O (record { full = f; run = r })
+went-same nodes T O r f h =
+    record { more = omega arith; room = h; begun-is = refl; table-still = λ _. refl; keys-still = λ _. refl; run-still = λ _. refl }
+
+module _ (leaves : ℕ) (bases goals factors goalPairs : List ℕ) (nodes : ℕ) (T O : List ℕ) (r : Run) (spot : Centre) (paid : ℕ) (P : List ℕ) (parent action : ℕ)
+    (few : nodes ≤ 4096) (room : r .count ≤ nodes) where
+  -- S, the node and the search
+  abbrev S : ℕ
+  S = getD bases leaves 0
+
+  abbrev node : Node
+  node = nodeWith spot paid (take S P) parent action
+
+  abbrev search : Search
+  search = searchOf S T O r
+
+  -- what holds for a task whose tables these are
+  module _ (t : Task) (scans : Scans t leaves bases goals factors goalPairs) (b : Base t nodes search) (held : Cached t S T O r) (m : Made t (r .count) node) where
+    -- the key, and that it is small
+    its-key : keyBy leaves bases paid P ≡ key t node
+    its-key = key-is t leaves bases goals factors goalPairs scans (r .count) node (omega arith) m P refl
+
+    small : key t node < mark
+    small = omega (arith, made-key t (scans .valid) (r .count) node (omega arith) m)
+
+    -- its key is below best just where it is below the best cost
+    below : belowBest t search (key t node) ≡ ltb (keyBy leaves bases paid P) (r .«best_cost»)
+    below = rw its-key (below-is t nodes S T O r b held (key t node) small)
+
+    -- whether a node kept dominates it
+    dominated : any (r .count) (λ u. dominates (nodeIn S T u) (nodeWith spot paid (take S P) 0 0))
+        ≡ any (length (search .kept)) (λ u. dominates (nodeAt t search u) node)
+    dominated = dominated-is t S T O r node (nodeWith spot paid (take S P) 0 0) refl refl refl
+
+    -- the four ends
+    said-above : r .«best_cost» ≤ keyBy leaves bases paid P → offer t nodes search node ≡ on search
+    unfolding offer
+    said-above h = rw (below ∙ le-ltb _ _ h, offer)
+
+    module _ (h : keyBy leaves bases paid P < r .«best_cost») where
+      said-dominated : any (r .count) (λ u. dominates (nodeIn S T u) (nodeWith spot paid (take S P) 0 0)) ≡ true → offer t nodes search node ≡ on search
+      unfolding offer
+      said-dominated d = rw (below ∙ lt-ltb _ _ h, sym dominated ∙ d, offer)
+
+      module _ (d : any (r .count) (λ u. dominates (nodeIn S T u) (nodeWith spot paid (take S P) 0 0)) ≡ false) where
+        said-full : nodes ≤ r .count → offer t nodes search node ≡ full
+        unfolding offer
+        said-full k = rw (below ∙ lt-ltb _ _ h, sym dominated ∙ d, kept-length S T O r, le-ltb (r .count) nodes k, offer)
+
+        said-kept : r .count < nodes → offer t nodes search node ≡ on (keep t search node)
+        unfolding offer
+        said-kept k = rw (below ∙ lt-ltb _ _ h, sym dominated ∙ d, kept-length S T O r, lt-ltb (r .count) nodes k, offer)
+
+  -- what the code has found: the key, and whether the node is dominated
+  module _ (opens : ℕ) (isKey : opens ≡ keyBy leaves bases paid P) where
+    -- the key is not below best: dropped
+    pub offered-above : r .«best_cost» ≤ opens → Offered leaves bases goals factors goalPairs nodes T O r node T O (record { full = false; run = r })
+    offered-above h =
+        record { went = went-same nodes T O r false room; offered = λ t scans b held m. record { said = said-above t scans b held m (omega arith); held = held } }
+
+    module _ (h : opens < r .«best_cost») (found : Bool)
+        (isFound : found ≡ any (r .count) (λ u. dominates (nodeIn S T u) (nodeWith spot paid (take S P) 0 0))) where
+      -- a node kept dominates it: dropped
+      pub offered-dominated : found ≡ true → Offered leaves bases goals factors goalPairs nodes T O r node T O (record { full = false; run = r })
+      offered-dominated d =
+          record {
+            went = went-same nodes T O r false room;
+            offered = λ t scans b held m. record { said = said-dominated t scans b held m (omega arith) (sym isFound ∙ d); held = held };
+          }
+
+      module _ (d : found ≡ false) where
+        -- the table is full
+        pub offered-full : nodes ≤ r .count → Offered leaves bases goals factors goalPairs nodes T O r node T O (record { full = true; run = r })
+        offered-full k =
+            record {
+              went = went-same nodes T O r true room;
+              offered = λ t scans b held m. record { said = said-full t scans b held m (omega arith) (sym isFound ∙ d) k; held = held };
+            }
+
+        -- it is kept
+        pub offered-kept : r .count < nodes → length O ≡ 4096 → (T′ O′ : List ℕ) (r′ : Run)
+            → Kept S T O r node opens (goalCostBy leaves bases goals factors goalPairs spot paid P) T′ O′ r′
+            → Offered leaves bases goals factors goalPairs nodes T O r node T′ O′ (record { full = false; run = r′ })
+        offered-kept k long T′ O′ r′ kept =
+            record {
+              went =
+                  record {
+                    more = rw (kept .counted) (omega arith);
+                    room = rw (kept .counted) (omega arith);
+                    begun-is = rw (kept .counted);
+                    table-still = λ e. absurd (true≢false (sym e));
+                    keys-still = λ e. absurd (true≢false (sym e));
+                    run-still = λ e. absurd (true≢false (sym e));
+                  };
+              offered = λ t scans b held m. stands t scans b held m;
+            }
+          where
+            stands : (t : Task) → Scans t leaves bases goals factors goalPairs → Base t nodes search → Cached t S T O r → Made t (r .count) node
+                → Stands t S T′ O′ (record { full = false; run = r′ }) (offer t nodes search node)
+            stands t scans b held m =
+                let isCost = goal-is t leaves bases goals factors goalPairs scans (r .count) node (omega arith) m P refl in
+                let cheap : isGoal t node ≡ true → goalCost t node < mark = λ g. omega (arith, made-goal t (scans .valid) (r .count) node (omega arith) m g) in
+                let cap = best-cap t nodes S T O r b held (scans .valid) few in
+                let its = isKey ∙ its-key t scans b held m in
+                let low = small t scans b held m in
+                record {
+                  said =
+                      said-kept t scans b held m (omega arith) (sym isFound ∙ d) k
+                      ∙ ap on (sym (keep-is t nodes S T O r node _ _ T′ O′ r′ b held kept (omega arith) its low isCost cheap cap));
+                  held = keep-cached t nodes S T O r node _ _ T′ O′ r′ b held kept (omega arith) its low isCost cheap cap;
+                }
+
+-- ---- turn
+
+-- the centre state behind effects that are listed
+after-list : (fac : ℕ → ℕ) (q : Partial) (c : Centre) → centreAfter fac (λ v. getD (list 32 q) v 0) c ≡ centreAfter fac q c
+unfolding centreAfter
+after-list fac q c = ap {B = Centre} (λ xs. record { values = xs }) (list-ext 32 _ _ (λ v l. rw (list-at 32 q v l)))
+
+-- prices with words behind them
+module _ (t : Task) (P : List ℕ) where
+  -- a leaf's prices
+  part-front : (i : ℕ) → i < t .leaves → leafPart t i (take (allStates t) P) ≡ leafPart t i P
+  unfolding leafPart
+  part-front i l = part-take (states t (suc i)) (base t i) (allStates t) P (base-fits t i l)
+
+  -- the next layer
+  next-front : (c : Centre) (a : ℕ) → nextPrices t c a (take (allStates t) P) ≡ nextPrices t c a P
+  unfolding nextPrices
+  next-front c a = joined-ext (t .leaves) _ _ (λ i l. rw (part-front i l))
+
+  -- whether an action applies
+  applies-front : (c : Centre) (a : ℕ) → appliesTo t c (take (allStates t) P) a ≡ appliesTo t c P a
+  unfolding appliesTo
+  applies-front c a = ap (λ x. centreMeets (factor t) (condition t a) c && x) (all-ext (t .leaves) _ _ (λ i l. rw (part-front i l)))
+
+module _ (b : Board) (effects goals goalPairs : List ℕ) where
+  -- what offering reads
+  pub suits-scans : (t : Task) → Suits t b effects goals goalPairs → Scans t (b .leaves) (b .bases) goals (b .factors) goalPairs
+  suits-scans t s =
+      record {
+        valid = s .valid;
+        leaves-is = s .fits .leaves-is;
+        bases-is = s .fits .bases-is;
+        factors-is = s .fits .factors-is;
+        goals-is = s .goals-is;
+        goal-is = s .goal-is;
+      }
+
+  module _ (nodes : ℕ) (spot : Centre) (paid : ℕ) (old : List ℕ) (u a : ℕ) (T O : List ℕ) (r : Run)
+      (few : nodes ≤ 4096) (room : r .count ≤ nodes) (known : a < b .actions) (inside : u < r .count) where
+    -- the search before the turn
+    abbrev here : Search
+    here = searchOf (rowOn b) T O r
+
+    module _ (t : Task) (suits : Suits t b effects goals goalPairs) (held : Has (nodeIn (rowOn b) T u) spot paid (take (rowOn b) old)) where
+      -- the action is one of the task's
+      known-in : a < t .actions
+      known-in = omega (arith, suits .fits .actions-is)
+
+      -- node u of the search
+      node-here : nodeAt t here u ≡ nodeIn (rowOn b) T u
+      node-here = node-at (rowOn b) T O r t u inside
+
+      -- whether the action applies to it
+      applies-here : appliesTo t (nodeAt t here u .spot) (nodeAt t here u .prices) a ≡ appliesOn b spot old a
+      applies-here =
+          rw (node-here, held .spot-is, held .prices-is, row-on t b (suits .fits))
+          (applies-front t old spot a ∙ sym (applies-on t b (suits .fits) spot old a known-in))
+
+    -- the action is no centre action
+    pub moved-leaf : (getD (b .kinds) a 0 ≡ 0 → ⊥) → Moved b effects goals goalPairs nodes spot paid old u a T O r T O (record { full = false; run = r })
+    unfolding turn
+    moved-leaf h =
+        record {
+          went = went-same nodes T O r false room;
+          moved = λ t suits v held has.
+              let no : centreAction t a ≡ false = sym (suits .fits .kinds-centre a (known-in t suits has)) ∙ ne-eqb _ _ h in
+              record { said = rw (no, turn); held = held };
+        }
+
+    -- it does not apply
+    pub moved-blocked : getD (b .kinds) a 0 ≡ 0 → (able : Bool) → able ≡ appliesOn b spot old a → not able ≡ true
+        → Moved b effects goals goalPairs nodes spot paid old u a T O r T O (record { full = false; run = r })
+    unfolding turn
+    moved-blocked k able isAble h =
+        record {
+          went = went-same nodes T O r false room;
+          moved = λ t suits v held has.
+              let yes : centreAction t a ≡ true = sym (suits .fits .kinds-centre a (known-in t suits has)) ∙ eq-eqb _ _ k in
+              record { said = rw (yes, applies-here t suits has ∙ told-false isAble h, turn); held = held };
+        }
+
+    -- it has a successor, which was offered
+    pub moved-offered : getD (b .kinds) a 0 ≡ 0 → (able : Bool) → able ≡ appliesOn b spot old a → not able ≡ false
+        → (pairs next rest : List ℕ) (behind : Centre) (spent : ℕ)
+        → pairs ≡ list 32 (λ v. getD effects (a * 32 + v) 0)
+        → behind ≡ centreAfter (λ v. getD (b .factors) v 0) (λ v. getD pairs v 0) spot
+        → next ≡ nextOn b behind a old ++ rest
+        → spent ≡ min (paid + getD (b .costs) a 0) mark
+        → (T′ O′ : List ℕ) (w : Turned)
+        → Offered (b .leaves) (b .bases) goals (b .factors) goalPairs nodes T O r (nodeWith behind spent (take (rowOn b) next) u a) T′ O′ w
+        → Moved b effects goals goalPairs nodes spot paid old u a T O r T′ O′ w
+    unfolding turn nextNode
+    moved-offered k able isAble h pairs next rest behind spent isPairs isBehind isNext isCost T′ O′ w o =
+        record { went = o .went; moved = λ t suits v held has. stands t suits v held has }
+      where
+        stands : (t : Task) → Suits t b effects goals goalPairs → Base t nodes here → Cached t (rowOn b) T O r
+            → Has (nodeIn (rowOn b) T u) spot paid (take (rowOn b) old) → Stands t (rowOn b) T′ O′ w (turn t nodes u a here)
+        stands t suits v held has =
+            let row : rowOn b ≡ allStates t = row-on t b (suits .fits) in
+            let n = nodeAt t here u in
+            let many : length (here .kept) ≡ r .count = kept-length (rowOn b) T O r in
+            let yes : centreAction t a ≡ true = sym (suits .fits .kinds-centre a (known-in t suits has)) ∙ eq-eqb _ _ k in
+            let applied : appliesTo t (n .spot) (n .prices) a ≡ true = applies-here t suits has ∙ told-true isAble h in
+            let made : Made t (r .count) (nextNode t u n a) = made-next t u (r .count) u n a inside (known-in t suits has) yes applied (v .made u (omega arith)) in
+            let isSpot : behind ≡ centreAfter (factor t) (effect t a) (n .spot) =
+            isBehind ∙ rw (isPairs, suits .fits .factors-is, suits .effects-is, node-here t suits has, has .spot-is) (after-list (factor t) (effect t a) spot) in
+            let low = made-paid t (suits .valid) (r .count) (nextNode t u n a) (omega arith) made in
+            let same-paid : n .paid ≡ paid = ap (λ (x : Node). x .paid) (node-here t suits has) ∙ has .paid-is in
+            let isPaid : spent ≡ n .paid + cost t a = omega (arith, isCost, suits .fits .costs-is a (known-in t suits has)) in
+            let isPrices : take (rowOn b) next ≡ nextPrices t behind a (n .prices) =
+            rw (
+              isNext,
+              node-here t suits has,
+              has .prices-is,
+              row,
+              next-on t b (suits .fits) behind a old (known-in t suits has),
+              take-at (nextPrices t behind a old) rest (allStates t) (next-length t behind a old),
+            ) (sym (next-front t old behind a)) in
+            let same : nodeWith behind spent (take (rowOn b) next) u a ≡ nextNode t u n a = rw (isPrices, isPaid, isSpot) in
+            let out = o .offered t (suits-scans t suits) v held (rw same made) in
+            record { said = rw (yes, applied, turn, ← same) (out .said); held = out .held }
+
+-- ---- expand
+
+module _ (t : Task) (nodes u : ℕ) where
+  -- behind the last action
+  expand-end : (n a : ℕ) (s : Search) → n ≤ a → expand t nodes u (n - a) a s ≡ through s
+  unfolding expand
+  expand-end n a s h = let z : n - a ≡ 0 = omega arith in rw (z, expand)
+
+  -- a turn more
+  expand-more : (n a : ℕ) (s r : Search) → a < n → turn t nodes u a s ≡ on r → expand t nodes u (n - a) a s ≡ expand t nodes u (n - (a + 1)) (a + 1) r
+  unfolding expand
+  expand-more n a s r h e = let z : n - a ≡ suc (n - (a + 1)) = omega arith in rw (z, expand, e)
+
+  -- the table is full
+  expand-full : (n a : ℕ) (s : Search) → a < n → turn t nodes u a s ≡ full → expand t nodes u (n - a) a s ≡ filled s
+  unfolding expand
+  expand-full n a s h e = let z : n - a ≡ suc (n - (a + 1)) = omega arith in rw (z, expand, e)
+
+-- what is left of the expansion from action a on is the whole, and node u is as it was
+pub record Left (t : Task) (nodes u S : ℕ) (T₀ O₀ : List ℕ) (r₀ : Run) (T O : List ℕ) (r : Run) (a : ℕ) : Type 0 where
+  pub whole : expand t nodes u (t .actions) 0 (searchOf S T₀ O₀ r₀) ≡ expand t nodes u (t .actions - a) a (searchOf S T O r)
+  pub base : Base t nodes (searchOf S T O r)
+  pub held : Cached t S T O r
+  pub node : nodeIn S T u ≡ nodeIn S T₀ u
+
+module _ (b : Board) (effects goals goalPairs : List ℕ) (nodes u : ℕ) (T₀ O₀ : List ℕ) (r₀ : Run) where
+  -- the same for every task whose tables these are
+  abbrev pub Along : List ℕ → List ℕ → Run → ℕ → Type 0
+  Along T O r a = (t : Task) → Suits t b effects goals goalPairs → Base t nodes (searchOf (rowOn b) T₀ O₀ r₀) → Cached t (rowOn b) T₀ O₀ r₀
+      → Left t nodes u (rowOn b) T₀ O₀ r₀ T O r a
+
+  -- what an expansion ensures: the search says the same
+  abbrev pub Done : List ℕ → List ℕ → Turned → Type 0
+  Done T O w = (t : Task) → Suits t b effects goals goalPairs → Base t nodes (searchOf (allStates t) T₀ O₀ r₀) → Cached t (allStates t) T₀ O₀ r₀
+      → (expand t nodes u (t .actions) 0 (searchOf (allStates t) T₀ O₀ r₀) ≡ expandedOf w (searchOf (allStates t) T O (w .run)))
+      × Cached t (allStates t) T O (w .run)
+
+  -- where the loop stands before action a
+  pub record Passed (T O : List ℕ) (r : Run) (a : ℕ) : Type 0 where
+    pub inside : a ≤ b .actions
+    pub room : Room (rowOn b) nodes T O r
+    pub table-kept : length T ≡ length T₀
+    pub keys-kept : length O ≡ length O₀
+    pub more : r₀ .count ≤ r .count
+    pub begun-is : r .begun ≡ r₀ .begun
+    pub along : Along T O r a
+
+  -- before the first action
+  pub passed-none : Room (rowOn b) nodes T₀ O₀ r₀ → Passed T₀ O₀ r₀ 0
+  passed-none room =
+      record {
+        inside = omega arith;
+        room = room;
+        table-kept = refl;
+        keys-kept = refl;
+        more = omega arith;
+        begun-is = refl;
+        along = λ t suits v held. let z : t .actions - 0 ≡ t .actions = omega arith in record { whole = rw z; base = v; held = held; node = refl };
+      }
+
+  -- the turn of action a, from there on
+  module _ (spot : Centre) (paid : ℕ) (old : List ℕ) (has : Has (nodeIn (rowOn b) T₀ u) spot paid (take (rowOn b) old)) (within : u < r₀ .count)
+      (T O : List ℕ) (r : Run) (a : ℕ) (known : a < b .actions) (l : Passed T O r a) (T′ O′ : List ℕ) (w : Turned)
+      (m : Moved b effects goals goalPairs nodes spot paid old u a T O r T′ O′ w) where
+    -- for a task: what is left before the turn, and what it gave
+    module _ (t : Task) (suits : Suits t b effects goals goalPairs) (v : Base t nodes (searchOf (rowOn b) T₀ O₀ r₀)) (held : Cached t (rowOn b) T₀ O₀ r₀) where
+      before : Left t nodes u (rowOn b) T₀ O₀ r₀ T O r a
+      before = l .along t suits v held
+
+      gave : Stands t (rowOn b) T′ O′ w (turn t nodes u a (searchOf (rowOn b) T O r))
+      gave = m .moved t suits (before .base) (before .held) (rw (before .node) has)
+
+      one : a < t .actions
+      one = omega (arith, suits .fits .actions-is)
+
+      -- what is left behind it
+      behind : w .full ≡ false → Left t nodes u (rowOn b) T₀ O₀ r₀ T′ O′ (w .run) (a + 1)
+      behind e =
+          let here = searchOf (rowOn b) T O r in
+          let inside : u < r .count = omega (arith, l .more) in
+          let kept : u < length (here .kept) = omega (arith, kept-length (rowOn b) T O r) in
+          let q : turn t nodes u a here ≡ on (searchOf (rowOn b) T′ O′ (w .run)) = rw e at (gave .said) in
+          let (z, _) = turn-on t nodes u a here (before .base) kept one q in
+          record {
+            whole = before .whole ∙ expand-more t nodes u (t .actions) a _ _ one q;
+            base = z .base;
+            held = gave .held;
+            node =
+                sym (node-at (rowOn b) T′ O′ (w .run) t u (omega (arith, m .went .more)))
+                ∙ z .grows .node u kept
+                ∙ node-at (rowOn b) T O r t u inside
+                ∙ before .node;
+          }
+
+      -- the table was full
+      ended : w .full ≡ true
+          → (expand t nodes u (t .actions) 0 (searchOf (rowOn b) T₀ O₀ r₀) ≡ expandedOf w (searchOf (rowOn b) T′ O′ (w .run)))
+          × Cached t (rowOn b) T′ O′ (w .run)
+      ended e = (
+        before .whole
+            ∙ expand-full t nodes u (t .actions) a (searchOf (rowOn b) T O r) one (rw e at (gave .said))
+            ∙ rw (e, m .went .table-still e, m .went .keys-still e, m .went .run-still e),
+        gave .held,
+      )
+
+    -- a turn more
+    pub passed-more : w .full ≡ false → length T′ ≡ length T → length O′ ≡ length O → Passed T′ O′ (w .run) (a + 1)
+    passed-more e p q =
+        record {
+          inside = omega arith;
+          room =
+              record {
+                few-states = l .room .few-states;
+                few-nodes = l .room .few-nodes;
+                table-long = omega (arith, l .room .table-long);
+                open-long = q ∙ l .room .open-long;
+                count-few = m .went .room;
+              };
+          table-kept = p ∙ l .table-kept;
+          keys-kept = q ∙ l .keys-kept;
+          more = omega (arith, l .more, m .went .more);
+          begun-is = m .went .begun-is ∙ l .begun-is;
+          along = λ t suits v held. behind t suits v held e;
+        }
+
+    -- the table was full at it
+    pub passed-full : w .full ≡ true → ((r₀ .count ≤ w .run .count) × (w .run .count ≤ nodes) × (w .run .begun ≡ r₀ .begun)) × Done T′ O′ w
+    passed-full e = (
+      (omega (arith, l .more, m .went .more), m .went .room, m .went .begun-is ∙ l .begun-is),
+      λ t suits. rw (← row-on t b (suits .fits)) (λ v held. ended t suits v held e),
+    )
+
+  -- behind the last action
+  pub passed-all : (T O : List ℕ) (r : Run) (a : ℕ) → b .actions ≤ a → Passed T O r a
+      → ((r₀ .count ≤ r .count) × (r .count ≤ nodes) × (r .begun ≡ r₀ .begun)) × Done T O (record { full = false; run = r })
+  passed-all T O r a end l = (
+    (l .more, l .room .count-few, l .begun-is),
+    λ t suits. rw (← row-on t b (suits .fits)) (λ v held. last t suits (l .along t suits v held)),
+  )
+    where
+      last : (t : Task) → Suits t b effects goals goalPairs → Left t nodes u (rowOn b) T₀ O₀ r₀ T O r a
+          → (expand t nodes u (t .actions) 0 (searchOf (rowOn b) T₀ O₀ r₀) ≡ through (searchOf (rowOn b) T O r)) × Cached t (rowOn b) T O r
+      last t suits x = (x .whole ∙ expand-end t nodes u (t .actions) a _ (omega (arith, suits .fits .actions-is)), x .held)

@@ -1,0 +1,526 @@
+// The exploration over the lent table.
+use layer::MARK;
+use layer::add_price;
+use layer::applies;
+use layer::first_layer;
+use layer::next_layer;
+use layer::pairs_of;
+use nodes::choose;
+use nodes::goal_cost;
+use nodes::is_dominated;
+use nodes::key_of;
+use nodes::read_spot;
+use nodes::write_row;
+use task::Centre;
+use task::Task;
+use words::copy_words;
+ghost use mathlib.Core.Path.{_≡_};
+ghost use Prim.Native.Nat.{_+_, _*_, _≤_, _<_};
+ghost use lib.ListN.{length, getD, take};
+ghost use Rattle.task.specs.declared.Task.{Task};
+ghost use Rattle.task.specs.Factors.{allStates};
+ghost use Rattle.task.specs.Valid.{Valid};
+ghost use Rattle.layer.specs.Board.{Sound};
+ghost use Rattle.layer.specs.Lent.{boardOf};
+ghost use Rattle.tables.specs.Tables.{Tabled, Goals};
+ghost use Rattle.search.specs.Explore.{start, expand, explored};
+ghost use Rattle.search.specs.Explore.Laws.{Base};
+ghost use Rattle.nodes.specs.Row.{nodeWith};
+ghost use Rattle.nodes.specs.Scan.{Cut, goalCostBy};
+ghost use Rattle.explore.specs.Held.{searchOf, Cached, Suits, Room, expandedOf, stoppedOf, Kept, Offered, Moved};
+ghost use Rattle.explore.specs.Held.Rounds.{Ahead, Rounded};
+
+// The search beside its table: nodes kept, expansions begun, one more than best's node (0 for none), best's goal cost (the mark for none).
+pub struct Run {
+    pub count: usize,
+    pub begun: u32,
+    pub best: usize,
+    pub best_cost: u64,
+}
+
+// Whether the table was full, and the search to go on with.
+pub struct Turned {
+    pub full: bool,
+    pub run: Run,
+}
+
+// Why a search stops.
+pub enum Why {
+    Finished,
+    TableFull,
+    BudgetSpent,
+}
+
+pub struct Stop {
+    pub why: Why,
+    pub run: Run,
+}
+
+// What a round gives: the search stops, or it goes on.
+pub enum Round {
+    Stops(Stop),
+    Goes(Run),
+}
+
+// A node under the next number: its row, its key, and the new best.
+fn keep(
+    leaves: usize,
+    bases: &[usize],
+    goals: &[u16],
+    factors: [u8; 32],
+    goal: [u8; 32],
+    spot: Centre,
+    paid: u64,
+    parent: usize,
+    action: usize,
+    key: u64,
+    prices: &[u64],
+    table: &mut [u64],
+    keys: &mut [u64],
+    run: Run,
+) -> Run
+    requires { ⌜ Cut leaves (now bases) (length (now prices)) × Cut leaves (now bases) (length (now goals)) ⌝ }
+    requires { ⌜ (getD (now bases) leaves 0 ≤ 1024) × (run .count < 4096) × ((run .count + 1) * (40 + getD (now bases) leaves 0) ≤ length (now table))
+        × (length (now keys) ≡ 4096) ⌝ }
+    ensures { λ r. ⌜ Kept (getD (now (bases .entry)) leaves 0) (now (table .entry)) (now (keys .entry)) run
+        (nodeWith spot paid (take (getD (now (bases .entry)) leaves 0) (now (prices .entry))) parent action) key
+        (goalCostBy leaves (now (bases .entry)) (now (goals .entry)) factors goal spot paid (now (prices .entry)))
+        (now (table .exit)) (now (keys .exit)) r ⌝ }
+{
+    let states = bases[leaves];
+    let count = run.count;
+    let wide = 40 + states;
+    let at = count * wide;
+    let end = at + wide;
+    write_row(
+        &mut table[at..end],
+        states,
+        spot,
+        paid,
+        parent,
+        action,
+        prices,
+    );
+    keys[count] = key;
+    let cost = goal_cost(leaves, bases, goals, factors, goal, spot, paid, prices);
+    if cost < run.best_cost {
+        return Run {
+            count: count + 1,
+            begun: run.begun,
+            best: count + 1,
+            best_cost: cost,
+        };
+    }
+    Run {
+        count: count + 1,
+        begun: run.begun,
+        best: run.best,
+        best_cost: run.best_cost,
+    }
+}
+
+// A successor of node `parent` by `action`: dropped, refused for a full table, or kept under the next number.
+fn offer(
+    leaves: usize,
+    bases: &[usize],
+    goals: &[u16],
+    factors: [u8; 32],
+    goal: [u8; 32],
+    nodes: usize,
+    spot: Centre,
+    paid: u64,
+    parent: usize,
+    action: usize,
+    prices: &[u64],
+    table: &mut [u64],
+    keys: &mut [u64],
+    run: Run,
+) -> Turned
+    requires { ⌜ Cut leaves (now bases) (length (now prices)) × Cut leaves (now bases) (length (now goals)) ⌝ }
+    requires { ⌜ Room (getD (now bases) leaves 0) nodes (now table) (now keys) run ⌝ }
+    ensures { λ r. ⌜ Offered leaves (now (bases .entry)) (now (goals .entry)) factors goal nodes (now (table .entry)) (now (keys .entry)) run
+        (nodeWith spot paid (take (getD (now (bases .entry)) leaves 0) (now (prices .entry))) parent action) (now (table .exit)) (now (keys .exit)) r ⌝ }
+{
+    let states = bases[leaves];
+    let count = run.count;
+    let key = key_of(leaves, bases, paid, prices);
+    if key >= run.best_cost {
+        return Turned { full: false, run };
+    }
+    if is_dominated(table, states, count, spot, paid, prices) {
+        return Turned { full: false, run };
+    }
+    if count >= nodes {
+        return Turned { full: true, run };
+    }
+    let more = keep(
+        leaves,
+        bases,
+        goals,
+        factors,
+        goal,
+        spot,
+        paid,
+        parent,
+        action,
+        key,
+        prices,
+        table,
+        keys,
+        run,
+    );
+    Turned {
+        full: false,
+        run: more,
+    }
+}
+
+// Action a at node u, whose parts are given: a centre action that applies has a successor.
+fn turn(
+    leaves: usize,
+    actions: usize,
+    bases: &[usize],
+    moves: &[u16],
+    costs: &[u16],
+    kinds: &[u8],
+    factors: [u8; 32],
+    conditions: &[u8],
+    effects: &[u8],
+    goals: &[u16],
+    goal: [u8; 32],
+    nodes: usize,
+    spot: Centre,
+    paid: u64,
+    old: &[u64],
+    u: usize,
+    a: usize,
+    table: &mut [u64],
+    keys: &mut [u64],
+    run: Run,
+) -> Turned
+    requires { ⌜ Sound (boardOf leaves actions (now bases) (now moves) (now costs) (now kinds) factors (now conditions)) ⌝ }
+    requires { ⌜ (length (now effects) ≡ 8192) × (length (now goals) ≡ 1024) × (length (now old) ≡ 1024) × (u < run .count) × (a < actions) ⌝ }
+    requires { ⌜ Room (getD (now bases) leaves 0) nodes (now table) (now keys) run ⌝ }
+    ensures { λ r. ⌜ Moved (boardOf leaves actions (now (bases .entry)) (now (moves .entry)) (now (costs .entry)) (now (kinds .entry)) factors
+        (now (conditions .entry))) (now (effects .entry)) (now (goals .entry)) goal nodes spot paid (now (old .entry)) u a
+        (now (table .entry)) (now (keys .entry)) run (now (table .exit)) (now (keys .exit)) r ⌝ }
+{
+    if kinds[a] != 0 {
+        return Turned { full: false, run };
+    }
+    if !applies(
+        leaves,
+        actions,
+        bases,
+        moves,
+        costs,
+        kinds,
+        factors,
+        conditions,
+        spot,
+        old,
+        a,
+    ) {
+        return Turned { full: false, run };
+    }
+    let behind = spot.after(factors, pairs_of(effects, a));
+    let mut next = [MARK; 1024];
+    next_layer(
+        leaves,
+        actions,
+        bases,
+        moves,
+        costs,
+        kinds,
+        factors,
+        conditions,
+        behind,
+        a,
+        old,
+        &mut next,
+    );
+    let spent = add_price(paid, costs[a] as u64);
+    offer(
+        leaves,
+        bases,
+        goals,
+        factors,
+        goal,
+        nodes,
+        behind,
+        spent,
+        u,
+        a,
+        &next,
+        table,
+        keys,
+        run,
+    )
+}
+
+// All actions of node u, by rising number.
+fn expand(
+    leaves: usize,
+    actions: usize,
+    bases: &[usize],
+    moves: &[u16],
+    costs: &[u16],
+    kinds: &[u8],
+    factors: [u8; 32],
+    conditions: &[u8],
+    effects: &[u8],
+    goals: &[u16],
+    goal: [u8; 32],
+    nodes: usize,
+    u: usize,
+    table: &mut [u64],
+    keys: &mut [u64],
+    run: Run,
+) -> Turned
+    requires { ⌜ Sound (boardOf leaves actions (now bases) (now moves) (now costs) (now kinds) factors (now conditions)) ⌝ }
+    requires { ⌜ (length (now effects) ≡ 8192) × (length (now goals) ≡ 1024) × (u < run .count) ⌝ }
+    requires { ⌜ Room (getD (now bases) leaves 0) nodes (now table) (now keys) run ⌝ }
+    ensures grown { λ r. ⌜ (run .count ≤ r .run .count) × (r .run .count ≤ nodes) × (r .run .begun ≡ run .begun) ⌝ }
+    ensures expanded { λ r. ⌜ ((t : Task) → Suits t (boardOf leaves actions (now (bases .entry)) (now (moves .entry)) (now (costs .entry)) (now (kinds .entry)) factors
+        (now (conditions .entry))) (now (effects .entry)) (now (goals .entry)) goal
+        → Base t nodes (searchOf (allStates t) (now (table .entry)) (now (keys .entry)) run)
+        → Cached t (allStates t) (now (table .entry)) (now (keys .entry)) run
+        → (expand t nodes u (t .actions) 0 (searchOf (allStates t) (now (table .entry)) (now (keys .entry)) run)
+        ≡ expandedOf r (searchOf (allStates t) (now (table .exit)) (now (keys .exit)) (r .run)))
+        × Cached t (allStates t) (now (table .exit)) (now (keys .exit)) (r .run)) ⌝ }
+{
+    let states = bases[leaves];
+    let wide = 40 + states;
+    let at = u * wide;
+    let end = at + wide;
+    let spot = read_spot(&table[at..end]);
+    let paid = table[at + 32];
+    let mut old = [MARK; 1024];
+    copy_words(&table[at + 40..end], &mut old, states);
+    let mut going = run;
+    for a in 0..actions {
+        let r = turn(
+            leaves,
+            actions,
+            bases,
+            moves,
+            costs,
+            kinds,
+            factors,
+            conditions,
+            effects,
+            goals,
+            goal,
+            nodes,
+            spot,
+            paid,
+            &old,
+            u,
+            a,
+            table,
+            keys,
+            going,
+        );
+        if r.full {
+            return r;
+        }
+        going = r.run;
+    }
+    Turned {
+        full: false,
+        run: going,
+    }
+}
+
+// Node 0 is made and kept: the search at its start.
+fn start(
+    task: Task,
+    bases: &[usize],
+    moves: &[u16],
+    costs: &[u16],
+    kinds: &[u8],
+    starts: &[usize],
+    goals: &[u16],
+    table: &mut [u64],
+    keys: &mut [u64],
+) -> Run
+    requires { ⌜ Valid task ⌝ }
+    requires { ⌜ Tabled task (now bases) (now moves) (now costs) (now kinds) (now starts) × Goals task (now goals) ⌝ }
+    requires { ⌜ (40 + allStates task ≤ length (now table)) × (length (now keys) ≡ 4096) ⌝ }
+    ensures { λ r. ⌜ (searchOf (allStates task) (now (table .exit)) (now (keys .exit)) r ≡ start task)
+        × Cached task (allStates task) (now (table .exit)) (now (keys .exit)) r ⌝ }
+{
+    let leaves = task.leaves as usize;
+    let actions = task.actions as usize;
+    let factors = task.factors;
+    let initial = task.initial;
+    let goal = task.goal;
+    let conditions = task.conditions;
+    let spot = Centre::blank().after(factors, initial);
+    let mut prices = [MARK; 1024];
+    first_layer(
+        leaves,
+        actions,
+        bases,
+        moves,
+        costs,
+        kinds,
+        factors,
+        &conditions,
+        spot,
+        starts,
+        &mut prices,
+    );
+    let key = key_of(leaves, bases, 0, &prices);
+    let none = Run {
+        count: 0,
+        begun: 0,
+        best: 0,
+        best_cost: MARK,
+    };
+    keep(
+        leaves,
+        bases,
+        goals,
+        factors,
+        goal,
+        spot,
+        0,
+        0,
+        0,
+        key,
+        &prices,
+        table,
+        keys,
+        none,
+    )
+}
+
+// One round: the least key is chosen, and where the budget is not used up its node is expanded.
+fn next_round(
+    leaves: usize,
+    actions: usize,
+    bases: &[usize],
+    moves: &[u16],
+    costs: &[u16],
+    kinds: &[u8],
+    factors: [u8; 32],
+    conditions: &[u8],
+    effects: &[u8],
+    goals: &[u16],
+    goal: [u8; 32],
+    nodes: usize,
+    budget: u32,
+    table: &mut [u64],
+    keys: &mut [u64],
+    run: Run,
+) -> Round
+    requires { ⌜ Sound (boardOf leaves actions (now bases) (now moves) (now costs) (now kinds) factors (now conditions)) ⌝ }
+    requires { ⌜ (length (now effects) ≡ 8192) × (length (now goals) ≡ 1024) × (run .begun ≤ 4096) ⌝ }
+    requires { ⌜ Room (getD (now bases) leaves 0) nodes (now table) (now keys) run ⌝ }
+    ensures { λ r. ⌜ ((t : Task) → Suits t (boardOf leaves actions (now (bases .entry)) (now (moves .entry)) (now (costs .entry)) (now (kinds .entry)) factors
+        (now (conditions .entry))) (now (effects .entry)) (now (goals .entry)) goal
+        → Ahead t nodes budget (allStates t) (now (table .entry)) (now (keys .entry)) run
+        → Rounded t nodes budget (run .begun) (allStates t) (now (table .exit)) (now (keys .exit)) r) ⌝ }
+{
+    let chosen = choose(keys, run.count, run.best_cost);
+    if chosen == 0 {
+        return Round::Stops(Stop {
+            why: Why::Finished,
+            run,
+        });
+    }
+    if run.begun == budget {
+        return Round::Stops(Stop {
+            why: Why::BudgetSpent,
+            run,
+        });
+    }
+    let u = chosen - 1;
+    keys[u] = MARK;
+    let begun = Run {
+        count: run.count,
+        begun: run.begun + 1,
+        best: run.best,
+        best_cost: run.best_cost,
+    };
+    let r = expand(
+        leaves,
+        actions,
+        bases,
+        moves,
+        costs,
+        kinds,
+        factors,
+        conditions,
+        effects,
+        goals,
+        goal,
+        nodes,
+        u,
+        table,
+        keys,
+        begun,
+    );
+    let next = r.run;
+    if r.full {
+        return Round::Stops(Stop {
+            why: Why::TableFull,
+            run: next,
+        });
+    }
+    Round::Goes(next)
+}
+
+// The whole exploration of a task that the reader accepted.
+pub fn explore(
+    task: Task,
+    bases: &[usize],
+    moves: &[u16],
+    costs: &[u16],
+    kinds: &[u8],
+    starts: &[usize],
+    goals: &[u16],
+    nodes: usize,
+    budget: u32,
+    table: &mut [u64],
+    keys: &mut [u64],
+) -> Stop
+    requires { ⌜ Valid task ⌝ }
+    requires { ⌜ Tabled task (now bases) (now moves) (now costs) (now kinds) (now starts) × Goals task (now goals) ⌝ }
+    requires { ⌜ (1 ≤ nodes) × (nodes ≤ 4096) × ((nodes + 1) * (40 + allStates task) ≤ length (now table)) × (length (now keys) ≡ 4096) ⌝ }
+    ensures { λ r. ⌜ (stoppedOf (allStates task) (now (table .exit)) (now (keys .exit)) r ≡ explored task nodes budget)
+        × Cached task (allStates task) (now (table .exit)) (now (keys .exit)) (r .run) ⌝ }
+{
+    let leaves = task.leaves as usize;
+    let actions = task.actions as usize;
+    let factors = task.factors;
+    let goal = task.goal;
+    let conditions = task.conditions;
+    let effects = task.effects;
+    let mut run = start(task, bases, moves, costs, kinds, starts, goals, table, keys);
+    loop {
+        let round = next_round(
+            leaves,
+            actions,
+            bases,
+            moves,
+            costs,
+            kinds,
+            factors,
+            &conditions,
+            &effects,
+            goals,
+            goal,
+            nodes,
+            budget,
+            table,
+            keys,
+            run,
+        );
+        match round {
+            Round::Stops(stop) => return stop,
+            Round::Goes(next) => run = next,
+        }
+    }
+}

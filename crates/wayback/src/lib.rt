@@ -1,0 +1,294 @@
+// The walk back of one leaf inside one layer: from a state to one that has kept the price that the layer began with, by actions at the right
+// price, each written into the plan as it is met.
+use layer::MARK;
+use layer::settle;
+ghost use mathlib.Core.Path.{_≡_};
+ghost use mathlib.Core.Bool.{cond, _&&_};
+ghost use Prim.Native.Nat.{ℕ, suc, _+_, _*_, _<_, _≤_};
+ghost use lib.Dec.{ltb, eqb};
+ghost use lib.ListN.{length, getD};
+ghost use Rattle.loops.specs.Count.{list};
+ghost use Rattle.layer.specs.Layer.{mark};
+ghost use Rattle.layer.specs.Lent.{Lent};
+ghost use Rattle.search.specs.Plan.{lowest};
+ghost use Rattle.search.specs.Plan.Depths.{depth0};
+ghost use Rattle.wayback.specs.Steps.{tightAt, tightBy, rowsOf, depthsBy, entryBy, backBy, wayBy, tableBack, Walkable, Tabled};
+ghost use Rattle.wayback.specs.Laid.{put};
+ghost use Rattle.wayback.specs.Sources.{Sourced};
+ghost use Rattle.wayback.specs.Walked.{Walked};
+
+// Where a walk back ends: the state, and the place of the next action.
+pub struct Ended {
+    pub state: usize,
+    pub place: usize,
+}
+
+// The edge of one move from state x: `to` where its price is `cost` more than that of x, else 0.
+fn tight_move(prices: &[u64], x: usize, cost: u64, to: u16) -> u16
+    requires { ⌜ (x < length (now prices)) × (to ≤ length (now prices)) ⌝ }
+    ensures { λ r. ⌜ r ≡ tightAt (now (prices .entry)) x cost to ⌝ }
+{
+    if to == 0 {
+        return 0;
+    }
+    let t = to as usize - 1;
+    let there = prices[t];
+    if there < cost {
+        return 0;
+    }
+    if there - cost != prices[x] {
+        return 0;
+    }
+    to
+}
+
+// The edges of one action, whose moves begin at `from`.
+fn tight_row(prices: &[u64], moves: &[u16], from: usize, cost: u64, out: &mut [u16])
+    requires { ⌜ (length (now out) ≡ length (now prices)) × (from + length (now prices) ≤ length (now moves))
+        × ((x : ℕ) → x < length (now prices) → getD (now moves) (from + x) 0 ≤ length (now prices)) ⌝ }
+    ensures { λ _. ⌜ now (out .exit)
+        ≡ list (length (now (prices .entry))) (λ x. tightAt (now (prices .entry)) x cost (getD (now (moves .entry)) (from + x) 0)) ⌝ }
+{
+    for x in 0..prices.len() {
+        out[x] = tight_move(prices, x, cost, moves[from + x]);
+    }
+}
+
+// The edges of the first `count` actions of a list, one row for each, at the front of `tight`.
+fn tight_table(
+    prices: &[u64],
+    moves: &[u16],
+    row: usize,
+    at: usize,
+    costs: &[u16],
+    acts: &[u8],
+    count: usize,
+    tight: &mut [u16],
+)
+    requires { ⌜ Lent (now moves) row at (now costs) (now acts) count (length (now prices)) × (0 < length (now prices))
+        × (count * length (now prices) ≤ length (now tight)) ⌝ }
+    ensures { λ _. ⌜ ((j x : ℕ) → j < count → x < length (now (prices .entry)) → rowsOf (length (now (prices .entry))) (now (tight .exit)) j x
+        ≡ tightBy (now (moves .entry)) row at (now (costs .entry)) (now (acts .entry)) (now (prices .entry)) j x) ⌝ }
+{
+    let n = prices.len();
+    for j in 0..count {
+        let a = acts[j] as usize;
+        let cost = costs[a] as u64;
+        let from = j * n;
+        tight_row(
+            prices,
+            moves,
+            a * row + at,
+            cost,
+            &mut tight[from..from + n],
+        );
+    }
+}
+
+// The depth of state x where depths begin: 0 where it has kept its price, else the mark.
+fn first_depth(begins: &[u64], prices: &[u64], x: usize) -> u64
+    requires { ⌜ (x < length (now prices)) × (length (now begins) ≡ length (now prices)) ⌝ }
+    ensures { λ r. ⌜ r ≡ cond (ltb (getD (now (prices .entry)) x mark) mark
+        && eqb (getD (now (begins .entry)) x mark) (getD (now (prices .entry)) x mark)) 0 mark ⌝ }
+{
+    let p = prices[x];
+    if p >= MARK {
+        return MARK;
+    }
+    if begins[x] != p {
+        return MARK;
+    }
+    0
+}
+
+// The depths of all states where depths begin.
+fn first_depths(begins: &[u64], prices: &[u64], depths: &mut [u64])
+    requires { ⌜ (length (now begins) ≡ length (now prices)) × (length (now depths) ≡ length (now prices)) ⌝ }
+    ensures { λ _. ⌜ now (depths .exit) ≡ depth0 (now (begins .entry)) (now (prices .entry)) ⌝ }
+{
+    for x in 0..prices.len() {
+        depths[x] = first_depth(begins, prices, x);
+    }
+}
+
+// The numbers from 0 on.
+fn numbers() -> [u8; 256]
+    ensures { λ r. ⌜ r ≡ list 256 (λ j. j) ⌝ }
+{
+    let mut all = [0u8; 256];
+    for j in 0..256usize {
+        all[j] = j as u8;
+    }
+    all
+}
+
+// The depths of all states, by the edges of `count` actions.
+fn depths_of(begins: &[u64], prices: &[u64], tight: &[u16], count: usize, depths: &mut [u64])
+    requires { ⌜ (length (now begins) ≡ length (now prices)) × (length (now depths) ≡ length (now prices)) × (length (now prices) ≤ 256)
+        × (count ≤ 255) × (count * length (now prices) ≤ length (now tight))
+        × ((j x : ℕ) → j < count → x < length (now prices) → rowsOf (length (now prices)) (now tight) j x ≤ length (now prices)) ⌝ }
+    ensures { λ _. ⌜ now (depths .exit)
+        ≡ depthsBy (rowsOf (length (now (prices .entry))) (now (tight .entry))) count (now (begins .entry)) (now (prices .entry)) ⌝ }
+{
+    first_depths(begins, prices, depths);
+    let ones = [1u16; 256];
+    let acts = numbers();
+    settle(depths, tight, prices.len(), 0, &ones, &acts, count);
+}
+
+// Whether a move leads to the state before `next` from a state of price p (or depth p).
+fn is_source(to: u16, next: usize, p: u64, k: u64) -> bool
+    ensures { λ r. ⌜ r ≡ (eqb to next && eqb p k) ⌝ }
+{
+    if to as usize != next {
+        return false;
+    }
+    p == k
+}
+
+// The lowest state from which a row leads to state y, and whose depth is k; their count where there is none.
+fn lowest_source(row: &[u16], depths: &[u64], k: u64, y: usize) -> usize
+    requires { ⌜ (length (now row) ≡ length (now depths)) × (y < length (now depths)) ⌝ }
+    ensures { λ r. ⌜ r ≡ lowest (length (now (depths .entry)))
+        (λ x. eqb (getD (now (row .entry)) x 0) (suc y) && eqb (getD (now (depths .entry)) x mark) k) ⌝ }
+{
+    let next = y + 1;
+    for x in 0..depths.len() {
+        if is_source(row[x], next, depths[x], k) {
+            return x;
+        }
+    }
+    depths.len()
+}
+
+// The first action with a source of state y, of depth k; `count` where there is none.
+fn source_action(tight: &[u16], depths: &[u64], count: usize, k: u64, y: usize) -> usize
+    requires { ⌜ (y < length (now depths)) × (count * length (now depths) ≤ length (now tight)) ⌝ }
+    ensures { λ r. ⌜ r ≡ entryBy (rowsOf (length (now (depths .entry))) (now (tight .entry))) count (length (now (depths .entry)))
+        (now (depths .entry)) k y ⌝ }
+{
+    let n = depths.len();
+    for j in 0..count {
+        let from = j * n;
+        if lowest_source(&tight[from..from + n], depths, k, y) < n {
+            return j;
+        }
+    }
+    count
+}
+
+// An action at a place of the plan, counted from its last action; places before its begin are not written.
+pub fn put(plan: &mut [u8], total: usize, place: usize, action: u8)
+    requires { ⌜ total ≤ length (now plan) ⌝ }
+    ensures { λ _. ⌜ now (plan .exit) ≡ put total place action (now (plan .entry)) ⌝ }
+{
+    if place >= total {
+        return;
+    }
+    plan[total - (place + 1)] = action;
+}
+
+// From a state back to one of depth 0: at each step the first action with a source, its lowest source, and the action into the plan.
+fn walk(
+    tight: &[u16],
+    acts: &[u8],
+    count: usize,
+    depths: &[u64],
+    state: usize,
+    plan: &mut [u8],
+    total: usize,
+    place: usize,
+) -> Ended
+    requires { ⌜ (state < length (now depths)) × (count ≤ length (now acts)) × (count * length (now depths) ≤ length (now tight))
+        × Sourced (length (now depths)) count (rowsOf (length (now depths)) (now tight)) (now depths)
+        × (getD (now depths) state mark ≤ 256) × (total ≤ length (now plan)) × (place + 256 ≤ mark) ⌝ }
+    ensures { λ r. ⌜ Walked (backBy (rowsOf (length (now (depths .entry))) (now (tight .entry))) (now (acts .entry)) count (length (now (depths .entry)))
+        (now (depths .entry)) (getD (now (depths .entry)) state mark) state) total place (now (plan .entry)) r (now (plan .exit)) ⌝ }
+{
+    let n = depths.len();
+    let mut y = state;
+    let mut k = depths[state];
+    let mut p = place;
+    while k > 0 {
+        k -= 1;
+        let j = source_action(tight, depths, count, k, y);
+        let from = j * n;
+        y = lowest_source(&tight[from..from + n], depths, k, y);
+        put(plan, total, p, acts[j]);
+        p += 1;
+    }
+    Ended { state: y, place: p }
+}
+
+// From a state back to one of depth 0, by a table of the edges; the depths are written over what is lent for them.
+fn table_back(
+    begins: &[u64],
+    prices: &[u64],
+    tight: &[u16],
+    acts: &[u8],
+    count: usize,
+    state: usize,
+    depths: &mut [u64],
+    plan: &mut [u8],
+    total: usize,
+    place: usize,
+) -> Ended
+    requires { ⌜ Tabled (now tight) (now acts) count (now begins) (now prices) state × (length (now depths) ≡ length (now prices))
+        × (total ≤ length (now plan)) × (place + 256 ≤ mark) ⌝ }
+    ensures { λ r. ⌜ Walked (wayBy (rowsOf (length (now (prices .entry))) (now (tight .entry))) (now (acts .entry)) count (now (begins .entry))
+        (now (prices .entry)) state) total place (now (plan .entry)) r (now (plan .exit)) ⌝ }
+{
+    depths_of(begins, prices, tight, count, depths);
+    walk(tight, acts, count, &depths[..], state, plan, total, place)
+}
+
+// From a state of a settled layer back to one that has kept the price that the layer began with. `tight` is only lent to work in.
+pub fn leaf_back(
+    moves: &[u16],
+    row: usize,
+    at: usize,
+    costs: &[u16],
+    acts: &[u8],
+    count: usize,
+    begins: &[u64],
+    prices: &[u64],
+    state: usize,
+    tight: &mut [u16],
+    plan: &mut [u8],
+    total: usize,
+    place: usize,
+) -> Ended
+    requires { ⌜ Walkable (now moves) row at (now costs) (now acts) count (now begins) (now prices) state
+        × (65280 ≤ length (now tight)) × (total ≤ length (now plan)) × (place + 256 ≤ mark) ⌝ }
+    ensures { λ r. ⌜ Walked (tableBack (now (moves .entry)) row at (now (costs .entry)) (now (acts .entry)) count (now (begins .entry))
+        (now (prices .entry)) state) total place (now (plan .entry)) r (now (plan .exit)) ⌝ }
+{
+    if first_depth(begins, prices, state) == 0 {
+        return Ended { state, place };
+    }
+    tight_table(prices, moves, row, at, costs, acts, count, tight);
+    let mut depths = [0u64; 256];
+    let n = prices.len();
+    table_back(
+        begins,
+        prices,
+        &tight[..],
+        acts,
+        count,
+        state,
+        &mut depths[..n],
+        plan,
+        total,
+        place,
+    )
+}
+
+// The lowest state with this price that a centre action, whose moves begin at `at`, leads to `state`; the states' count where there is none.
+pub fn lowest_over(moves: &[u16], at: usize, old: &[u64], state: usize, price: u64) -> usize
+    requires { ⌜ (at + length (now old) ≤ length (now moves)) × (state < length (now old)) ⌝ }
+    ensures { λ r. ⌜ r ≡ lowest (length (now (old .entry)))
+        (λ x. eqb (getD (now (moves .entry)) (at + x) 0) (suc state) && eqb (getD (now (old .entry)) x mark) price) ⌝ }
+{
+    let end = at + old.len();
+    lowest_source(&moves[at..end], old, price, state)
+}
