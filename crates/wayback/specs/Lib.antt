@@ -1,5 +1,4 @@
 pub mod Steps
-pub mod Laid
 pub mod Lowest
 pub mod Sources
 pub mod Tight

@@ -1,26 +1,26 @@
 -- The walk back, a step at a time: what is left of the way, from here, ends as the whole does from the start. Assumes nothing.
 use mathlib.Core.Path.{_≡_}
-use mathlib.Core.List.{List, [], _∷_}
+use mathlib.Core.List.{List, [], _∷_, reverse}
 use Prim.Native.Nat.{ℕ, zero, suc, _+_, _-_, _<_}
 use native.Mathlib.Nat.{not-suc-le-zero}
 use native.Mathlib.Omega.{arith}
 use lib.ListN.{length, getD, length-append}
 use Rattle.search.specs.Plan.{Back}
+use Rattle.search.specs.Plan.Laid.{put, laid, reverse-snoc}
 use Rattle.wayback.specs.declared.Ended.{Ended}
 use Rattle.wayback.specs.Steps.{entryBy, originBy, backBy}
-use Rattle.wayback.specs.Laid.{put, laid, backwards, backwards-snoc}
 
 -- how a way back is walked: where it ends, and its actions in the plan from place p on, the last first
 pub record Walked (b : Back) (total p : ℕ) (before : List ℕ) (r : Ended) (after : List ℕ) : Type 0 where
   pub state : r .state ≡ b .from
   pub place : r .place ≡ p + length (b .acts)
-  pub plan : after ≡ laid total p (backwards (b .acts)) before
+  pub plan : after ≡ laid total p (reverse (b .acts)) before
 
 -- way b from place p, with this plan, ends as way b′ from place p′ with that plan
 pub record Left (total : ℕ) (b : Back) (p : ℕ) (plan : List ℕ) (b′ : Back) (p′ : ℕ) (plan′ : List ℕ) : Type 0 where
   pub from : b .from ≡ b′ .from
   pub end : p + length (b .acts) ≡ p′ + length (b′ .acts)
-  pub written : laid total p (backwards (b .acts)) plan ≡ laid total p′ (backwards (b′ .acts)) plan′
+  pub written : laid total p (reverse (b .acts)) plan ≡ laid total p′ (reverse (b′ .acts)) plan′
 
 module _ (edges : ℕ → ℕ → ℕ) (acts : List ℕ) (m n : ℕ) (D : List ℕ) (total : ℕ) (b′ : Back) (p′ : ℕ) (plan′ : List ℕ) where
   -- what is left from y, of depth k, at place p
@@ -37,7 +37,7 @@ module _ (edges : ℕ → ℕ → ℕ) (acts : List ℕ) (m n : ℕ) (D : List �
       record {
         from = l .from;
         end = omega (arith, l .end, length-append rest (a ∷ []));
-        written = rw (backwards-snoc rest a, laid) at (l .written);
+        written = rw (reverse-snoc rest a, laid) at (l .written);
       }
 
   pub left-more : (k y p j x : ℕ) (plan after : List ℕ) → 0 < k → LeftAt k y p plan → j ≡ entryBy edges m n D (k - 1) y
@@ -47,5 +47,5 @@ module _ (edges : ℕ → ℕ → ℕ) (acts : List ℕ) (m n : ℕ) (D : List �
 
   -- nothing is left
   pub left-end : (k y p : ℕ) (plan : List ℕ) → k ≡ 0 → LeftAt k y p plan → Walked b′ total p′ plan′ (record { state = y; place = p }) plan
-  unfolding backBy laid backwards
+  unfolding backBy laid
   left-end k y p plan z l = let d = rw z at l in record { state = d .from; place = omega (arith, d .end); plan = d .written }

@@ -11,9 +11,9 @@ ghost use Rattle.loops.specs.Count.{list};
 ghost use Rattle.layer.specs.Layer.{mark};
 ghost use Rattle.layer.specs.Lent.{Lent};
 ghost use Rattle.search.specs.Plan.{lowest};
+ghost use Rattle.search.specs.Plan.Laid.{put};
 ghost use Rattle.search.specs.Plan.Depths.{depth0};
 ghost use Rattle.wayback.specs.Steps.{tightAt, tightBy, rowsOf, depthsBy, entryBy, backBy, wayBy, tableBack, Walkable, Tabled};
-ghost use Rattle.wayback.specs.Laid.{put};
 ghost use Rattle.wayback.specs.Sources.{Sourced};
 ghost use Rattle.wayback.specs.Walked.{Walked};
 

@@ -1,7 +1,7 @@
 -- `wayback::put` meets its contract. Each return computes, with the test that led there. Assumes nothing.
 use borrow.Author.Tests.{lt-ltb, le-ltb}
 use borrow.Author.Needs.{needs}
-use Rattle.wayback.specs.Laid.{put}
+use Rattle.search.specs.Plan.Laid.{put}
 use Rattle.wayback.proofs.put.Statement.{statement}
 use Rattle.wayback.proofs.put.Tie as tie
 

@@ -1,0 +1,78 @@
+-- The cases that are marked P, computed by the definitions from the records' bytes: one table, one theorem. Assumes nothing.
+use mathlib.Core.Path.{_≡_, refl}
+use mathlib.Core.List.{List, [], _∷_}
+use Prim.Native.Nat.{ℕ}
+use lib.ListN.{replicate, take}
+use Rattle.loops.specs.Count.{all, any, sum, list}
+use Rattle.loops.specs.Parsed.{turns}
+use Rattle.drive.specs.Drive.{driveTime, rootFrom}
+use Rattle.task.specs.Meaning.{cost}
+use Rattle.task.specs.Factors.{touches, within, holdsIn, leafPairs, starPairs, numberTo, statesTo, digitTo, centreAction, leafAction, number, states, allStates, valuesOf, meetsIn, to}
+use Rattle.task.specs.Centre.{centreOf, centreAfter, centreMeets}
+use Rattle.fields.specs.Fields.{bitOf, fieldOf, nextField}
+use Rattle.parts.specs.Grammar.{headOf, variableOf, pairOf, pairsFrom, countedPairs, effectPairs, costsOf, actionOf, listsOf, taskOf}
+use Rattle.whole.specs.Whole.{factorsUsed, statesFew, allStar, wholeOf}
+use Rattle.record.specs.Example.{fetchRecord, withoutTake, emptyGoal}
+use Rattle.record.specs.Record.{filledOf, readRecord}
+use Rattle.layer.specs.Settle.{lower, key as priceKey, keyAt, keyOf, pick, relax, settle, settled}
+use Rattle.layer.specs.Pass.{pass}
+use Rattle.layer.specs.Layer.{mark, enabledTo, settleLeaf, startLeaf, passLeaf, passes, base, leafPart, joined, firstPrices, nextPrices, appliesTo}
+use Rattle.price.specs.Path.{nextLayer, walk}
+use Rattle.price.specs.Ways.{weave}
+use Rattle.pricer.specs.declared.PriceAnswer.the-variants.{Prices}
+use Rattle.pricer.specs.Pricer.{Outcome as Priced, pathFits, taskPrices, pricesOf}
+use Rattle.search.specs.Node.{firstNode, nextNode, leastOf, key, goalPrices, isGoal, goalCost, dominates}
+use Rattle.search.specs.Explore.{belowBest, bestWith, keep, start, waits, choose, offer, turn, expand, begin, explore, explored}
+use Rattle.search.specs.Plan.{lowest, tight, tightTo, depths, source, back, begins, backIn, over, stages, pathTo, goalState, planOf}
+use Rattle.planner.specs.declared.Counts.{Counts}
+use Rattle.planner.specs.declared.PlanAnswer.{PlanAnswer}
+use Rattle.planner.specs.declared.PlanAnswer.the-variants.{Solved, Unsolvable, Refused}
+use Rattle.planner.specs.declared.PlanRefusal.the-variants.{TableFull, BudgetSpent, PlanLong}
+use Rattle.planner.specs.Planner.{withPlan, tableWords, searched, taskPlan, recordPlan}
+
+-- an answer of the planner, and the first five bytes of its plan buffer, which was filled with 238
+pub record Told : Type 0 where
+  pub answer : PlanAnswer
+  pub front : List ℕ
+
+-- a call with a table of 4,096 words
+abbrev pub call : List ℕ → ℕ → ℕ → ℕ → Told
+call rec nodes budget room =
+    let o = recordPlan rec nodes budget (replicate room 238) (replicate 4096 7) in
+    record { answer = o .answer; front = take 5 (o .plan) }
+
+abbrev pub blank : List ℕ
+blank = 238 ∷ 238 ∷ 238 ∷ 238 ∷ 238 ∷ []
+
+abbrev pub counts : ℕ → ℕ → Counts
+counts expanded kept = record { expanded = expanded; kept = kept }
+
+-- all cases marked P
+pub record Cases : Type 0 where
+  pub plans : List Told
+  pub prices : List Priced
+  pub times : List ℕ
+
+pub p-table :
+    _≡_ {A = Cases}
+    (record {
+      plans =
+          call fetchRecord 94 4096 8192 ∷ call withoutTake 94 4096 8192 ∷ call emptyGoal 94 4096 8192 ∷ call fetchRecord 94 3 8192 ∷
+          call fetchRecord 3 4096 8192 ∷ call fetchRecord 3 2 8192 ∷ call fetchRecord 94 4096 3 ∷ [];
+      prices = pricesOf fetchRecord (0 ∷ 1 ∷ []) (replicate 3 7) ∷ pricesOf fetchRecord [] (replicate 3 7) ∷ [];
+      times = driveTime 2 ∷ driveTime 400 ∷ driveTime 1023 ∷ [];
+    })
+    (record {
+      plans =
+          record { answer = Solved (record { length = 4; cost = 1600 }) (counts 4 4); front = 0 ∷ 2 ∷ 1 ∷ 3 ∷ 238 ∷ [] } ∷
+          record { answer = Unsolvable (counts 2 2); front = blank } ∷
+          record { answer = Solved (record { length = 0; cost = 0 }) (counts 0 1); front = blank } ∷
+          record { answer = Refused BudgetSpent (counts 3 4); front = blank } ∷
+          record { answer = Refused TableFull (counts 3 3); front = blank } ∷
+          record { answer = Refused BudgetSpent (counts 2 3); front = blank } ∷
+          record { answer = Refused PlanLong (counts 4 4); front = 238 ∷ 238 ∷ 238 ∷ [] } ∷ [];
+      prices = record { answer = Prices 3; words = 0 ∷ 500 ∷ 800 ∷ [] } ∷ record { answer = Prices 3; words = 0 ∷ mark ∷ mark ∷ [] } ∷ [];
+      times = 29 ∷ 400 ∷ 712 ∷ [];
+    })
+unfolding recordPlan taskPlan searched withPlan tableWords pricesOf taskPrices pathFits walk nextLayer planOf goalState pathTo stages over backIn begins back source depths tightTo tight lowest weave explored explore expand begin turn offer choose waits start keep bestWith belowBest dominates goalCost isGoal goalPrices key leastOf nextNode firstNode firstPrices nextPrices appliesTo joined leafPart base passes passLeaf startLeaf settleLeaf enabledTo pass settled settle relax pick keyOf keyAt priceKey lower readRecord filledOf wholeOf factorsUsed statesFew allStar taskOf listsOf actionOf costsOf effectPairs countedPairs pairsFrom pairOf variableOf headOf nextField fieldOf bitOf turns centreMeets centreAfter centreOf to meetsIn valuesOf allStates states number leafAction centreAction digitTo statesTo numberTo starPairs leafPairs holdsIn within touches cost driveTime rootFrom all any sum list
+p-table = refl

@@ -1,0 +1,291 @@
+// The planner: a plan of least cost, "unsolvable", or one numbered refusal.
+use explore::Run;
+use explore::Stop;
+use explore::Why;
+use explore::explore;
+use fields::Refusal;
+use layer::MARK;
+use plans::write_plan;
+use record::read_record;
+use tables::action_costs;
+use tables::action_kinds;
+use tables::fill_moves;
+use tables::leaf_bases;
+use tables::leaf_goals;
+use tables::leaf_starts;
+use task::Task;
+use whole::Verdict;
+use words::zero_words;
+ghost use mathlib.Core.Path.{_≡_};
+ghost use mathlib.Core.List.{[]};
+ghost use Prim.Native.Nat.{_≤_};
+ghost use lib.ListN.{length};
+ghost use Rattle.task.specs.Factors.{allStates};
+ghost use Rattle.task.specs.Valid.{Valid};
+ghost use Rattle.record.specs.Record.{readRecord};
+ghost use Rattle.tables.specs.Tables.{Bases, Tabled, Goals};
+ghost use Rattle.search.specs.Explore.{explored};
+ghost use Rattle.explore.specs.Held.{reasonOf};
+ghost use Rattle.planner.specs.Planner.{Outcome, refusalNumber, atBest, atStop, tableWords, searched, taskPlan, recordPlan, fittingNodes, recordNodes};
+ghost use Rattle.planner.specs.Planner.Demands.{CarriesOut, LeastCost, Decided, Untouched, Zeroed};
+ghost use Rattle.planner.specs.Planner.Stops.{runIn, Sound};
+
+// How many expansions have begun, and how many nodes are kept.
+pub struct Counts {
+    pub expanded: u32,
+    pub kept: usize,
+}
+
+// A plan's length and cost.
+pub struct Solution {
+    pub length: usize,
+    pub cost: u64,
+}
+
+// Why there is no plan: the record's own refusals, then 20 to 24.
+pub enum PlanRefusal {
+    InRecord(Refusal),
+    NodesWrong,
+    TableShort,
+    TableFull,
+    BudgetSpent,
+    PlanLong,
+}
+
+// A plan, none, or a refusal.
+pub enum PlanAnswer {
+    Solved(Solution, Counts),
+    Unsolvable(Counts),
+    Refused(PlanRefusal, Counts),
+}
+
+// The refusal's number.
+pub fn refusal_number(r: PlanRefusal) -> u8
+    ensures { λ n. ⌜ n ≡ refusalNumber r ⌝ }
+{
+    match r {
+        PlanRefusal::InRecord(why) => fields::number(why),
+        PlanRefusal::NodesWrong => 20,
+        PlanRefusal::TableShort => 21,
+        PlanRefusal::TableFull => 22,
+        PlanRefusal::BudgetSpent => 23,
+        PlanRefusal::PlanLong => 24,
+    }
+}
+
+// The answer of a search that has finished: the plan of best's node, at the front of `plan`; or that it is too long; or that there is none.
+fn finish(
+    task: Task,
+    bases: &[usize],
+    moves: &[u16],
+    costs: &[u16],
+    kinds: &[u8],
+    starts: &[usize],
+    goals: &[u16],
+    table: &[u64],
+    run: Run,
+    plan: &mut [u8],
+) -> PlanAnswer
+    requires { ⌜ Valid task ⌝ }
+    requires { ⌜ Tabled task (now bases) (now moves) (now costs) (now kinds) (now starts) × Goals task (now goals) ⌝ }
+    requires { ⌜ Sound task (now table) run ⌝ }
+    ensures { λ r. ⌜ _≡_ {A = Outcome} (record { answer = r; plan = now (plan .exit); words = [] })
+        (atBest task (runIn (allStates task) (now (table .entry)) run) (run .best) (now (plan .entry)) []) ⌝ }
+{
+    let counts = Counts {
+        expanded: run.begun,
+        kept: run.count,
+    };
+    let best = run.best;
+    if best == 0 {
+        return PlanAnswer::Unsolvable(counts);
+    }
+    let length = write_plan(
+        task,
+        bases,
+        moves,
+        costs,
+        kinds,
+        starts,
+        goals,
+        table,
+        run.count,
+        best - 1,
+        plan,
+    );
+    if length > plan.len() {
+        return PlanAnswer::Refused(PlanRefusal::PlanLong, counts);
+    }
+    PlanAnswer::Solved(
+        Solution {
+            length,
+            cost: run.best_cost,
+        },
+        counts,
+    )
+}
+
+// The answer of a search that has stopped.
+fn answer_of(
+    task: Task,
+    bases: &[usize],
+    moves: &[u16],
+    costs: &[u16],
+    kinds: &[u8],
+    starts: &[usize],
+    goals: &[u16],
+    table: &[u64],
+    stop: Stop,
+    plan: &mut [u8],
+) -> PlanAnswer
+    requires { ⌜ Valid task ⌝ }
+    requires { ⌜ Tabled task (now bases) (now moves) (now costs) (now kinds) (now starts) × Goals task (now goals) ⌝ }
+    requires { ⌜ Sound task (now table) (stop .run) ⌝ }
+    ensures { λ r. ⌜ _≡_ {A = Outcome} (record { answer = r; plan = now (plan .exit); words = [] })
+        (atStop task (reasonOf (stop .why)) (runIn (allStates task) (now (table .entry)) (stop .run)) (now (plan .entry)) []) ⌝ }
+{
+    let run = stop.run;
+    let counts = Counts {
+        expanded: run.begun,
+        kept: run.count,
+    };
+    let why = stop.why;
+    match why {
+        Why::TableFull => PlanAnswer::Refused(PlanRefusal::TableFull, counts),
+        Why::BudgetSpent => PlanAnswer::Refused(PlanRefusal::BudgetSpent, counts),
+        Why::Finished => finish(
+            task, bases, moves, costs, kinds, starts, goals, table, run, plan,
+        ),
+    }
+}
+
+// The tables of the task, the search, and its answer; `table` has just the words that the nodes need.
+fn search_tables(
+    task: Task,
+    bases: [usize; 9],
+    nodes: usize,
+    budget: u32,
+    plan: &mut [u8],
+    table: &mut [u64],
+) -> PlanAnswer
+    requires { ⌜ Valid task ⌝ }
+    requires { ⌜ Bases task bases × (1 ≤ nodes) × (nodes ≤ 4096) × (tableWords task nodes ≤ length (now table)) ⌝ }
+    ensures { λ r. ⌜ _≡_ {A = Outcome} (record { answer = r; plan = now (plan .exit); words = [] })
+        (atStop task (explored task nodes budget .reason) (explored task nodes budget .search) (now (plan .entry)) []) ⌝ }
+{
+    let mut moves = [0u16; 261120];
+    fill_moves(task, bases, &mut moves);
+    let costs = action_costs(task);
+    let kinds = action_kinds(task);
+    let starts = leaf_starts(task);
+    let goals = leaf_goals(task, bases);
+    let mut open = [MARK; 4096];
+    let stop = explore(
+        task, &bases, &moves, &costs, &kinds, &starts, &goals, nodes, budget, table, &mut open,
+    );
+    answer_of(
+        task, &bases, &moves, &costs, &kinds, &starts, &goals, table, stop, plan,
+    )
+}
+
+// The search, and its words zeroed behind it.
+fn search_task(
+    task: Task,
+    bases: [usize; 9],
+    nodes: usize,
+    budget: u32,
+    plan: &mut [u8],
+    table: &mut [u64],
+) -> PlanAnswer
+    requires { ⌜ Valid task ⌝ }
+    requires { ⌜ Bases task bases × (1 ≤ nodes) × (nodes ≤ 4096) × (tableWords task nodes ≤ length (now table)) ⌝ }
+    ensures { λ r. ⌜ _≡_ {A = Outcome} (record { answer = r; plan = now (plan .exit); words = now (table .exit) })
+        (searched task nodes budget (now (plan .entry)) (now (table .entry))) ⌝ }
+{
+    let leaves = task.leaves as usize;
+    let words = (nodes + 1) * (40 + bases[leaves]);
+    let answer = search_tables(task, bases, nodes, budget, plan, &mut table[..words]);
+    zero_words(table, words);
+    answer
+}
+
+// The answer for a task that the reader accepted: 20, 21, then the search.
+fn plan_task(task: Task, nodes: u32, budget: u32, plan: &mut [u8], table: &mut [u64]) -> PlanAnswer
+    requires { ⌜ Valid task ⌝ }
+    ensures { λ r. ⌜ _≡_ {A = Outcome} (record { answer = r; plan = now (plan .exit); words = now (table .exit) })
+        (taskPlan task nodes budget (now (plan .entry)) (now (table .entry))) ⌝ }
+{
+    let none = Counts {
+        expanded: 0,
+        kept: 0,
+    };
+    if nodes == 0 {
+        return PlanAnswer::Refused(PlanRefusal::NodesWrong, none);
+    }
+    if nodes > 4096 {
+        return PlanAnswer::Refused(PlanRefusal::NodesWrong, none);
+    }
+    let bases = leaf_bases(task);
+    let leaves = task.leaves as usize;
+    let many = nodes as usize;
+    if table.len() < (many + 1) * (40 + bases[leaves]) {
+        return PlanAnswer::Refused(PlanRefusal::TableShort, none);
+    }
+    search_task(task, bases, many, budget, plan, table)
+}
+
+// As many nodes as fit into a table of so many words, 4,096 at most.
+fn task_nodes(task: Task, words: usize) -> u32
+    requires { ⌜ Valid task ⌝ }
+    ensures { λ r. ⌜ r ≡ fittingNodes task words ⌝ }
+{
+    let bases = leaf_bases(task);
+    let leaves = task.leaves as usize;
+    let rows = words / (40 + bases[leaves]);
+    if rows == 0 {
+        return 0;
+    }
+    if rows > 4097 {
+        return 4096;
+    }
+    (rows - 1) as u32
+}
+
+// A plan of least cost for the task that the record holds, one byte for each action, at the front of `plan`; "unsolvable"; or one refusal. `table` is
+// working memory: as it was before a search, zero after one.
+pub fn plan(record: &[u8], nodes: u32, budget: u32, plan: &mut [u8], table: &mut [u64]) -> PlanAnswer
+    ensures answer { λ r. ⌜ _≡_ {A = Outcome} (record { answer = r; plan = now (plan .exit); words = now (table .exit) })
+        (recordPlan (now («record» .entry)) nodes budget (now (plan .entry)) (now (table .entry))) ⌝ }
+    ensures carries_out { λ r. ⌜ CarriesOut (readRecord (now («record» .entry)) .task) (now (plan .exit)) r ⌝ }
+    ensures least_cost { λ r. ⌜ LeastCost (readRecord (now («record» .entry)) .task) r ⌝ }
+    ensures decided { λ r. ⌜ Decided (readRecord (now («record» .entry)) .task) (length (now (plan .entry))) r ⌝ }
+    ensures untouched { λ r. ⌜ Untouched (now (plan .entry)) (now (plan .exit)) r ⌝ }
+    ensures zeroed { λ r. ⌜ Zeroed (tableWords (readRecord (now («record» .entry)) .task) nodes) (now (table .entry)) (now (table .exit)) r ⌝ }
+{
+    let r = read_record(record);
+    let v = r.verdict;
+    let t = r.task;
+    match v {
+        Verdict::Refused(why) => PlanAnswer::Refused(
+            PlanRefusal::InRecord(why),
+            Counts {
+                expanded: 0,
+                kept: 0,
+            },
+        ),
+        Verdict::Accepted => plan_task(t, nodes, budget, plan, table),
+    }
+}
+
+// As many nodes as fit into a table of so many words, 4,096 at most; 0 where the record is refused or not even one fits.
+pub fn fitting_nodes(record: &[u8], words: usize) -> u32
+    ensures { λ r. ⌜ r ≡ recordNodes (now («record» .entry)) words ⌝ }
+{
+    let r = read_record(record);
+    let v = r.verdict;
+    let t = r.task;
+    match v {
+        Verdict::Refused(why) => 0,
+        Verdict::Accepted => task_nodes(t, words),
+    }
+}

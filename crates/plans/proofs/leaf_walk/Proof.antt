@@ -1,0 +1,197 @@
+-- `plans::leaf_walk` meets its contract: it lends the enabled actions and the leaf's prices in the node's row. Assumes nothing.
+use mathlib.Core.Path.{_≡_, ap, _∙_}
+use Prim.Native.Nat.{ℕ, _+_, _-_, _*_, _≤_}
+use native.Mathlib.Omega.{arith}
+use lib.ListN.{length, take, drop, length-take}
+use borrow.Author.Needs.{needs}
+use Rattle.task.specs.declared.Centre.{Centre}
+use Rattle.layer.specs.Board.{Board, baseOn, rowOn, statesOn, enabledOn}
+use Rattle.layer.specs.Board.Turns.{base-in, enabled-part, front-these, front-many}
+use Rattle.layer.specs.Lent.{boardOf}
+use Rattle.plans.specs.Walk.{pricesOn, actsOn}
+use Rattle.plans.specs.Walk.Laws.{spot-at, slice-is, slice-length, walkable-here, walked-here}
+use Rattle.plans.proofs.leaf_walk.Statement.{statement}
+use Rattle.plans.proofs.leaf_walk.Tie as tie
+
+mul-row : tie.Need-mul-row
+mul-row c = search needs
+
+shared-slice-read-row : tie.Need-shared-slice-read-row
+shared-slice-read-row c = search needs
+
+mul-at : tie.Need-mul-at
+mul-at c = search needs
+
+shared-slice-read-at : tie.Need-shared-slice-read-at
+shared-slice-read-at c = search needs
+
+add-first : tie.Need-add-first
+add-first c = search needs
+
+mul-first : tie.Need-mul-first
+mul-first c = search needs
+
+add-read-spot : tie.Need-add-read-spot
+add-read-spot c = search needs
+
+add-read-spot-2 : tie.Need-add-read-spot-2
+add-read-spot-2 c = search needs
+
+mul-read-spot : tie.Need-mul-read-spot
+mul-read-spot c = search needs
+
+sub-read-spot : tie.Need-sub-read-spot
+sub-read-spot c = search needs
+
+part-read-spot-start : tie.Need-part-read-spot-start
+part-read-spot-start c = search needs
+
+part-read-spot-end : tie.Need-part-read-spot-end
+part-read-spot-end c = search needs
+
+read-spot-requires : tie.Need-read-spot-requires
+read-spot-requires c κs = search needs
+
+slice-aggregate-enabled : tie.Need-slice-aggregate-enabled
+slice-aggregate-enabled c = search needs
+
+enabled-requires : tie.Need-enabled-requires
+enabled-requires c κs = search needs
+
+-- the Board that is lent
+abbrev board : tie.Start → Board
+board s =
+    let a = s .args in
+    boardOf (a .leaves) (a .actions) (a .bases .now) (a .moves .now) (a .costs .now) (a .kinds .now) (a .factors) (a .conditions .now)
+
+-- where the function starts, seen from behind the enabled actions
+abbrev start : tie.After-enabled → tie.Start
+start c = c .before .before .before .before .before .before .before .before .before .before .before .before .before .before .before
+
+-- the leaf lies within the node's row
+room : (c : tie.After-enabled) → let s = start c in let b = board s in
+    (s .args .node * (40 + rowOn b) + (40 + rowOn b) ≤ length (s .args .table .now)) × (baseOn b (s .args .i) + length (s .args .begins .now) ≤ rowOn b)
+    × (length (s .args .begins .now) ≡ statesOn b (s .args .i)) × (rowOn b ≤ 1024)
+room c =
+    let s = start c in
+    let b = board s in
+    let T = s .args .table .now in
+    let i = s .args .i in
+    let sound = s .pre .0 .0 in
+    let l = s .pre .0 .1 in
+    let many = ap length (slice-is b sound T i (s .args .node) l) in
+    let long = slice-length b sound T i (s .args .node) l (s .pre .0 .2) in
+    omega (arith, s .pre .0 .2, many, long, s .pre .1 .0 .same, base-in b sound i l, sound .bases-rise i l, sound .few-all)
+
+-- the actions at the front of the list are the enabled ones
+front : (c : tie.After-enabled) → let s = start c in
+    take (c .enabled .result) (c .enabled .last .1 .1 .1 .1 .1 .1 .0) ≡ actsOn (board s) (s .args .table .now) (s .args .i) (s .args .node)
+front c =
+    let s = start c in
+    let r = c .before .before in
+    let b = board s in
+    let first = s .args .node * (40 + rowOn b) in
+    let spot = r .read-spot .ensures ∙ spot-at (rowOn b) (s .args .table .now) (s .args .node) (first + (40 + rowOn b) - first) (omega arith) in
+    front-these (c .enabled .ensures) ∙ enabled-part b (s .args .i) _ (s .args .actions)
+    ∙ ap (λ (x : Centre). enabledOn b (s .args .i) x (s .args .actions)) spot
+
+counted : (c : tie.After-enabled) → c .enabled .result ≡ length (take (c .enabled .result) (c .enabled .last .1 .1 .1 .1 .1 .1 .0))
+counted c = front-many (c .enabled .ensures)
+
+-- the leaf's prices, as they are lent
+lent : (c : tie.After-enabled) → let s = start c in let b = board s in
+    let from = s .args .node * (40 + rowOn b) + (40 + baseOn b (s .args .i)) in
+    take (from + length (s .args .begins .now) - from) (drop from (s .args .table .now)) ≡ pricesOn b (s .args .table .now) (s .args .i) (s .args .node)
+lent c =
+    let s = start c in
+    let b = board s in
+    let from = s .args .node * (40 + rowOn b) + (40 + baseOn b (s .args .i)) in
+    let many : from + length (s .args .begins .now) - from ≡ statesOn b (s .args .i) = omega (arith, room c .2) in
+    ap (λ (k : ℕ). take k (drop from (s .args .table .now))) many
+    ∙ slice-is b (s .pre .0 .0) (s .args .table .now) (s .args .i) (s .args .node) (s .pre .0 .1)
+
+add-from : tie.Need-add-from
+add-from c = omega (arith, room (c .before))
+
+add-from-2 : tie.Need-add-from-2
+add-from-2 c = omega (arith, room (c .before))
+
+array-share-prefix-acts : tie.Need-array-share-prefix-acts
+array-share-prefix-acts c = omega (arith, counted (c .before), length-take (c .before .enabled .result) (c .before .enabled .last .1 .1 .1 .1 .1 .1 .0))
+
+slice-aggregate-leaf-back : tie.Need-slice-aggregate-leaf-back
+slice-aggregate-leaf-back c = counted (c .before .before)
+
+add-leaf-back : tie.Need-add-leaf-back
+add-leaf-back c = omega (arith, room (c .before .before), start (c .before .before) .good .1 .1 .1 .1 .1 .1 .1 .1 .0)
+
+mul-leaf-back : tie.Need-mul-leaf-back
+mul-leaf-back c = omega (arith, room (c .before .before), start (c .before .before) .good .1 .1 .1 .1 .1 .1 .1 .1 .0)
+
+sub-leaf-back : tie.Need-sub-leaf-back
+sub-leaf-back c = search needs
+
+part-leaf-back-start : tie.Need-part-leaf-back-start
+part-leaf-back-start c = search needs
+
+part-leaf-back-end : tie.Need-part-leaf-back-end
+part-leaf-back-end c = omega (arith, room (c .before .before), start (c .before .before) .good .1 .1 .1 .1 .1 .1 .1 .1 .0)
+
+leaf-back-requires : tie.Need-leaf-back-requires
+leaf-back-requires c κs =
+    let e = c .before .before .before .before .before in
+    let s = start e in
+    let a = s .args in (
+      walkable-here (board s) (a .table .now) (a .i) (a .node) (a .begins .now) _ _ _ (a .state) (front e) (counted e) (lent e) (s .pre .1 .0),
+      s .pre .1 .1 .0,
+      s .pre .1 .1 .1,
+      s .pre .1 .1 .2,
+    )
+
+same-length : tie.Need-same-length
+same-length c = search needs
+
+same-length-2 : tie.Need-same-length-2
+same-length-2 c = search needs
+
+returns : tie.Need-returns
+returns c =
+    let e = c .before .before .before .before .before .before .before .before .before .before in
+    let s = start e in
+    let a = s .args in
+    walked-here (board s) (a .table .now) (a .i) (a .node) (a .begins .now) _ _ _ (a .state) (front e) (counted e) (lent e)
+    (a .total) (a .place) (a .plan .now) _ _
+    (c .before .before .before .before .leaf-back .ensures)
+
+pub leaf-walk-spec : {M : Type 1} → statement M
+leaf-walk-spec =
+    tie.close
+    (tie.spec
+    mul-row
+    shared-slice-read-row
+    mul-at
+    shared-slice-read-at
+    add-first
+    mul-first
+    add-read-spot
+    add-read-spot-2
+    mul-read-spot
+    sub-read-spot
+    part-read-spot-start
+    part-read-spot-end
+    read-spot-requires
+    slice-aggregate-enabled
+    enabled-requires
+    add-from
+    add-from-2
+    array-share-prefix-acts
+    slice-aggregate-leaf-back
+    add-leaf-back
+    mul-leaf-back
+    sub-leaf-back
+    part-leaf-back-start
+    part-leaf-back-end
+    leaf-back-requires
+    same-length
+    same-length-2
+    returns)

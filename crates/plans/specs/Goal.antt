@@ -1,0 +1,98 @@
+-- The goal states by the table of goal states are the task's, and what the plan's buffer holds in the end. Assumes nothing.
+use mathlib.Core.Path.{_≡_, refl, sym, ap, _∙_}
+use mathlib.Core.Bool.{Bool, true, false, cond, not}
+use mathlib.Core.List.{List, _++_, reverse}
+use Prim.Native.Nat.{ℕ, suc, _≤_, _<_}
+use native.Mathlib.Omega.{arith}
+use lib.Dec.{eqb}
+use lib.ListN.{length, getD, drop, length-reverse}
+use lib.Seq.{getD-take, getD-drop}
+use borrow.Author.Tests.{le-leb, lt-leb}
+use Rattle.loops.specs.Count.Laws.{list-ext}
+use Rattle.task.specs.declared.Task.{Task}
+use Rattle.task.specs.Meaning.{goal}
+use Rattle.task.specs.Factors.{states, valuesOf, meetsIn}
+use Rattle.layer.specs.Layer.{mark, base, leafPart}
+use Rattle.layer.specs.Board.{Board}
+use Rattle.layer.specs.Board.Laws.{part-on}
+use Rattle.tables.specs.Tables.{Goals}
+use Rattle.search.specs.Node.{goalPrices, isGoal}
+use Rattle.search.specs.Explore.{Search, nodeAt}
+use Rattle.search.specs.Plan.{goalState, planOf}
+use Rattle.search.specs.Plan.Backwards.{planBack, planBack-ext, plan-back}
+use Rattle.search.specs.Plan.Laid.{laid, laid-none, laid-all}
+use Rattle.search.specs.Plan.Reaches.{goalState-is, isGoal-out}
+use Rattle.nodes.specs.Scan.{partBy, goalsBy}
+use Rattle.plans.specs.Walk.{nodeOn, goalOn, written}
+use Rattle.plans.specs.Fit.{Grounds, searchOn, prices-on, prices-length}
+use Rattle.plans.specs.Steps.{Priced}
+
+-- ---- goal states
+
+-- a test turned round
+cond-not : (b : Bool) (x y : ℕ) → cond (not b) x y ≡ cond b y x
+cond-not true x y = refl
+cond-not false x y = refl
+
+module _ (t : Task) (b : Board) (starts T : List ℕ) (count : ℕ) (g : Grounds t b starts T count) (goals : List ℕ) (is : Goals t goals)
+    (u : ℕ) (h : u < count) where
+  -- the prices of the leaf's goal states
+  goals-on : (i : ℕ) → i < t .leaves
+      → goalsBy (partBy (b .bases) i goals) (partBy (b .bases) i (nodeOn b T u .prices)) ≡ goalPrices t i (nodeAt t (searchOn b T count) u)
+  unfolding goalsBy goalPrices leafPart
+  goals-on i m =
+      rw (prices-length t b starts T count g i m u h, prices-on t b starts T count g i m u h, part-on t b (g .fits) i goals m)
+      (list-ext (states t (suc i)) _ _ (λ x l. rw (entry x l) (cond-not (meetsIn t (suc i) (goal t) (valuesOf t (suc i) x)) mark _)))
+    where
+      entry : (x : ℕ) → x < states t (suc i) → eqb (getD (leafPart t i goals) x 0) 0 ≡ not (meetsIn t (suc i) (goal t) (valuesOf t (suc i) x))
+      entry x l =
+          ap (λ (k : ℕ). eqb k 0) (getD-take (states t (suc i)) (drop (base t i) goals) x 0 l ∙ getD-drop (base t i) goals x 0) ∙ is .is i x m l
+
+  -- its goal state
+  pub goal-on : (i : ℕ) → i < t .leaves → goalOn (b .bases) goals (nodeOn b T u .prices) i ≡ goalState t (searchOn b T count) i u
+  unfolding goalOn goalState
+  goal-on i m = rw (goals-on i m, prices-length t b starts T count g i m u h)
+
+-- in a goal node each leaf's goal state has a price below the mark
+pub goal-priced : (t : Task) (s : Search) (u : ℕ) → isGoal t (nodeAt t s u) ≡ true → Priced t s u (λ i. goalState t s i u)
+goal-priced t s u e i m =
+    let low = isGoal-out t s u e .1 i m in
+    omega (arith, goalState-is t s u i low .1)
+
+-- ---- the buffer
+
+-- a plan that fits is written, one that does not is not
+written-fits : (p plan : List ℕ) → length p ≤ length plan → written p plan ≡ p ++ drop (length p) plan
+unfolding written
+written-fits p plan h = rw (written, le-leb (length p) (length plan) h)
+
+written-not : (p plan : List ℕ) → length plan < length p → written p plan ≡ plan
+unfolding written
+written-not p plan h = rw (written, lt-leb (length p) (length plan) h)
+
+module _ (t : Task) (s : Search) (u : ℕ) (ys : ℕ → ℕ) (same : (i : ℕ) → i < t .leaves → ys i ≡ goalState t s i u) where
+  -- what is walked back from the goal states is the plan, from its end
+  walked-plan : reverse (planBack t s u u ys) ≡ planOf t s u
+  walked-plan = ap reverse (planBack-ext t s u u ys (λ i. goalState t s i u) same) ∙ plan-back t s u
+
+  walked-length : length (planBack t s u u ys) ≡ length (planOf t s u)
+  walked-length = sym (length-reverse (planBack t s u u ys)) ∙ ap length walked-plan
+
+  -- where it is longer than the buffer, that stays as it was
+  pub plan-short : (r : ℕ) (plan plan′ : List ℕ) → r ≡ length (planBack t s u u ys) → plan′ ≡ laid 0 0 (planBack t s u u ys) plan → length plan′ < r
+      → (r ≡ length (planOf t s u)) × (plan′ ≡ written (planOf t s u) plan)
+  plan-short r plan plan′ e q h =
+      let same : plan′ ≡ plan = q ∙ laid-none 0 (planBack t s u u ys) plan in
+      (e ∙ walked-length, same ∙ sym (written-not (planOf t s u) plan (omega (arith, walked-length, ap length same))))
+
+  -- laid into a buffer with room for it, it stands there forwards
+  pub plan-long : (r : ℕ) (plan plan′ : List ℕ) → r ≡ length (planBack t s u u ys) → plan′ ≡ laid 0 0 (planBack t s u u ys) plan → r ≤ length plan′
+      → (r′ : ℕ) (plan″ : List ℕ) → r′ ≡ length (planBack t s u u ys) → plan″ ≡ laid r 0 (planBack t s u u ys) plan′
+      → (r′ ≡ length (planOf t s u)) × (plan″ ≡ written (planOf t s u) plan)
+  plan-long r plan plan′ e q h r′ plan″ e′ q′ =
+      let same : plan′ ≡ plan = q ∙ laid-none 0 (planBack t s u u ys) plan in
+      let room : length (planBack t s u u ys) ≤ length plan = omega (arith, ap length same) in (
+        e′ ∙ walked-length,
+        rw (q′, same, e, written-fits (planOf t s u) plan (omega (arith, walked-length)), ← walked-length, ← walked-plan)
+            (laid-all (planBack t s u u ys) plan room),
+      )

@@ -1,0 +1,5 @@
+pub mod Walk
+pub mod Kept
+pub mod Fit
+pub mod Steps
+pub mod Goal

@@ -1,0 +1,580 @@
+// The plan of a node of the lent table, walked back node by node and written into the lent buffer from its end.
+use layer::MARK;
+use layer::enabled;
+use layer::pass;
+use nodes::least_goal;
+use nodes::read_spot;
+use task::Task;
+use wayback::Ended;
+use wayback::leaf_back;
+use wayback::lowest_over;
+use wayback::put;
+ghost use mathlib.Core.Path.{_≡_};
+ghost use mathlib.Core.Bool.{cond, true};
+ghost use Prim.Native.Nat.{ℕ, _+_, _-_, _*_, _≤_, _<_};
+ghost use lib.Dec.{eqb};
+ghost use lib.ListN.{length, getD, replicate};
+ghost use Rattle.task.specs.Factors.{allStates};
+ghost use Rattle.task.specs.Valid.{Valid};
+ghost use Rattle.layer.specs.Layer.{mark};
+ghost use Rattle.layer.specs.Board.{Sound};
+ghost use Rattle.layer.specs.Lent.{boardOf};
+ghost use Rattle.tables.specs.Tables.{Filled, Goals, Tabled};
+ghost use Rattle.search.specs.Node.{leastOf, isGoal};
+ghost use Rattle.search.specs.Explore.{nodeAt};
+ghost use Rattle.search.specs.Plan.{lowest, planOf};
+ghost use Rattle.search.specs.Plan.Backwards.{planBack};
+ghost use Rattle.search.specs.Plan.Laid.{laid};
+ghost use Rattle.search.specs.Plan.Real.{Real};
+ghost use Rattle.nodes.specs.Row.{nodeIn};
+ghost use Rattle.nodes.specs.Scan.{Cut, goalsBy};
+ghost use Rattle.wayback.specs.Walked.{Walked};
+ghost use Rattle.plans.specs.Walk.{heldIn, beginsOn, backFrom, backOn, WalkableFrom, WalkableOn, overOn, goalOn, RowIn, Standing, LayerWalked, NodeWalked, written};
+ghost use Rattle.plans.specs.Steps.{Priced};
+
+// ---- goal states
+
+// The price that counts at a state: its own where it is a goal state, else the mark.
+fn goal_price(price: u64, goal: u16) -> u64
+    ensures { λ r. ⌜ r ≡ cond (eqb goal 0) mark price ⌝ }
+{
+    if goal == 0 {
+        return MARK;
+    }
+    price
+}
+
+// The lowest goal state of least price.
+fn lowest_goal(prices: &[u64], goals: &[u16]) -> usize
+    requires { ⌜ length (now goals) ≡ length (now prices) ⌝ }
+    ensures { λ r. ⌜ r ≡ lowest (length (now (prices .entry))) (λ x.
+        eqb (getD (goalsBy (now (goals .entry)) (now (prices .entry))) x mark) (leastOf (goalsBy (now (goals .entry)) (now (prices .entry))))) ⌝ }
+{
+    let least = least_goal(prices, goals);
+    for x in 0..prices.len() {
+        if goal_price(prices[x], goals[x]) == least {
+            return x;
+        }
+    }
+    prices.len()
+}
+
+// Each leaf's lowest goal state of least price.
+fn goal_ends(leaves: usize, bases: &[usize], goals: &[u16], prices: &[u64]) -> [usize; 8]
+    requires { ⌜ Cut leaves (now bases) (length (now prices)) × Cut leaves (now bases) (length (now goals)) ⌝ }
+    ensures { λ r. ⌜ Filled leaves (goalOn (now (bases .entry)) (now (goals .entry)) (now (prices .entry))) r ⌝ }
+{
+    let mut ends = [0usize; 8];
+    for i in 0..leaves {
+        let from = bases[i];
+        let to = bases[i + 1];
+        ends[i] = lowest_goal(&prices[from..to], &goals[from..to]);
+    }
+    ends
+}
+
+// ---- rows
+
+// The number of the node that a node was made from.
+fn parent_of(table: &[u64], states: usize, node: usize) -> usize
+    requires { ⌜ RowIn states (now table) node ⌝ }
+    ensures { λ r. ⌜ r ≡ nodeIn states (now (table .entry)) node .parent ⌝ }
+{
+    table[node * (40 + states) + 33] as usize
+}
+
+// The centre action that made it.
+fn action_of(table: &[u64], states: usize, node: usize) -> usize
+    requires { ⌜ RowIn states (now table) node ⌝ }
+    ensures { λ r. ⌜ r ≡ nodeIn states (now (table .entry)) node .action ⌝ }
+{
+    table[node * (40 + states) + 34] as usize
+}
+
+// The prices that a node's layer began with, in the leaf behind i leaves; `out` has the mark everywhere.
+fn layer_begin(
+    leaves: usize,
+    actions: usize,
+    bases: &[usize],
+    moves: &[u16],
+    costs: &[u16],
+    kinds: &[u8],
+    factors: [u8; 32],
+    conditions: &[u8],
+    starts: &[usize],
+    table: &[u64],
+    node: usize,
+    i: usize,
+    out: &mut [u64],
+)
+    requires { ⌜ Standing (boardOf leaves actions (now bases) (now moves) (now costs) (now kinds) factors (now conditions)) (now starts) (now table) node
+        × (i < leaves) × (now out ≡ replicate (getD (now bases) (i + 1) 0 - getD (now bases) i 0) mark) ⌝ }
+    ensures { λ _. ⌜ now (out .exit) ≡ beginsOn (boardOf leaves actions (now (bases .entry)) (now (moves .entry)) (now (costs .entry)) (now (kinds .entry))
+        factors (now (conditions .entry))) (now (starts .entry)) (now (table .entry)) i node ⌝ }
+{
+    if node == 0 {
+        out[starts[i]] = 0;
+        return;
+    }
+    let row = bases[leaves];
+    let at = bases[i];
+    let parent = parent_of(table, row, node);
+    let action = action_of(table, row, node);
+    let from = parent * (40 + row) + (40 + at);
+    pass(
+        &table[from..from + out.len()],
+        moves,
+        action * row + at,
+        out,
+    );
+}
+
+// ---- one leaf inside one layer
+
+// The leaf behind i leaves walks back from a state of a node's layer, which began with the prices `begins`.
+fn leaf_walk(
+    leaves: usize,
+    actions: usize,
+    bases: &[usize],
+    moves: &[u16],
+    costs: &[u16],
+    kinds: &[u8],
+    factors: [u8; 32],
+    conditions: &[u8],
+    table: &[u64],
+    node: usize,
+    i: usize,
+    begins: &[u64],
+    state: usize,
+    tight: &mut [u16],
+    plan: &mut [u8],
+    total: usize,
+    place: usize,
+) -> Ended
+    requires { ⌜ Sound (boardOf leaves actions (now bases) (now moves) (now costs) (now kinds) factors (now conditions)) × (i < leaves)
+        × RowIn (getD (now bases) leaves 0) (now table) node ⌝ }
+    requires { ⌜ WalkableFrom (boardOf leaves actions (now bases) (now moves) (now costs) (now kinds) factors (now conditions)) (now table) i node (now begins) state ⌝ }
+    requires { ⌜ (65280 ≤ length (now tight)) × (total ≤ length (now plan)) × (place + 256 ≤ mark) ⌝ }
+    ensures { λ r. ⌜ Walked (backFrom (boardOf leaves actions (now (bases .entry)) (now (moves .entry)) (now (costs .entry)) (now (kinds .entry)) factors
+        (now (conditions .entry))) (now (table .entry)) i node (now (begins .entry)) state) total place (now (plan .entry)) r (now (plan .exit)) ⌝ }
+{
+    let row = bases[leaves];
+    let at = bases[i];
+    let first = node * (40 + row);
+    let spot = read_spot(&table[first..first + (40 + row)]);
+    let mut acts = [0u8; 256];
+    let count = enabled(kinds, factors, conditions, spot, i, actions, &mut acts);
+    let from = first + (40 + at);
+    leaf_back(
+        moves,
+        row,
+        at,
+        costs,
+        &acts[..count],
+        count,
+        begins,
+        &table[from..from + begins.len()],
+        state,
+        tight,
+        plan,
+        total,
+        place,
+    )
+}
+
+// The leaf behind i leaves walks back inside a node's layer.
+fn leaf_step(
+    leaves: usize,
+    actions: usize,
+    bases: &[usize],
+    moves: &[u16],
+    costs: &[u16],
+    kinds: &[u8],
+    factors: [u8; 32],
+    conditions: &[u8],
+    starts: &[usize],
+    table: &[u64],
+    node: usize,
+    i: usize,
+    state: usize,
+    tight: &mut [u16],
+    plan: &mut [u8],
+    total: usize,
+    place: usize,
+) -> Ended
+    requires { ⌜ Standing (boardOf leaves actions (now bases) (now moves) (now costs) (now kinds) factors (now conditions)) (now starts) (now table) node × (i < leaves) ⌝ }
+    requires { ⌜ WalkableOn (boardOf leaves actions (now bases) (now moves) (now costs) (now kinds) factors (now conditions)) (now starts) (now table) i node state ⌝ }
+    requires { ⌜ (65280 ≤ length (now tight)) × (total ≤ length (now plan)) × (place + 256 ≤ mark) ⌝ }
+    ensures { λ r. ⌜ Walked (backOn (boardOf leaves actions (now (bases .entry)) (now (moves .entry)) (now (costs .entry)) (now (kinds .entry)) factors
+        (now (conditions .entry))) (now (starts .entry)) (now (table .entry)) i node state) total place (now (plan .entry)) r (now (plan .exit)) ⌝ }
+{
+    let many = bases[i + 1] - bases[i];
+    let mut begins = [MARK; 256];
+    layer_begin(
+        leaves,
+        actions,
+        bases,
+        moves,
+        costs,
+        kinds,
+        factors,
+        conditions,
+        starts,
+        table,
+        node,
+        i,
+        &mut begins[..many],
+    );
+    leaf_walk(
+        leaves,
+        actions,
+        bases,
+        moves,
+        costs,
+        kinds,
+        factors,
+        conditions,
+        table,
+        node,
+        i,
+        &begins[..many],
+        state,
+        tight,
+        plan,
+        total,
+        place,
+    )
+}
+
+// ---- all leaves of one node
+
+// Each leaf walks back inside a node's layer, the last leaf first, from its state in `ends`, which then has the state where it comes to. The place
+// behind their actions.
+fn layer_back(
+    leaves: usize,
+    actions: usize,
+    bases: &[usize],
+    moves: &[u16],
+    costs: &[u16],
+    kinds: &[u8],
+    factors: [u8; 32],
+    conditions: &[u8],
+    starts: &[usize],
+    table: &[u64],
+    node: usize,
+    ends: &mut [usize],
+    tight: &mut [u16],
+    plan: &mut [u8],
+    total: usize,
+    place: usize,
+) -> usize
+    requires { ⌜ Standing (boardOf leaves actions (now bases) (now moves) (now costs) (now kinds) factors (now conditions)) (now starts) (now table) node ⌝ }
+    requires { ⌜ ((i : ℕ) → i < leaves → WalkableOn (boardOf leaves actions (now bases) (now moves) (now costs) (now kinds) factors (now conditions)) (now starts) (now table) i node
+        (getD (now ends) i 0)) ⌝ }
+    requires { ⌜ (leaves ≤ length (now ends)) × (65280 ≤ length (now tight)) × (total ≤ length (now plan)) × (place + 2048 ≤ mark) ⌝ }
+    ensures { λ r. ⌜ LayerWalked leaves (λ i. backOn (boardOf leaves actions (now (bases .entry)) (now (moves .entry)) (now (costs .entry)) (now (kinds .entry)) factors
+        (now (conditions .entry))) (now (starts .entry)) (now (table .entry)) i node (getD (now (ends .entry)) i 0)) total place (now (plan .entry)) r (now (ends .exit))
+        (now (plan .exit)) ⌝ }
+{
+    let mut p = place;
+    let mut i = leaves;
+    while i > 0 {
+        i -= 1;
+        let end = leaf_step(
+            leaves,
+            actions,
+            bases,
+            moves,
+            costs,
+            kinds,
+            factors,
+            conditions,
+            starts,
+            table,
+            node,
+            i,
+            ends[i],
+            tight,
+            plan,
+            total,
+            p,
+        );
+        ends[i] = end.state;
+        p = end.place;
+    }
+    p
+}
+
+// The leaf behind i leaves goes back over a node's action, from a state to the lowest state of the parent's layer with the same price.
+fn leaf_over(
+    leaves: usize,
+    actions: usize,
+    bases: &[usize],
+    moves: &[u16],
+    costs: &[u16],
+    kinds: &[u8],
+    factors: [u8; 32],
+    conditions: &[u8],
+    table: &[u64],
+    parent: usize,
+    action: usize,
+    node: usize,
+    i: usize,
+    state: usize,
+) -> usize
+    requires { ⌜ Sound (boardOf leaves actions (now bases) (now moves) (now costs) (now kinds) factors (now conditions)) × (i < leaves) × (action < actions)
+        × RowIn (getD (now bases) leaves 0) (now table) node × RowIn (getD (now bases) leaves 0) (now table) parent ⌝ }
+    requires { ⌜ (parent ≡ nodeIn (getD (now bases) leaves 0) (now table) node .parent) × (action ≡ nodeIn (getD (now bases) leaves 0) (now table) node .action)
+        × (state < getD (now bases) (i + 1) 0 - getD (now bases) i 0) ⌝ }
+    ensures { λ r. ⌜ r ≡ overOn (boardOf leaves actions (now (bases .entry)) (now (moves .entry)) (now (costs .entry)) (now (kinds .entry)) factors
+        (now (conditions .entry))) (now (table .entry)) i node state ⌝ }
+{
+    let row = bases[leaves];
+    let at = bases[i];
+    let from = parent * (40 + row) + (40 + at);
+    let end = from + (bases[i + 1] - at);
+    let price = table[node * (40 + row) + (40 + at) + state];
+    lowest_over(moves, action * row + at, &table[from..end], state, price)
+}
+
+// Each leaf goes back over a node's action, from its state in `ends`, which then has the state of the parent's layer.
+fn go_over(
+    leaves: usize,
+    actions: usize,
+    bases: &[usize],
+    moves: &[u16],
+    costs: &[u16],
+    kinds: &[u8],
+    factors: [u8; 32],
+    conditions: &[u8],
+    table: &[u64],
+    node: usize,
+    ends: &mut [usize],
+)
+    requires { ⌜ Sound (boardOf leaves actions (now bases) (now moves) (now costs) (now kinds) factors (now conditions)) ⌝ }
+    requires { ⌜ RowIn (getD (now bases) leaves 0) (now table) node
+        × RowIn (getD (now bases) leaves 0) (now table) (nodeIn (getD (now bases) leaves 0) (now table) node .parent)
+        × (nodeIn (getD (now bases) leaves 0) (now table) node .action < actions) ⌝ }
+    requires { ⌜ (leaves ≤ length (now ends)) × ((i : ℕ) → i < leaves → getD (now ends) i 0 < getD (now bases) (i + 1) 0 - getD (now bases) i 0) ⌝ }
+    ensures { λ _. ⌜ Filled leaves (λ i. overOn (boardOf leaves actions (now (bases .entry)) (now (moves .entry)) (now (costs .entry)) (now (kinds .entry)) factors
+        (now (conditions .entry))) (now (table .entry)) i node (getD (now (ends .entry)) i 0)) (now (ends .exit)) ⌝ }
+{
+    let row = bases[leaves];
+    let parent = parent_of(table, row, node);
+    let action = action_of(table, row, node);
+    for i in 0..leaves {
+        ends[i] = leaf_over(
+            leaves,
+            actions,
+            bases,
+            moves,
+            costs,
+            kinds,
+            factors,
+            conditions,
+            table,
+            parent,
+            action,
+            node,
+            i,
+            ends[i],
+        );
+    }
+}
+
+// Each leaf walks back inside a node's layer and over the node's action, which is written before theirs. The place behind it.
+fn node_back(
+    leaves: usize,
+    actions: usize,
+    bases: &[usize],
+    moves: &[u16],
+    costs: &[u16],
+    kinds: &[u8],
+    factors: [u8; 32],
+    conditions: &[u8],
+    starts: &[usize],
+    table: &[u64],
+    node: usize,
+    ends: &mut [usize],
+    tight: &mut [u16],
+    plan: &mut [u8],
+    total: usize,
+    place: usize,
+) -> usize
+    requires { ⌜ Standing (boardOf leaves actions (now bases) (now moves) (now costs) (now kinds) factors (now conditions)) (now starts) (now table) node × (0 < node) ⌝ }
+    requires { ⌜ ((i : ℕ) → i < leaves → WalkableOn (boardOf leaves actions (now bases) (now moves) (now costs) (now kinds) factors (now conditions)) (now starts) (now table) i node
+        (getD (now ends) i 0)) ⌝ }
+    requires { ⌜ ((i : ℕ) → i < leaves → backOn (boardOf leaves actions (now bases) (now moves) (now costs) (now kinds) factors (now conditions)) (now starts) (now table) i node
+        (getD (now ends) i 0) .from < getD (now bases) (i + 1) 0 - getD (now bases) i 0) ⌝ }
+    requires { ⌜ (leaves ≤ length (now ends)) × (65280 ≤ length (now tight)) × (total ≤ length (now plan)) × (place + 2049 ≤ mark) ⌝ }
+    ensures { λ r. ⌜ NodeWalked leaves (λ i. backOn (boardOf leaves actions (now (bases .entry)) (now (moves .entry)) (now (costs .entry)) (now (kinds .entry)) factors
+        (now (conditions .entry))) (now (starts .entry)) (now (table .entry)) i node (getD (now (ends .entry)) i 0))
+        (nodeIn (getD (now (bases .entry)) leaves 0) (now (table .entry)) node .action) (λ i z. overOn (boardOf leaves actions (now (bases .entry)) (now (moves .entry)) (now (costs .entry)) (now (kinds .entry)) factors
+        (now (conditions .entry))) (now (table .entry)) i node z)
+        total place (now (plan .entry)) r (now (ends .exit)) (now (plan .exit)) ⌝ }
+{
+    let behind = layer_back(
+        leaves,
+        actions,
+        bases,
+        moves,
+        costs,
+        kinds,
+        factors,
+        conditions,
+        starts,
+        table,
+        node,
+        ends,
+        tight,
+        plan,
+        total,
+        place,
+    );
+    let action = action_of(table, bases[leaves], node);
+    put(plan, total, behind, action as u8);
+    go_over(
+        leaves,
+        actions,
+        bases,
+        moves,
+        costs,
+        kinds,
+        factors,
+        conditions,
+        table,
+        node,
+        ends,
+    );
+    behind + 1
+}
+
+// ---- all nodes
+
+// The walk back from a node, whose leaves are in the states `ends`, to node 0: how many actions it meets. A plan of `total` actions is written from
+// its end, as far as it goes.
+pub fn walk_back(
+    task: Task,
+    bases: &[usize],
+    moves: &[u16],
+    costs: &[u16],
+    kinds: &[u8],
+    starts: &[usize],
+    table: &[u64],
+    count: usize,
+    node: usize,
+    ends: [usize; 8],
+    plan: &mut [u8],
+    total: usize,
+) -> usize
+    requires { ⌜ Valid task × Tabled task (now bases) (now moves) (now costs) (now kinds) (now starts) ⌝ }
+    requires { ⌜ Real task (heldIn (allStates task) (now table) count) × Priced task (heldIn (allStates task) (now table) count) node (λ i. getD ends i 0) ⌝ }
+    requires { ⌜ (node < count) × (count ≤ 4096) × (count * (40 + allStates task) ≤ length (now table)) × (total ≤ length (now plan)) ⌝ }
+    ensures { λ r. ⌜ (r ≡ length (planBack task (heldIn (allStates task) (now (table .entry)) count) node node (λ i. getD ends i 0)))
+        × (now (plan .exit) ≡ laid total 0 (planBack task (heldIn (allStates task) (now (table .entry)) count) node node (λ i. getD ends i 0)) (now (plan .entry))) ⌝ }
+{
+    let leaves = task.leaves as usize;
+    let actions = task.actions as usize;
+    let factors = task.factors;
+    let conditions = task.conditions;
+    let mut tight = [0u16; 65280];
+    let mut states = ends;
+    let mut u = node;
+    let mut place = 0;
+    while u > 0 {
+        place = node_back(
+            leaves,
+            actions,
+            bases,
+            moves,
+            costs,
+            kinds,
+            factors,
+            &conditions,
+            starts,
+            table,
+            u,
+            &mut states,
+            &mut tight,
+            plan,
+            total,
+            place,
+        );
+        u = parent_of(table, bases[leaves], u);
+    }
+    layer_back(
+        leaves,
+        actions,
+        bases,
+        moves,
+        costs,
+        kinds,
+        factors,
+        &conditions,
+        starts,
+        table,
+        u,
+        &mut states,
+        &mut tight,
+        plan,
+        total,
+        place,
+    )
+}
+
+// The plan of a goal node at the front of the lent buffer, where it has room: how many actions it has.
+pub fn write_plan(
+    task: Task,
+    bases: &[usize],
+    moves: &[u16],
+    costs: &[u16],
+    kinds: &[u8],
+    starts: &[usize],
+    goals: &[u16],
+    table: &[u64],
+    count: usize,
+    node: usize,
+    plan: &mut [u8],
+) -> usize
+    requires { ⌜ Valid task × Tabled task (now bases) (now moves) (now costs) (now kinds) (now starts) × Goals task (now goals) ⌝ }
+    requires { ⌜ Real task (heldIn (allStates task) (now table) count) × (isGoal task (nodeAt task (heldIn (allStates task) (now table) count) node) ≡ true) ⌝ }
+    requires { ⌜ (node < count) × (count ≤ 4096) × (count * (40 + allStates task) ≤ length (now table)) ⌝ }
+    ensures { λ r. ⌜ (r ≡ length (planOf task (heldIn (allStates task) (now (table .entry)) count) node))
+        × (now (plan .exit) ≡ written (planOf task (heldIn (allStates task) (now (table .entry)) count) node) (now (plan .entry))) ⌝ }
+{
+    let leaves = task.leaves as usize;
+    let row = bases[leaves];
+    let from = node * (40 + row) + 40;
+    let ends = goal_ends(leaves, bases, goals, &table[from..from + row]);
+    let length = walk_back(
+        task,
+        bases,
+        moves,
+        costs,
+        kinds,
+        starts,
+        table,
+        count,
+        node,
+        ends,
+        plan,
+        0,
+    );
+    if length > plan.len() {
+        return length;
+    }
+    walk_back(
+        task,
+        bases,
+        moves,
+        costs,
+        kinds,
+        starts,
+        table,
+        count,
+        node,
+        ends,
+        plan,
+        length,
+    )
+}
