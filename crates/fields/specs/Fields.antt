@@ -2,9 +2,9 @@
 pub mod Laws
 use Prim.Native.Nat.{ℕ, zero, suc, _+_, _-_, _*_, _/_, _%_, _^_}
 use mathlib.Core.List.{List, [], _∷_}
-use mathlib.Core.Bool.{cond}
+use mathlib.Core.Bool.{Bool, cond}
 use lib.ListN.{length, getD}
-use lib.Dec.{leb}
+use lib.Dec.{leb, eqb}
 use Rattle.loops.specs.Parsed.{got, refused}
 use Rattle.fields.specs.Answers.{Reading}
 use Rattle.fields.specs.declared.Refusal.the-variants.{RecordEnds}
@@ -64,3 +64,7 @@ fieldOf rec k (suc w) = fieldOf rec k w * 2 + bitOf rec (k + w)
 unfoldable pub nextField : List ℕ → ℕ → ℕ → Reading ℕ
 nextField rec kind k =
     cond (leb (k + width kind) (8 * length rec)) (got (fieldOf rec k (width kind)) (k + width kind)) (refused RecordEnds)
+
+-- "nothing follows": the record has just the bytes that the bits before bit k need
+abbrev pub endsAt : List ℕ → ℕ → Bool
+endsAt rec k = eqb (length rec) ((k + 7) / 8)

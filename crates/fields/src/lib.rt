@@ -2,7 +2,7 @@
 ghost use mathlib.Core.Path.{_≡_};
 ghost use Prim.Native.Nat.{_+_, _*_, _<_, _≤_, _^_};
 ghost use lib.ListN.{length};
-ghost use Rattle.fields.specs.Fields.{fieldOf, nextField};
+ghost use Rattle.fields.specs.Fields.{fieldOf, nextField, endsAt};
 ghost use Rattle.fields.specs.Answers.{numberOf, fieldTold};
 
 // The width of every field in bits, by its kind.
@@ -87,8 +87,8 @@ pub fn bits(rec: &[u8], at: usize, width: usize) -> u16
     value
 }
 
-// The field of a kind that begins at bit `at`.
-pub fn field(rec: &[u8], at: usize, kind: usize) -> FieldRead
+// The field of a kind that begins at bit `at`: the work, on a slice and a number.
+fn field_at(rec: &[u8], at: usize, kind: usize) -> FieldRead
     requires { ⌜ (at < 2 ^ 32) × (kind < 11) ⌝ }
     ensures { λ r. ⌜ nextField (now (rec .entry)) kind at ≡ fieldTold r ⌝ }
 {
@@ -98,4 +98,65 @@ pub fn field(rec: &[u8], at: usize, kind: usize) -> FieldRead
     }
     let value = bits(rec, at, width);
     FieldRead::Bits(value, at + width)
+}
+
+// Whether the record has just the bytes that the bits before `at` need.
+fn ends_at(rec: &[u8], at: usize) -> bool
+    requires { ⌜ at < 2 ^ 32 ⌝ }
+    ensures { λ r. ⌜ r ≡ endsAt (now (rec .entry)) at ⌝ }
+{
+    rec.len() == (at + 7) / 8
+}
+
+// A bit reader: the record it was given and the bit it has reached. Each function over one takes it apart and leaves the work to a
+// function on the slice and the number; these few are proved by hand, by a walk of their MIR.
+pub struct BitReader<'a> {
+    pub bytes: &'a [u8],
+    pub at: usize,
+}
+
+// A reader at the record's first bit.
+pub fn reader<'a>(bytes: &'a [u8]) -> BitReader<'a>
+    ensures { λ r. ⌜ (r .bytes ≡ bytes .entry) × (r .at ≡ 0) ⌝ }
+{
+    BitReader { bytes, at: 0 }
+}
+
+// The next field of a kind: its number and the bit behind it, or that the record ends inside it.
+pub fn read<'a>(r: BitReader<'a>, kind: usize) -> FieldRead
+    requires { ⌜ (r .at < 2 ^ 32) × (kind < 11) ⌝ }
+    ensures { λ f. ⌜ nextField (now (r .entry .bytes)) kind (r .entry .at) ≡ fieldTold f ⌝ }
+{
+    field_at(r.bytes, r.at, kind)
+}
+
+// The reader moved on to another bit, as the one behind the field that was read.
+pub fn moved<'a>(r: BitReader<'a>, at: usize) -> BitReader<'a>
+    ensures { λ q. ⌜ (q .bytes ≡ r .entry .bytes) × (q .at ≡ at) ⌝ }
+{
+    BitReader { bytes: r.bytes, at }
+}
+
+// Whether the reader has reached the record's end: at most the fill of its last byte is left.
+pub fn ended<'a>(r: BitReader<'a>) -> bool
+    requires { ⌜ r .at < 2 ^ 32 ⌝ }
+    ensures { λ b. ⌜ b ≡ endsAt (now (r .entry .bytes)) (r .entry .at) ⌝ }
+{
+    ends_at(r.bytes, r.at)
+}
+
+// The field of a kind that a reader of the record finds at bit `at`. Its parameters are plain, so a caller's proof has no walk.
+pub fn field(rec: &[u8], at: usize, kind: usize) -> FieldRead
+    requires { ⌜ (at < 2 ^ 32) × (kind < 11) ⌝ }
+    ensures { λ r. ⌜ nextField (now (rec .entry)) kind at ≡ fieldTold r ⌝ }
+{
+    read(moved(reader(rec), at), kind)
+}
+
+// Whether a reader of the record that is at bit `at` has reached the end. Its parameters are plain as well.
+pub fn at_end(rec: &[u8], at: usize) -> bool
+    requires { ⌜ at < 2 ^ 32 ⌝ }
+    ensures { λ r. ⌜ r ≡ endsAt (now (rec .entry)) at ⌝ }
+{
+    ended(moved(reader(rec), at))
 }

@@ -154,7 +154,16 @@ fn answer_of(
         Why::TableFull => PlanAnswer::Refused(PlanRefusal::TableFull, counts),
         Why::BudgetSpent => PlanAnswer::Refused(PlanRefusal::BudgetSpent, counts),
         Why::Finished => finish(
-            task, bases, moves, costs, kinds, starts, goals, table, run, plan,
+            task,
+            bases,
+            moves,
+            costs,
+            kinds,
+            starts,
+            goals,
+            table,
+            run,
+            plan,
         ),
     }
 }
@@ -181,10 +190,29 @@ fn search_tables(
     let goals = leaf_goals(task, bases);
     let mut open = [MARK; 4096];
     let stop = explore(
-        task, &bases, &moves, &costs, &kinds, &starts, &goals, nodes, budget, table, &mut open,
+        task,
+        &bases,
+        &moves,
+        &costs,
+        &kinds,
+        &starts,
+        &goals,
+        nodes,
+        budget,
+        table,
+        &mut open,
     );
     answer_of(
-        task, &bases, &moves, &costs, &kinds, &starts, &goals, table, stop, plan,
+        task,
+        &bases,
+        &moves,
+        &costs,
+        &kinds,
+        &starts,
+        &goals,
+        table,
+        stop,
+        plan,
     )
 }
 
@@ -253,7 +281,13 @@ fn task_nodes(task: Task, words: usize) -> u32
 
 // A plan of least cost for the task that the record holds, one byte for each action, at the front of `plan`; "unsolvable"; or one refusal. `table` is
 // working memory: as it was before a search, zero after one.
-pub fn plan(record: &[u8], nodes: u32, budget: u32, plan: &mut [u8], table: &mut [u64]) -> PlanAnswer
+pub fn plan(
+    record: &[u8],
+    nodes: u32,
+    budget: u32,
+    plan: &mut [u8],
+    table: &mut [u64],
+) -> PlanAnswer
     ensures answer { λ r. ⌜ _≡_ {A = Outcome} (record { answer = r; plan = now (plan .exit); words = now (table .exit) })
         (recordPlan (now («record» .entry)) nodes budget (now (plan .entry)) (now (table .entry))) ⌝ }
     ensures carries_out { λ r. ⌜ CarriesOut (readRecord (now («record» .entry)) .task) (now (plan .exit)) r ⌝ }

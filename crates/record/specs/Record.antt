@@ -4,14 +4,14 @@ use mathlib.Core.Bool.{Bool, true, false, cond, _&&_}
 use mathlib.Core.List.{List}
 use Prim.Native.Nat.{ℕ, _+_, _-_, _*_, _/_}
 use lib.Dec.{eqb}
-use lib.ListN.{length, replicate}
+use lib.ListN.{replicate}
 use Rattle.loops.specs.Parsed.{got, refused}
 use Rattle.task.specs.declared.Task.{Task}
 use Rattle.task.specs.Meaning.{Partial, free, size, factor, condition, effect}
 use Rattle.fields.specs.declared.Refusal.{Refusal}
 use Rattle.fields.specs.declared.Refusal.the-variants.{NotFilled}
 use Rattle.fields.specs.Answers.{Reading}
-use Rattle.fields.specs.Fields.{fieldOf, nextField}
+use Rattle.fields.specs.Fields.{fieldOf, nextField, endsAt}
 use Rattle.parts.specs.Grammar.{Lists, noLists, taskWith, listsOf, taskOf}
 use Rattle.whole.specs.declared.Verdict.{Verdict}
 use Rattle.whole.specs.declared.Verdict.the-variants.{Accepted, Refused}
@@ -22,7 +22,7 @@ use Rattle.record.specs.declared.TaskRead.{TaskRead}
 
 -- "Zero bits fill the last byte; nothing follows": the fields end at bit k
 unfoldable pub filledOf : List ℕ → ℕ → Bool
-filledOf rec k = eqb (length rec) ((k + 7) / 8) && eqb (fieldOf rec k ((k + 7) / 8 * 8 - k)) 0
+filledOf rec k = endsAt rec k && eqb (fieldOf rec k ((k + 7) / 8 * 8 - k)) 0
 
 -- 8, then what is tested over the whole
 abbrev pub verdictOf : List ℕ → ℕ → ℕ → ℕ → ℕ → (ℕ → ℕ) → (ℕ → ℕ) → (ℕ → Partial) → (ℕ → Partial) → Verdict

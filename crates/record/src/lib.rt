@@ -1,5 +1,6 @@
 // The record reader: for every byte string the task that it writes down, or the one refusal of 1 to 11 that it meets first.
 use fields::Refusal;
+use fields::at_end;
 use fields::bits;
 use parts::HeadRead;
 use parts::Place;
@@ -55,10 +56,10 @@ fn filled(rec: &[u8], at: usize) -> bool
     requires { ⌜ at < 2 ^ 31 ⌝ }
     ensures { λ r. ⌜ r ≡ filledOf (now (rec .entry)) at ⌝ }
 {
-    let bytes = (at + 7) / 8;
-    if rec.len() != bytes {
+    if !at_end(rec, at) {
         return false;
     }
+    let bytes = (at + 7) / 8;
     bits(rec, at, bytes * 8 - at) == 0
 }
 

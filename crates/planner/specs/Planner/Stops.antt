@@ -139,8 +139,8 @@ module _ (t : Task) (T : List ℕ) (r : Run) (plan : List ℕ) where
   finish-none e = rw (counted-is, e)
 
   module _ (n : ℕ) (plan′ : List ℕ) (some : 1 ≤ r .best)
-    (isLength : n ≡ length (planOf t (heldIn (allStates t) T (r .count)) (r .best - 1)))
-    (isPlan : plan′ ≡ written (planOf t (heldIn (allStates t) T (r .count)) (r .best - 1)) plan) where
+      (isLength : n ≡ length (planOf t (heldIn (allStates t) T (r .count)) (r .best - 1)))
+      (isPlan : plan′ ≡ written (planOf t (heldIn (allStates t) T (r .count)) (r .best - 1)) plan) where
     best-suc : r .best ≡ suc (r .best - 1)
     best-suc = omega arith
 

@@ -43,7 +43,7 @@ module _ (n : ℕ) (g : ℕ → ℕ → Back) (total p₀ : ℕ) (ends₀ plan�
       let same : g i (getD ends i 0) ≡ waysFrom g ends₀ i = ap (g i) (l .waits i (omega arith)) in
       let xs = reverse (waysFrom g ends₀ i .acts) in
       let many : length (g i (getD ends i 0) .acts) ≡ length xs =
-          ap (λ (b : Back). length (b .acts)) same ∙ sym (length-reverse (waysFrom g ends₀ i .acts)) in
+      ap (λ (b : Back). length (b .acts)) same ∙ sym (length-reverse (waysFrom g ends₀ i .acts)) in
       let plan-is : plan′ ≡ laid total p xs plan = w .plan ∙ ap (λ (b : Back). laid total p (reverse (b .acts)) plan) same in
       record {
         waits = λ j k. getD-set-other ends i j (r .state) 0 (λ e. omega arith) ∙ l .waits j (omega arith);
