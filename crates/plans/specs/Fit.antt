@@ -1,13 +1,10 @@
 -- What a walk back meets by the tables of a task is what the task says. Assumes nothing.
-use mathlib.Core.Path.{_≡_, refl, sym, ap, _∙_}
-use mathlib.Core.Logic.{_⊎_, inl, inr}
-use mathlib.Core.List.{List, [], _∷_}
+use mathlib.Core.Path.{_≡_, refl, ap, _∙_}
+use mathlib.Core.List.{List}
 use Prim.Native.Nat.{ℕ, zero, suc, _+_, _*_, _≤_, _<_}
 use native.Mathlib.Nat.{not-suc-le-zero, suc-mul, mul-le-mul-right}
 use native.Mathlib.Omega.{arith}
-use lib.ListN.{length, getD, length-append, List·getD-append}
-use lib.Seq.{getD-at}
-use Rattle.loops.specs.Count.Laws.{below-cases}
+use lib.ListN.{length, getD, length-append}
 use Rattle.task.specs.declared.Task.{Task}
 use Rattle.task.specs.Meaning.{initial}
 use Rattle.task.specs.Factors.{number, states, allStates}
@@ -24,7 +21,7 @@ use Rattle.search.specs.Explore.{Search, nodeAt}
 use Rattle.search.specs.Plan.{begins, backIn, over}
 use Rattle.search.specs.Plan.Real.{Real, node-part, begins-length, begins-cap}
 use Rattle.search.specs.Plan.Stages.{priceIn}
-use Rattle.nodes.specs.Row.{nodeIn, nodesIn}
+use Rattle.nodes.specs.Row.Laws.{nodesIn-length, nodesIn-at}
 use Rattle.wayback.specs.Steps.{tightBy, depthsBy, originBy, backBy, wayBy}
 use Rattle.wayback.specs.Sources.{depths-bound}
 use Rattle.wayback.specs.On.{back-on, walkable-on}
@@ -32,23 +29,6 @@ use Rattle.wayback.specs.On as wayback
 use Rattle.plans.specs.Walk.{heldIn, nodeOn, pricesOn, actsOn, beginsOn, backOn, WalkableOn, overOn, RowIn, Standing}
 
 -- ---- the nodes of a table
-
-module _ (S : ℕ) (T : List ℕ) where
-  -- there are as many as are counted
-  pub held-length : (n : ℕ) → length (nodesIn S T n) ≡ n
-  unfolding nodesIn
-  held-length zero = refl
-  held-length (suc n) = simp length-append (omega (arith, held-length n))
-
-  -- node u stands in row u
-  pub held-at : (n u : ℕ) (d : Node) → u < n → getD (nodesIn S T n) u d ≡ nodeIn S T u
-  unfolding nodesIn
-  held-at zero u d l = absurd (not-suc-le-zero l)
-  held-at (suc n) u d l = go (below-cases l) (held-at n u d)
-    where
-      go : (u < n) ⊎ (u ≡ n) → (u < n → getD (nodesIn S T n) u d ≡ nodeIn S T u) → getD (nodesIn S T (suc n)) u d ≡ nodeIn S T u
-      go (inl k) r = let h : u < length (nodesIn S T n) = rw held-length k in List·getD-append (nodesIn S T n) (nodeIn S T n ∷ []) d u h ∙ r k
-      go (inr q) r = getD-at (nodesIn S T n) (nodeIn S T n) [] d u (held-length n ∙ sym q) ∙ ap (nodeIn S T) (sym q)
 
 -- ---- the way back is no longer than there are states
 
@@ -93,11 +73,11 @@ searchOn b T count = heldIn (rowOn b) T count
 module _ (t : Task) (b : Board) (starts T : List ℕ) (count : ℕ) (g : Grounds t b starts T count) where
   -- node u of the search
   pub node-on : (u : ℕ) → u < count → nodeAt t (searchOn b T count) u ≡ nodeOn b T u
-  node-on u h = held-at (rowOn b) T count u (firstNode t) h
+  node-on u h = nodesIn-at (rowOn b) T count u (firstNode t) h
 
   -- there are as many nodes as are counted
   pub inside : (u : ℕ) → u < count → u < length (searchOn b T count .kept)
-  inside u h = rw held-length h
+  inside u h = rw nodesIn-length h
 
   -- a node's parent has a lower number
   pub parent-lower : (u : ℕ) → suc u < count → nodeOn b T (suc u) .parent < suc u
