@@ -136,7 +136,8 @@ fn advance(
         layer,
         &mut next,
     );
-    copy_words(&next, layer, bases[leaves]);
+    let states = bases[leaves];
+    copy_words(&next, layer, states);
     Walked {
         ends: true,
         spot: behind,

@@ -42,20 +42,20 @@ next-layer-requires c κs =
     let s = c .before .before .before .before .before .before .before .before .before .before .before .before .before .before in
     (s .pre .0, s .pre .1, omega (arith, s .pre .0 .few-all, s .pre .3), s .pre .0 .few-all)
 
+mul-states : tie.Need-mul-states
+mul-states c = let s = c .before .before .before .before .before .before .before .before .before .before .before .before .before .before .before .before in omega (arith, s .pre .0 .few-leaves)
+
+shared-slice-read-states : tie.Need-shared-slice-read-states
+shared-slice-read-states c = let s = c .before .before .before .before .before .before .before .before .before .before .before .before .before .before .before .before .before in omega (arith, s .pre .0 .few-leaves, s .pre .0 .bases-long)
+
 slice-aggregate-copy-words : tie.Need-slice-aggregate-copy-words
 slice-aggregate-copy-words c = search needs
-
-mul-copy-words : tie.Need-mul-copy-words
-mul-copy-words c = let s = c .before .before .before .before .before .before .before .before .before .before .before .before .before .before .before .before .before .before in omega (arith, s .pre .0 .few-leaves)
-
-shared-slice-read-copy-words : tie.Need-shared-slice-read-copy-words
-shared-slice-read-copy-words c = let s = c .before .before .before .before .before .before .before .before .before .before .before .before .before .before .before .before .before .before .before in omega (arith, s .pre .0 .few-leaves, s .pre .0 .bases-long)
 
 copy-words-requires : tie.Need-copy-words-requires
 copy-words-requires c κs =
     let s = c .before .before .before .before .before .before .before .before .before .before .before .before .before .before .before .before .before .before .before in
     let kept : length (c .before .before .before .before .next-layer .last .1 .1 .1 .1 .1 .1 .1 .1 .1 .1 .1 .0) ≡ 1024 = c .before .before .before .before .next-layer .kept .1 .1 .1 .1 .1 .1 .1 .1 .1 .1 .1 .0 in
-    (omega (arith, s .pre .0 .few-all, kept), omega (arith, s .pre .0 .few-all, s .pre .3))
+    (omega (arith, s .pre .0 .few-all, s .pre .0 .few-leaves, kept), omega (arith, s .pre .0 .few-all, s .pre .0 .few-leaves, s .pre .3))
 
 same-length-2 : tie.Need-same-length-2
 same-length-2 c = search needs
@@ -81,9 +81,9 @@ advance-spec =
     after-requires
     slice-aggregate-next-layer
     next-layer-requires
+    mul-states
+    shared-slice-read-states
     slice-aggregate-copy-words
-    mul-copy-words
-    shared-slice-read-copy-words
     copy-words-requires
     same-length-2
     returns-2)
