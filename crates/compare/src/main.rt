@@ -11,7 +11,8 @@ use planner::PlanAnswer;
 use planner::Solution;
 use planner::plan;
 use record::read_record;
-use task::FREE;
+use steps::holds;
+use steps::put;
 use task::Task;
 use whole::Verdict;
 ghost use mathlib.Core.Path.{_≡_};
@@ -91,40 +92,6 @@ fn plus(sum: u64, more: u64) -> u64 {
 }
 
 // ---- states
-
-// Whether the pair, if there is one, holds of the value.
-fn met(pair: u8, value: u8) -> bool {
-    pair == FREE || pair == value
-}
-
-// Whether each pair of the row that begins at `at` holds of the values.
-fn holds(pairs: &[u8], at: usize, values: &[u8], n: usize) -> bool
-    requires { ⌜ (at + n ≤ length (now pairs)) × (n ≤ length (now values)) ⌝ }
-{
-    for v in 0..n {
-        if !met(pairs[at + v], values[v]) {
-            return false;
-        }
-    }
-    true
-}
-
-// The value of the pair, or the one there was if there is no pair.
-fn changed(pair: u8, value: u8) -> u8 {
-    if pair == FREE {
-        return value;
-    }
-    pair
-}
-
-// The values, changed where the row that begins at `at` names a variable.
-fn put(pairs: &[u8], at: usize, values: &mut [u8], n: usize)
-    requires { ⌜ (at + n ≤ length (now pairs)) × (n ≤ length (now values)) ⌝ }
-{
-    for v in 0..n {
-        values[v] = changed(pairs[at + v], values[v]);
-    }
-}
 
 // A number with one digit more, or 1,025 where that is above 1,024.
 fn with_digit(number: usize, size: u8, value: u8) -> usize

@@ -1,6 +1,7 @@
 //! The benchmark: both planners on the same tasks in one run, and a uniform-cost search over whole states beside them where it has under two
 //! million. Every call has 4,096 nodes and any budget. Times are the least of several calls; tables are not cleared between calls (a planner
-//! leaves its words 0).
+//! leaves its words 0). The plain planner works in memory of its own; since the words of a lent table are 0 after a search, whoever plans, its
+//! time has the zeroing of a table of the same length in it, and a column shows that part.
 //!
 //! bench [PART] [CALLS]: only tasks whose name holds PART; so many calls of each planner, for a profile.
 
@@ -82,9 +83,12 @@ fn one(name: &str, draft: &Draft) {
     let words = plain::table_words(&record, NODES);
     let a = plain::plan(&record, NODES, u32::MAX, &mut plan, words);
     let mut again = plan.clone();
+    let mut table = vec![0u64; words as usize];
     let (plain_time, proved_time) = plan_times(&record, &a, &plan, || {
         black_box(plain::plan(black_box(&record), NODES, u32::MAX, &mut again, words));
+        black_box(&mut table).fill(0);
     });
+    let zeroing = times([&mut || black_box(&mut table).fill(0)])[0];
     let ratio = shown(proved_time.map(|p| p / plain_time));
     let task = read(&record).expect("a benchmark's task is accepted");
     let mut uniform = String::from("-");
@@ -102,7 +106,7 @@ fn one(name: &str, draft: &Draft) {
         n => format!("refused {n}"),
     };
     println!(
-        "{name:28} {:5} {:8} {:6} {answer:12} {plain_time:11.1} {:>11} {ratio:>7} {uniform:>22}",
+        "{name:28} {:5} {:8} {:6} {answer:12} {zeroing:10.1} {plain_time:11.1} {:>11} {ratio:>7} {uniform:>22}",
         draft.leaf_states(),
         a.expanded,
         a.kept,
@@ -113,8 +117,8 @@ fn one(name: &str, draft: &Draft) {
 fn main() {
     let part = std::env::args().nth(1).unwrap_or_default();
     println!(
-        "{:28} {:>5} {:>8} {:>6} {:12} {:>11} {:>11} {:>7} {:>22}",
-        "task", "S", "expanded", "kept", "answer", "plain us", "proved us", "ratio", "uniform us (expanded)"
+        "{:28} {:>5} {:>8} {:>6} {:12} {:>10} {:>11} {:>11} {:>7} {:>22}",
+        "task", "S", "expanded", "kept", "answer", "zeroing us", "plain us", "proved us", "ratio", "uniform us (expanded)"
     );
     let tasks = benchmark();
     for (name, draft) in tasks.iter().filter(|t| t.0.contains(&part)) {
