@@ -1,4 +1,4 @@
--- The search that the lent table, the open keys and the counts hold.
+-- The search that the lent table, the scan words and the counts hold. The first scan words are the nodes' open keys.
 pub mod Laws
 pub mod Turns
 pub mod Rounds
@@ -6,29 +6,30 @@ pub mod Start
 use mathlib.Core.Path.{_≡_}
 use mathlib.Core.Bool.{true, cond}
 use mathlib.Core.Logic.{_⊎_}
-use mathlib.Core.List.{List}
+use mathlib.Core.List.{List, _++_}
 use Prim.Native.Nat.{ℕ, suc, _+_, _*_, _≤_, _<_}
 use lib.Dec.{ltb, eqb}
-use lib.ListN.{length, getD, set, take}
+use lib.ListN.{length, getD, set, take, drop}
 use Rattle.loops.specs.Count.{list}
 use Rattle.task.specs.declared.Task.{Task}
 use Rattle.task.specs.declared.Centre.{Centre}
 use Rattle.task.specs.Valid.{Valid}
 use Rattle.layer.specs.Layer.{mark, base}
-use Rattle.layer.specs.Board.{Board, Fits, rowOn}
+use Rattle.layer.specs.Board.{Board, Fits, rowOn, settledOn}
 use Rattle.tables.specs.Tables.{Goals}
-use Rattle.search.specs.Node.{Node, key, goalCost}
+use Rattle.search.specs.Node.{Node, key, goalCost, dominates}
 use Rattle.search.specs.Explore.{Search, Reason, finished, tableFull, budgetSpent, Stopped, Turn, on, full, offer, turn, Expanded, through, filled}
 use Rattle.search.specs.Explore.Laws.{Base}
 use Rattle.search.specs.Made.{Made}
-use Rattle.nodes.specs.Row.{nodeIn, nodesIn}
+use Rattle.nodes.specs.Chain.{Chained}
+use Rattle.nodes.specs.Row.{nodeIn, nodesIn, nodeWith}
 use Rattle.explore.specs.declared.Run.{Run}
 use Rattle.explore.specs.declared.Turned.{Turned}
 use Rattle.explore.specs.declared.Stop.{Stop}
 use Rattle.explore.specs.declared.Why.{Why}
 use Rattle.explore.specs.declared.Why.the-variants.{Finished, TableFull, BudgetSpent}
 
--- the search in the table T (rows of 40 + S words), with the open keys O: a node's key, or the mark once its expansion has begun
+-- the search in the table T (rows of 40 + S words), with the open keys at the front of O: a node's key, or the mark once its expansion has begun
 unfoldable pub searchOf : ℕ → List ℕ → List ℕ → Run → Search
 searchOf S T O r =
     record {
@@ -61,13 +62,14 @@ pub record Scans (t : Task) (leaves : ℕ) (bases goals factors goalPairs : List
   pub goals-is : Goals t goals
   pub goal-is : goalPairs ≡ t .goal
 
--- the lent table has room for the nodes and one row more
+-- the lent table has room for the nodes and one row more, and the scan words chain its nodes
 pub record Room (S nodes : ℕ) (T O : List ℕ) (r : Run) : Type 0 where
   pub few-states : S ≤ 1024
   pub few-nodes : nodes ≤ 4096
   pub table-long : (nodes + 1) * (40 + S) ≤ length T
-  pub open-long : length O ≡ 4096
+  pub scan-long : length O ≡ 16448
   pub count-few : r .count ≤ nodes
+  pub chained : Chained S T O (r .count)
 
 -- what a turn and an expansion say
 abbrev pub turnOf : Turned → Search → Turn
@@ -103,22 +105,24 @@ keptRun r cost =
       «best_cost» = cond (ltb cost (r .«best_cost»)) cost (r .«best_cost»);
     }
 
--- the table and the open keys with one node more: the node n, its key and its goal cost
+-- the table and the scan words with one node more: the node n, its key and its goal cost; chains go on
 pub record Kept (S : ℕ) (T O : List ℕ) (r : Run) (n : Node) (opens cost : ℕ) (T′ O′ : List ℕ) (r′ : Run) : Type 0 where
   pub old : (u : ℕ) → u < r .count → nodeIn S T′ u ≡ nodeIn S T u
   pub new : nodeIn S T′ (r .count) ≡ n
-  pub keyed : O′ ≡ set O (r .count) opens
+  pub keyed : (u : ℕ) → u < 4096 → getD O′ u 0 ≡ getD (set O (r .count) opens) u 0
   pub counted : r′ ≡ keptRun r cost
+  pub linked : Chained S T O (r .count) → Chained S T′ O′ (r .count + 1)
 
 -- ---- a turn
 
--- what a turn leaves true whatever the task: counts do not fall, the nodes stay within `nodes`, and a full table leaves all as it was
-pub record Went (nodes : ℕ) (T O : List ℕ) (r : Run) (T′ O′ : List ℕ) (w : Turned) : Type 0 where
+-- what a turn leaves true whatever the task: counts do not fall, the nodes stay within `nodes` and chained, and a full table leaves all as it was
+pub record Went (S nodes : ℕ) (T O : List ℕ) (r : Run) (T′ O′ : List ℕ) (w : Turned) : Type 0 where
   pub more : r .count ≤ w .run .count
   pub room : w .run .count ≤ nodes
   pub begun-is : w .run .begun ≡ r .begun
+  pub chained : Chained S T O (r .count) → Chained S T′ O′ (w .run .count)
   pub table-still : w .full ≡ true → T′ ≡ T
-  pub keys-still : w .full ≡ true → O′ ≡ O
+  pub scan-still : w .full ≡ true → O′ ≡ O
   pub run-still : w .full ≡ true → w .run ≡ r
 
 -- a turn came out as the search says: the search to go on with stands in the table
@@ -126,17 +130,37 @@ pub record Stands (t : Task) (S : ℕ) (T O : List ℕ) (w : Turned) (x : Turn) 
   pub said : x ≡ turnOf w (searchOf S T O (w .run))
   pub held : Cached t S T O (w .run)
 
--- the node n was offered, for every task whose tables these are
-pub record Offered (leaves : ℕ) (bases goals factors goalPairs : List ℕ) (nodes : ℕ) (T O : List ℕ) (r : Run) (n : Node) (T′ O′ : List ℕ) (w : Turned)
-    : Type 0 where
-  pub went : Went nodes T O r T′ O′ w
-  pub offered : (t : Task) → Scans t leaves bases goals factors goalPairs → Base t nodes (searchOf (getD bases leaves 0) T O r)
-      → Cached t (getD bases leaves 0) T O r → Made t (r .count) n
-      → Stands t (getD bases leaves 0) T′ O′ w (offer t nodes (searchOf (getD bases leaves 0) T O r) n)
+-- the words behind the settling of a layer's begin P: the settled prices, and what stood behind them
+abbrev pub settledWords : Board → Centre → List ℕ → List ℕ
+settledWords b c P = settledOn b c P ++ drop (rowOn b) P
+
+-- a successor with its layer's begin P, and with its layer
+abbrev pub begunNode : Board → Centre → ℕ → List ℕ → ℕ → ℕ → Node
+begunNode b c paid P parent action = nodeWith c paid (take (rowOn b) P) parent action
+
+abbrev pub settledNode : Board → Centre → ℕ → List ℕ → ℕ → ℕ → Node
+settledNode b c paid P parent action = nodeWith c paid (take (rowOn b) (settledWords b c P)) parent action
+
+-- m and n have the same key, and each of the first k nodes of the table dominates both or neither
+pub record Alike (t : Task) (S : ℕ) (T : List ℕ) (k : ℕ) (m n : Node) : Type 0 where
+  pub key-same : key t m ≡ key t n
+  pub dominated-same : (u : ℕ) → u < k → dominates (nodeIn S T u) m ≡ dominates (nodeIn S T u) n
+
+-- a successor was offered by its layer's begin P, for every task whose tables these are: settled, it came out as the search says, where that is
+-- alike; and it was dropped where the begin's key is the mark or more
+pub record Offered (b : Board) (goals goalPairs : List ℕ) (nodes : ℕ) (T O : List ℕ) (r : Run) (spot : Centre) (paid : ℕ) (P : List ℕ) (parent action : ℕ)
+    (T′ O′ : List ℕ) (w : Turned) : Type 0 where
+  pub went : Went (rowOn b) nodes T O r T′ O′ w
+  pub offered : (t : Task) → Scans t (b .leaves) (b .bases) goals (b .factors) goalPairs → Base t nodes (searchOf (rowOn b) T O r) → Cached t (rowOn b) T O r
+      → Made t (r .count) (settledNode b spot paid P parent action)
+      → Alike t (rowOn b) T (r .count) (begunNode b spot paid P parent action) (settledNode b spot paid P parent action)
+      → Stands t (rowOn b) T′ O′ w (offer t nodes (searchOf (rowOn b) T O r) (settledNode b spot paid P parent action))
+  pub dropped : (t : Task) → Scans t (b .leaves) (b .bases) goals (b .factors) goalPairs → Base t nodes (searchOf (rowOn b) T O r) → Cached t (rowOn b) T O r
+      → mark ≤ key t (begunNode b spot paid P parent action) → Stands t (rowOn b) T′ O′ w (on (searchOf (rowOn b) T O r))
 
 -- action a had its turn at node u, for every task whose tables these are; the node's parts are given, with words behind the prices
 pub record Moved (b : Board) (effects goals goalPairs : List ℕ) (nodes : ℕ) (spot : Centre) (paid : ℕ) (old : List ℕ) (u a : ℕ) (T O : List ℕ) (r : Run)
     (T′ O′ : List ℕ) (w : Turned) : Type 0 where
-  pub went : Went nodes T O r T′ O′ w
+  pub went : Went (rowOn b) nodes T O r T′ O′ w
   pub moved : (t : Task) → Suits t b effects goals goalPairs → Base t nodes (searchOf (rowOn b) T O r) → Cached t (rowOn b) T O r
       → Has (nodeIn (rowOn b) T u) spot paid (take (rowOn b) old) → Stands t (rowOn b) T′ O′ w (turn t nodes u a (searchOf (rowOn b) T O r))

@@ -1,21 +1,27 @@
 // The exploration over the lent table.
 use layer::MARK;
 use layer::add_price;
-use layer::applies;
+use layer::begin_layer;
 use layer::first_layer;
-use layer::next_layer;
+use layer::is_met;
 use layer::pairs_of;
+use layer::settle_layer;
 use nodes::choose;
+use nodes::class_of;
+use nodes::fresh;
 use nodes::goal_cost;
 use nodes::is_dominated;
 use nodes::key_of;
+use nodes::link;
 use nodes::read_spot;
+use nodes::retire;
+use nodes::sign_of;
 use nodes::write_row;
 use task::Centre;
 use task::Task;
 use words::copy_words;
 ghost use mathlib.Core.Path.{_≡_};
-ghost use Prim.Native.Nat.{_+_, _*_, _≤_, _<_};
+ghost use Prim.Native.Nat.{ℕ, _+_, _*_, _≤_, _<_};
 ghost use lib.ListN.{length, getD, take};
 ghost use Rattle.task.specs.declared.Task.{Task};
 ghost use Rattle.task.specs.Factors.{allStates};
@@ -25,6 +31,7 @@ ghost use Rattle.layer.specs.Lent.{boardOf};
 ghost use Rattle.tables.specs.Tables.{Tabled, Goals};
 ghost use Rattle.search.specs.Explore.{start, expand, explored};
 ghost use Rattle.search.specs.Explore.Laws.{Base};
+ghost use Rattle.nodes.specs.Chain.{Chained};
 ghost use Rattle.nodes.specs.Row.{nodeWith};
 ghost use Rattle.nodes.specs.Scan.{Cut, goalCostBy};
 ghost use Rattle.explore.specs.Held.{searchOf, Cached, Suits, Room, expandedOf, stoppedOf, Kept, Offered, Moved};
@@ -62,7 +69,7 @@ pub enum Round {
     Goes(Run),
 }
 
-// A node under the next number: its row, its key, and the new best.
+// A node under the next number: its row, its scan words (key, signature, links), and the new best.
 fn keep(
     leaves: usize,
     bases: &[usize],
@@ -76,16 +83,16 @@ fn keep(
     key: u64,
     prices: &[u64],
     table: &mut [u64],
-    keys: &mut [u64],
+    scan: &mut [u64],
     run: Run,
 ) -> Run
     requires { ⌜ Cut leaves (now bases) (length (now prices)) × Cut leaves (now bases) (length (now goals)) ⌝ }
     requires { ⌜ (getD (now bases) leaves 0 ≤ 1024) × (run .count < 4096) × ((run .count + 1) * (40 + getD (now bases) leaves 0) ≤ length (now table))
-        × (length (now keys) ≡ 4096) ⌝ }
-    ensures { λ r. ⌜ Kept (getD (now (bases .entry)) leaves 0) (now (table .entry)) (now (keys .entry)) run
+        × (length (now scan) ≡ 16448) ⌝ }
+    ensures { λ r. ⌜ Kept (getD (now (bases .entry)) leaves 0) (now (table .entry)) (now (scan .entry)) run
         (nodeWith spot paid (take (getD (now (bases .entry)) leaves 0) (now (prices .entry))) parent action) key
         (goalCostBy leaves (now (bases .entry)) (now (goals .entry)) factors goal spot paid (now (prices .entry)))
-        (now (table .exit)) (now (keys .exit)) r ⌝ }
+        (now (table .exit)) (now (scan .exit)) r ⌝ }
 {
     let states = bases[leaves];
     let count = run.count;
@@ -101,7 +108,9 @@ fn keep(
         action,
         prices,
     );
-    keys[count] = key;
+    let sign = sign_of(&prices[..states]);
+    let class = class_of(spot);
+    link(scan, count, key, sign, class);
     let cost = goal_cost(leaves, bases, goals, factors, goal, spot, paid, prices);
     if cost < run.best_cost {
         return Run {
@@ -119,40 +128,59 @@ fn keep(
     }
 }
 
-// A successor of node `parent` by `action`: dropped, refused for a full table, or kept under the next number.
+// A successor of node `parent` by `action`, from its layer's begin: dropped, refused for a full table, or settled and kept under the next number.
 fn offer(
     leaves: usize,
+    actions: usize,
     bases: &[usize],
-    goals: &[u16],
+    moves: &[u16],
+    costs: &[u16],
+    kinds: &[u8],
     factors: [u8; 32],
+    conditions: &[u8],
+    goals: &[u16],
     goal: [u8; 32],
     nodes: usize,
     spot: Centre,
     paid: u64,
     parent: usize,
     action: usize,
-    prices: &[u64],
+    begin: &mut [u64],
     table: &mut [u64],
-    keys: &mut [u64],
+    scan: &mut [u64],
     run: Run,
 ) -> Turned
-    requires { ⌜ Cut leaves (now bases) (length (now prices)) × Cut leaves (now bases) (length (now goals)) ⌝ }
-    requires { ⌜ Room (getD (now bases) leaves 0) nodes (now table) (now keys) run ⌝ }
-    ensures { λ r. ⌜ Offered leaves (now (bases .entry)) (now (goals .entry)) factors goal nodes (now (table .entry)) (now (keys .entry)) run
-        (nodeWith spot paid (take (getD (now (bases .entry)) leaves 0) (now (prices .entry))) parent action) (now (table .exit)) (now (keys .exit)) r ⌝ }
+    requires { ⌜ Sound (boardOf leaves actions (now bases) (now moves) (now costs) (now kinds) factors (now conditions)) ⌝ }
+    requires { ⌜ Cut leaves (now bases) (length (now begin)) × Cut leaves (now bases) (length (now goals)) ⌝ }
+    requires { ⌜ Room (getD (now bases) leaves 0) nodes (now table) (now scan) run ⌝ }
+    ensures { λ r. ⌜ Offered (boardOf leaves actions (now (bases .entry)) (now (moves .entry)) (now (costs .entry)) (now (kinds .entry)) factors
+        (now (conditions .entry))) (now (goals .entry)) goal nodes (now (table .entry)) (now (scan .entry)) run spot paid (now (begin .entry)) parent action
+        (now (table .exit)) (now (scan .exit)) r ⌝ }
 {
     let states = bases[leaves];
     let count = run.count;
-    let key = key_of(leaves, bases, paid, prices);
+    let key = key_of(leaves, bases, paid, &begin[..]);
     if key >= run.best_cost {
         return Turned { full: false, run };
     }
-    if is_dominated(table, states, count, spot, paid, prices) {
+    if is_dominated(table, states, count, scan, spot, paid, &begin[..]) {
         return Turned { full: false, run };
     }
     if count >= nodes {
         return Turned { full: true, run };
     }
+    settle_layer(
+        leaves,
+        actions,
+        bases,
+        moves,
+        costs,
+        kinds,
+        factors,
+        conditions,
+        spot,
+        begin,
+    );
     let more = keep(
         leaves,
         bases,
@@ -164,9 +192,9 @@ fn offer(
         parent,
         action,
         key,
-        prices,
+        &begin[..],
         table,
-        keys,
+        scan,
         run,
     );
     Turned {
@@ -175,7 +203,8 @@ fn offer(
     }
 }
 
-// Action a at node u, whose parts are given: a centre action that applies has a successor.
+// Action a at node u, whose parts are given: a centre action whose centre conditions hold has its layer's begin offered. Where it does not apply, the
+// begin's key is the mark.
 fn turn(
     leaves: usize,
     actions: usize,
@@ -194,38 +223,26 @@ fn turn(
     old: &[u64],
     u: usize,
     a: usize,
+    next: &mut [u64],
     table: &mut [u64],
-    keys: &mut [u64],
+    scan: &mut [u64],
     run: Run,
 ) -> Turned
     requires { ⌜ Sound (boardOf leaves actions (now bases) (now moves) (now costs) (now kinds) factors (now conditions)) ⌝ }
-    requires { ⌜ (length (now effects) ≡ 8192) × (length (now goals) ≡ 1024) × (length (now old) ≡ 1024) × (u < run .count) × (a < actions) ⌝ }
-    requires { ⌜ Room (getD (now bases) leaves 0) nodes (now table) (now keys) run ⌝ }
+    requires { ⌜ (length (now effects) ≡ 8192) × (length (now goals) ≡ 1024) × (length (now old) ≡ 1024) × (length (now next) ≡ 1024) × (u < run .count) × (a < actions) ⌝ }
+    requires { ⌜ Room (getD (now bases) leaves 0) nodes (now table) (now scan) run ⌝ }
     ensures { λ r. ⌜ Moved (boardOf leaves actions (now (bases .entry)) (now (moves .entry)) (now (costs .entry)) (now (kinds .entry)) factors
         (now (conditions .entry))) (now (effects .entry)) (now (goals .entry)) goal nodes spot paid (now (old .entry)) u a
-        (now (table .entry)) (now (keys .entry)) run (now (table .exit)) (now (keys .exit)) r ⌝ }
+        (now (table .entry)) (now (scan .entry)) run (now (table .exit)) (now (scan .exit)) r ⌝ }
 {
     if kinds[a] != 0 {
         return Turned { full: false, run };
     }
-    if !applies(
-        leaves,
-        actions,
-        bases,
-        moves,
-        costs,
-        kinds,
-        factors,
-        conditions,
-        spot,
-        old,
-        a,
-    ) {
+    if !is_met(factors, conditions, spot, a) {
         return Turned { full: false, run };
     }
     let behind = spot.after(factors, pairs_of(effects, a));
-    let mut next = [MARK; 1024];
-    next_layer(
+    begin_layer(
         leaves,
         actions,
         bases,
@@ -234,26 +251,30 @@ fn turn(
         kinds,
         factors,
         conditions,
-        behind,
         a,
         old,
-        &mut next,
+        next,
     );
     let spent = add_price(paid, costs[a] as u64);
     offer(
         leaves,
+        actions,
         bases,
-        goals,
+        moves,
+        costs,
+        kinds,
         factors,
+        conditions,
+        goals,
         goal,
         nodes,
         behind,
         spent,
         u,
         a,
-        &next,
+        next,
         table,
-        keys,
+        scan,
         run,
     )
 }
@@ -274,20 +295,21 @@ fn expand(
     nodes: usize,
     u: usize,
     table: &mut [u64],
-    keys: &mut [u64],
+    scan: &mut [u64],
     run: Run,
 ) -> Turned
     requires { ⌜ Sound (boardOf leaves actions (now bases) (now moves) (now costs) (now kinds) factors (now conditions)) ⌝ }
     requires { ⌜ (length (now effects) ≡ 8192) × (length (now goals) ≡ 1024) × (u < run .count) ⌝ }
-    requires { ⌜ Room (getD (now bases) leaves 0) nodes (now table) (now keys) run ⌝ }
-    ensures grown { λ r. ⌜ (run .count ≤ r .run .count) × (r .run .count ≤ nodes) × (r .run .begun ≡ run .begun) ⌝ }
+    requires { ⌜ Room (getD (now bases) leaves 0) nodes (now table) (now scan) run ⌝ }
+    ensures grown { λ r. ⌜ (run .count ≤ r .run .count) × (r .run .count ≤ nodes) × (r .run .begun ≡ run .begun)
+        × Chained (getD (now (bases .entry)) leaves 0) (now (table .exit)) (now (scan .exit)) (r .run .count) ⌝ }
     ensures expanded { λ r. ⌜ ((t : Task) → Suits t (boardOf leaves actions (now (bases .entry)) (now (moves .entry)) (now (costs .entry)) (now (kinds .entry)) factors
         (now (conditions .entry))) (now (effects .entry)) (now (goals .entry)) goal
-        → Base t nodes (searchOf (allStates t) (now (table .entry)) (now (keys .entry)) run)
-        → Cached t (allStates t) (now (table .entry)) (now (keys .entry)) run
-        → (expand t nodes u (t .actions) 0 (searchOf (allStates t) (now (table .entry)) (now (keys .entry)) run)
-        ≡ expandedOf r (searchOf (allStates t) (now (table .exit)) (now (keys .exit)) (r .run)))
-        × Cached t (allStates t) (now (table .exit)) (now (keys .exit)) (r .run)) ⌝ }
+        → Base t nodes (searchOf (allStates t) (now (table .entry)) (now (scan .entry)) run)
+        → Cached t (allStates t) (now (table .entry)) (now (scan .entry)) run
+        → (expand t nodes u (t .actions) 0 (searchOf (allStates t) (now (table .entry)) (now (scan .entry)) run)
+        ≡ expandedOf r (searchOf (allStates t) (now (table .exit)) (now (scan .exit)) (r .run)))
+        × Cached t (allStates t) (now (table .exit)) (now (scan .exit)) (r .run)) ⌝ }
 {
     let states = bases[leaves];
     let wide = 40 + states;
@@ -297,6 +319,7 @@ fn expand(
     let paid = table[at + 32];
     let mut old = [MARK; 1024];
     copy_words(&table[at + 40..end], &mut old, states);
+    let mut next = [MARK; 1024];
     let mut going = run;
     for a in 0..actions {
         let r = turn(
@@ -317,8 +340,9 @@ fn expand(
             &old,
             u,
             a,
+            &mut next,
             table,
-            keys,
+            scan,
             going,
         );
         if r.full {
@@ -332,7 +356,7 @@ fn expand(
     }
 }
 
-// Node 0 is made and kept: the search at its start.
+// The block words are set to the mark, and node 0 is made and kept: the search at its start.
 fn start(
     task: Task,
     bases: &[usize],
@@ -342,14 +366,17 @@ fn start(
     starts: &[usize],
     goals: &[u16],
     table: &mut [u64],
-    keys: &mut [u64],
+    scan: &mut [u64],
 ) -> Run
     requires { ⌜ Valid task ⌝ }
     requires { ⌜ Tabled task (now bases) (now moves) (now costs) (now kinds) (now starts) × Goals task (now goals) ⌝ }
-    requires { ⌜ (40 + allStates task ≤ length (now table)) × (length (now keys) ≡ 4096) ⌝ }
-    ensures { λ r. ⌜ (searchOf (allStates task) (now (table .exit)) (now (keys .exit)) r ≡ start task)
-        × Cached task (allStates task) (now (table .exit)) (now (keys .exit)) r ⌝ }
+    requires { ⌜ (40 + allStates task ≤ length (now table)) × (length (now scan) ≡ 16448)
+        × ((h : ℕ) → h < 4096 → getD (now scan) (12288 + h) 0 ≡ 0) ⌝ }
+    ensures { λ r. ⌜ (searchOf (allStates task) (now (table .exit)) (now (scan .exit)) r ≡ start task)
+        × Cached task (allStates task) (now (table .exit)) (now (scan .exit)) r
+        × Chained (allStates task) (now (table .exit)) (now (scan .exit)) (r .count) ⌝ }
 {
+    fresh(scan);
     let leaves = task.leaves as usize;
     let actions = task.actions as usize;
     let factors = task.factors;
@@ -391,7 +418,7 @@ fn start(
         key,
         &prices,
         table,
-        keys,
+        scan,
         none,
     )
 }
@@ -412,18 +439,18 @@ fn next_round(
     nodes: usize,
     budget: u32,
     table: &mut [u64],
-    keys: &mut [u64],
+    scan: &mut [u64],
     run: Run,
 ) -> Round
     requires { ⌜ Sound (boardOf leaves actions (now bases) (now moves) (now costs) (now kinds) factors (now conditions)) ⌝ }
     requires { ⌜ (length (now effects) ≡ 8192) × (length (now goals) ≡ 1024) × (run .begun ≤ 4096) ⌝ }
-    requires { ⌜ Room (getD (now bases) leaves 0) nodes (now table) (now keys) run ⌝ }
+    requires { ⌜ Room (getD (now bases) leaves 0) nodes (now table) (now scan) run ⌝ }
     ensures { λ r. ⌜ ((t : Task) → Suits t (boardOf leaves actions (now (bases .entry)) (now (moves .entry)) (now (costs .entry)) (now (kinds .entry)) factors
         (now (conditions .entry))) (now (effects .entry)) (now (goals .entry)) goal
-        → Ahead t nodes budget (allStates t) (now (table .entry)) (now (keys .entry)) run
-        → Rounded t nodes budget (run .begun) (allStates t) (now (table .exit)) (now (keys .exit)) r) ⌝ }
+        → Ahead t nodes budget (allStates t) (now (table .entry)) (now (scan .entry)) run
+        → Rounded t nodes budget (run .begun) (allStates t) (now (table .exit)) (now (scan .exit)) r) ⌝ }
 {
-    let chosen = choose(keys, run.count, run.best_cost);
+    let chosen = choose(scan, run.count, run.best_cost);
     if chosen == 0 {
         return Round::Stops(Stop {
             why: Why::Finished,
@@ -437,7 +464,7 @@ fn next_round(
         });
     }
     let u = chosen - 1;
-    keys[u] = MARK;
+    retire(scan, u, run.count);
     let begun = Run {
         count: run.count,
         begun: run.begun + 1,
@@ -459,7 +486,7 @@ fn next_round(
         nodes,
         u,
         table,
-        keys,
+        scan,
         begun,
     );
     let next = r.run;
@@ -484,13 +511,14 @@ pub fn explore(
     nodes: usize,
     budget: u32,
     table: &mut [u64],
-    keys: &mut [u64],
+    scan: &mut [u64],
 ) -> Stop
     requires { ⌜ Valid task ⌝ }
     requires { ⌜ Tabled task (now bases) (now moves) (now costs) (now kinds) (now starts) × Goals task (now goals) ⌝ }
-    requires { ⌜ (1 ≤ nodes) × (nodes ≤ 4096) × ((nodes + 1) * (40 + allStates task) ≤ length (now table)) × (length (now keys) ≡ 4096) ⌝ }
-    ensures { λ r. ⌜ (stoppedOf (allStates task) (now (table .exit)) (now (keys .exit)) r ≡ explored task nodes budget)
-        × Cached task (allStates task) (now (table .exit)) (now (keys .exit)) (r .run) ⌝ }
+    requires { ⌜ (1 ≤ nodes) × (nodes ≤ 4096) × ((nodes + 1) * (40 + allStates task) ≤ length (now table)) × (length (now scan) ≡ 16448)
+        × ((h : ℕ) → h < 4096 → getD (now scan) (12288 + h) 0 ≡ 0) ⌝ }
+    ensures { λ r. ⌜ (stoppedOf (allStates task) (now (table .exit)) (now (scan .exit)) r ≡ explored task nodes budget)
+        × Cached task (allStates task) (now (table .exit)) (now (scan .exit)) (r .run) ⌝ }
 {
     let leaves = task.leaves as usize;
     let actions = task.actions as usize;
@@ -498,7 +526,7 @@ pub fn explore(
     let goal = task.goal;
     let conditions = task.conditions;
     let effects = task.effects;
-    let mut run = start(task, bases, moves, costs, kinds, starts, goals, table, keys);
+    let mut run = start(task, bases, moves, costs, kinds, starts, goals, table, scan);
     loop {
         let round = next_round(
             leaves,
@@ -515,7 +543,7 @@ pub fn explore(
             nodes,
             budget,
             table,
-            keys,
+            scan,
             run,
         );
         match round {

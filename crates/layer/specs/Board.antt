@@ -2,6 +2,7 @@
 -- and its proof looks at them.
 pub mod Laws
 pub mod Turns
+pub mod Begin
 use mathlib.Core.Path.{_≡_}
 use mathlib.Core.Bool.{Bool, true, false, cond, not, _&&_}
 use mathlib.Core.List.{List, [], _∷_, _++_}
@@ -79,6 +80,13 @@ firstOn b starts c = joined (b .leaves) (λ i. settleOn b i c (set (replicate (s
 
 unfoldable pub nextOn : Board → Centre → ℕ → List ℕ → List ℕ
 nextOn b c a P = joined (b .leaves) (λ i. settleOn b i c (passOn b i a (partOn b i P)))
+
+-- its begin: what comes through, before it settles; and prices settled leaf by leaf
+unfoldable pub beginOn : Board → ℕ → List ℕ → List ℕ
+beginOn b a P = joined (b .leaves) (λ i. passOn b i a (partOn b i P))
+
+unfoldable pub settledOn : Board → Centre → List ℕ → List ℕ
+settledOn b c P = joined (b .leaves) (λ i. settleOn b i c (partOn b i P))
 
 unfoldable pub appliesOn : Board → Centre → List ℕ → ℕ → Bool
 appliesOn b c P a = metOn b c a && all (b .leaves) (λ i. passesOn b i a (partOn b i P))

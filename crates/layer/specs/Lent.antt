@@ -5,7 +5,7 @@ use Prim.Native.Nat.{ℕ, _+_, _*_, _≤_, _<_}
 use lib.ListN.{length, getD, set, drop, replicate}
 use Rattle.task.specs.declared.Centre.{Centre}
 use Rattle.layer.specs.Layer.{mark}
-use Rattle.layer.specs.Board.{Board, statesOn, settleOn, passOn}
+use Rattle.layer.specs.Board.{Board, statesOn, settleOn}
 
 -- the Board of these parts
 abbrev pub boardOf : ℕ → ℕ → List ℕ → List ℕ → List ℕ → List ℕ → List ℕ → List ℕ → Board
@@ -25,12 +25,9 @@ boardOf leaves actions bases moves costs kinds factors conditions =
 abbrev pub testsOf : List ℕ → List ℕ → List ℕ → Board
 testsOf kinds factors conditions = boardOf 0 0 [] [] [] kinds factors conditions
 
--- the prices of the leaf behind i leaves in the first layer, where it begins in state x; and behind centre action a, from its prices P before
+-- the prices of the leaf behind i leaves in the first layer, where it begins in state x
 abbrev pub firstLeafOn : Board → ℕ → Centre → ℕ → List ℕ
 firstLeafOn b i c x = settleOn b i c (set (replicate (statesOn b i) mark) x 0)
-
-abbrev pub nextLeafOn : Board → ℕ → Centre → ℕ → List ℕ → List ℕ
-nextLeafOn b i c a P = settleOn b i c (passOn b i a P)
 
 -- the cost of the j-th action of a list
 abbrev pub costBy : List ℕ → List ℕ → ℕ → ℕ

@@ -1,12 +1,13 @@
 -- Settling a leaf's prices inside one layer: "leaf actions whose centre conditions hold lower prices until each is the cheapest way."
 -- This is Dijkstra's algorithm over a list of prices. Actions are numbered 0 to m - 1 here; `to a x` is one more than the state that action a
--- makes of x, or 0 where it does not apply. M is the unreachable mark: it only acts as a cap.
+-- makes of x, or 0 where it does not apply. M is the unreachable mark: it only acts as a cap. The code settles by sweeps, to the same prices (Sweeps).
 pub mod Walks
 pub mod Steps
 pub mod Rounds
 pub mod Laws
 pub mod Ext
 pub mod Turns
+pub mod Sweeps
 use mathlib.Core.Bool.{Bool, true, false, cond}
 use mathlib.Core.List.{List}
 use Prim.Native.Nat.{ℕ, zero, suc, _+_, min}

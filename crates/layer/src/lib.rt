@@ -1,17 +1,20 @@
 // Prices and layers. A leaf's states have prices; inside a layer leaf actions lower them, and over a centre action they pass on.
 use task::Centre;
+use task::FREE;
 ghost use mathlib.Core.Path.{_≡_};
-ghost use mathlib.Core.Bool.{not, _&&_};
+ghost use mathlib.Core.Bool.{not, _&&_, _||_};
 ghost use mathlib.Core.List.{[], _++_};
 ghost use Prim.Native.Nat.{ℕ, _+_, _*_, _-_, _<_, _≤_, min};
 ghost use lib.Dec.{ltb, eqb};
 ghost use lib.ListN.{length, getD, drop, replicate};
 ghost use Rattle.loops.specs.Count.{any, list};
-ghost use Rattle.layer.specs.Settle.{lower, key, pick, relax, settled};
+ghost use Rattle.task.specs.Meaning.{met};
+ghost use Rattle.layer.specs.Settle.{lower, relax, settled};
+ghost use Rattle.layer.specs.Settle.Sweeps.{Fell, Visited, Swept};
 ghost use Rattle.layer.specs.Pass.{pass};
 ghost use Rattle.layer.specs.Layer.{mark};
-ghost use Rattle.layer.specs.Board.{Sound, metOn, enabledOn, settleOn, firstOn, nextOn, appliesOn};
-ghost use Rattle.layer.specs.Lent.{Lent, Front, boardOf, testsOf, firstLeafOn, nextLeafOn, costBy, moveBy};
+ghost use Rattle.layer.specs.Board.{Sound, metOn, enabledOn, settleOn, firstOn, beginOn, settledOn, nextOn, appliesOn};
+ghost use Rattle.layer.specs.Lent.{Lent, Front, boardOf, testsOf, firstLeafOn, costBy, moveBy};
 
 // The price of a state that cannot be reached.
 pub const MARK: u64 = 18446744073709551615;
@@ -58,9 +61,28 @@ fn move_by(moves: &[u16], row: usize, at: usize, acts: &[u8], j: usize, x: usize
     moves[a * row + (at + x)] as usize
 }
 
-// The first `count` actions lower the prices of what they make of state x.
-pub fn relax(
+// The price of the state k - 1 is v where that is lower, and the state is then dirty; k is 0 for no state. Whether it fell.
+fn lowered(prices: &mut [u64], dirty: &mut [u8], k: usize, v: u64) -> bool
+    requires { ⌜ (k ≤ length (now prices)) × (length (now prices) ≤ length (now dirty)) ⌝ }
+    ensures { λ r. ⌜ (now (prices .exit) ≡ lower mark (now (prices .entry)) k v)
+        × Fell mark (now (prices .entry)) (now (dirty .entry)) r (now (prices .exit)) (now (dirty .exit)) ⌝ }
+{
+    if k == 0 {
+        return false;
+    }
+    let t = k - 1;
+    if v >= prices[t] {
+        return false;
+    }
+    prices[t] = v;
+    dirty[t] = 1;
+    true
+}
+
+// The first `count` actions lower the prices of what they make of state x, and a state whose price fell is dirty. Whether one fell.
+fn relax_from(
     prices: &mut [u64],
+    dirty: &mut [u8],
     moves: &[u16],
     row: usize,
     at: usize,
@@ -68,48 +90,81 @@ pub fn relax(
     acts: &[u8],
     count: usize,
     x: usize,
-)
-    requires { ⌜ (x < length (now prices)) × Lent (now moves) row at (now costs) (now acts) count (length (now prices)) ⌝ }
-    ensures { λ _. ⌜ now (prices .exit)
+) -> bool
+    requires { ⌜ (x < length (now prices)) × (length (now prices) ≤ length (now dirty))
+        × Lent (now moves) row at (now costs) (now acts) count (length (now prices)) ⌝ }
+    ensures { λ r. ⌜ (now (prices .exit)
         ≡ relax mark (costBy (now (costs .entry)) (now (acts .entry))) (moveBy (now (moves .entry)) row at (now (acts .entry)))
-        x (getD (now (prices .entry)) x mark) (now (prices .entry)) count ⌝ }
+        x (getD (now (prices .entry)) x mark) (now (prices .entry)) count)
+        × Fell mark (now (prices .entry)) (now (dirty .entry)) r (now (prices .exit)) (now (dirty .exit)) ⌝ }
 {
     let d = prices[x];
+    let mut fell = false;
     for j in 0..count {
         let k = move_by(moves, row, at, acts, j, x);
         let v = add_price(d, cost_by(costs, acts, j));
-        lower(prices, k, v);
-    }
-}
-
-// A state's place in the queue: its price, or the mark once it is settled.
-fn key(done: u8, p: u64) -> u64
-    ensures { λ r. ⌜ r ≡ key mark done p ⌝ }
-{
-    if done == 0 {
-        return p;
-    }
-    MARK
-}
-
-// One more than the state that is settled next: the least key below the mark, the lowest state on ties. 0 for none.
-pub fn pick(prices: &[u64], done: &[u8]) -> usize
-    requires { ⌜ length (now done) ≡ length (now prices) ⌝ }
-    ensures { λ r. ⌜ r ≡ pick mark (now (prices .entry)) (now (done .entry)) (length (now (prices .entry))) ⌝ }
-{
-    let mut best = 0;
-    let mut least = MARK;
-    for u in 0..prices.len() {
-        let k = key(done[u], prices[u]);
-        if k < least {
-            best = u + 1;
-            least = k;
+        if lowered(prices, dirty, k, v) {
+            fell = true;
         }
     }
-    best
+    fell
 }
 
-// The prices of a leaf settle: as many rounds as it has states, or fewer where no state is left.
+// State x, where it is dirty, is clean afterwards and has lowered the prices of what the actions make of it. Whether one fell.
+fn visit(
+    prices: &mut [u64],
+    dirty: &mut [u8],
+    moves: &[u16],
+    row: usize,
+    at: usize,
+    costs: &[u16],
+    acts: &[u8],
+    count: usize,
+    x: usize,
+) -> bool
+    requires { ⌜ (x < length (now prices)) × (length (now prices) ≤ length (now dirty))
+        × Lent (now moves) row at (now costs) (now acts) count (length (now prices)) ⌝ }
+    ensures { λ r. ⌜ Visited mark (length (now (prices .entry))) count
+        (costBy (now (costs .entry)) (now (acts .entry))) (moveBy (now (moves .entry)) row at (now (acts .entry)))
+        x (now (prices .entry)) (now (dirty .entry)) r (now (prices .exit)) (now (dirty .exit)) ⌝ }
+{
+    if dirty[x] == 0 {
+        return false;
+    }
+    dirty[x] = 0;
+    if prices[x] >= MARK {
+        return false;
+    }
+    relax_from(prices, dirty, moves, row, at, costs, acts, count, x)
+}
+
+// Every dirty state once, by rising number. Whether a price fell.
+fn sweep(
+    prices: &mut [u64],
+    dirty: &mut [u8],
+    moves: &[u16],
+    row: usize,
+    at: usize,
+    costs: &[u16],
+    acts: &[u8],
+    count: usize,
+) -> bool
+    requires { ⌜ (length (now prices) ≤ length (now dirty))
+        × Lent (now moves) row at (now costs) (now acts) count (length (now prices)) ⌝ }
+    ensures { λ r. ⌜ Swept mark (length (now (prices .entry))) count
+        (costBy (now (costs .entry)) (now (acts .entry))) (moveBy (now (moves .entry)) row at (now (acts .entry)))
+        (length (now (prices .entry))) (now (prices .entry)) (now (dirty .entry)) r (now (prices .exit)) (now (dirty .exit)) ⌝ }
+{
+    let mut fell = false;
+    for x in 0..prices.len() {
+        if visit(prices, dirty, moves, row, at, costs, acts, count, x) {
+            fell = true;
+        }
+    }
+    fell
+}
+
+// The prices of a leaf settle: every state is dirty at first, and sweeps go on as long as a price falls. Without actions none does.
 pub fn settle(
     prices: &mut [u64],
     moves: &[u16],
@@ -124,17 +179,11 @@ pub fn settle(
         ≡ settled mark count (costBy (now (costs .entry)) (now (acts .entry))) (moveBy (now (moves .entry)) row at (now (acts .entry)))
         (now (prices .entry)) ⌝ }
 {
-    let mut done = [0u8; 256];
-    let n = prices.len();
-    for k in 0..n {
-        let x = pick(&prices[..], &done[..n]);
-        if x == 0 {
-            return;
-        }
-        let s = x - 1;
-        relax(prices, moves, row, at, costs, acts, count, s);
-        done[s] = 1;
+    if count == 0 {
+        return;
     }
+    let mut dirty = [1u8; 256];
+    while sweep(prices, &mut dirty, moves, row, at, costs, acts, count) {}
 }
 
 // Every price is the mark.
@@ -195,12 +244,37 @@ pub fn pairs_of(conditions: &[u8], action: usize) -> [u8; 32]
     pairs
 }
 
-// Whether the centre conditions of an action hold.
-fn is_met(factors: [u8; 32], conditions: &[u8], centre: Centre, action: usize) -> bool
+// Whether the pairs so far hold, and one more; on a leaf's variable, or where there is no pair, nothing is asked.
+fn pair_too(holds: bool, factor: u8, pair: u8, value: u8) -> bool
+    ensures { λ r. ⌜ r ≡ (holds && (not (eqb factor 0) || met pair value)) ⌝ }
+{
+    if factor != 0 {
+        return holds;
+    }
+    if pair == FREE {
+        return holds;
+    }
+    if pair != value {
+        return false;
+    }
+    holds
+}
+
+// Whether the centre conditions of an action hold. All 32 are looked at, so that no turn waits for a test.
+pub fn is_met(factors: [u8; 32], conditions: &[u8], centre: Centre, action: usize) -> bool
     requires { ⌜ action * 32 + 32 ≤ length (now conditions) ⌝ }
     ensures { λ r. ⌜ r ≡ metOn (testsOf [] factors (now (conditions .entry))) centre action ⌝ }
 {
-    centre.meets(factors, pairs_of(conditions, action))
+    let mut holds = true;
+    for v in 0..32 {
+        holds = pair_too(
+            holds,
+            factors[v],
+            conditions[action * 32 + v],
+            centre.values[v],
+        );
+    }
+    holds
 }
 
 // Whether an action is a leaf action of the leaf behind i leaves, and its centre conditions hold.
@@ -350,8 +424,40 @@ pub fn first_layer(
     }
 }
 
-// The prices of the leaf behind i leaves pass over a centre action and settle; `centre` is the centre state behind the action.
-fn next_leaf(
+// The begin of the layer behind a centre action, at the front of `new`: what comes through of the prices of `old`, before it settles.
+pub fn begin_layer(
+    leaves: usize,
+    actions: usize,
+    bases: &[usize],
+    moves: &[u16],
+    costs: &[u16],
+    kinds: &[u8],
+    factors: [u8; 32],
+    conditions: &[u8],
+    action: usize,
+    old: &[u64],
+    new: &mut [u64],
+)
+    requires { ⌜ Sound (boardOf leaves actions (now bases) (now moves) (now costs) (now kinds) factors (now conditions))
+        × (action < actions) × (getD (now bases) leaves 0 ≤ length (now old)) × (getD (now bases) leaves 0 ≤ length (now new)) ⌝ }
+    ensures { λ _. ⌜ now (new .exit) ≡ beginOn (boardOf leaves actions (now (bases .entry)) (now (moves .entry)) (now (costs .entry)) (now (kinds .entry))
+        factors (now (conditions .entry))) action (now (old .entry)) ++ drop (getD (now (bases .entry)) leaves 0) (now (new .entry)) ⌝ }
+{
+    let row = bases[leaves];
+    for i in 0..leaves {
+        let from = bases[i];
+        let to = bases[i + 1];
+        pass(
+            &old[from..to],
+            moves,
+            action * row + from,
+            &mut new[from..to],
+        );
+    }
+}
+
+// The prices at the front of `new` settle, leaf by leaf; `centre` is the layer's centre state.
+pub fn settle_layer(
     leaves: usize,
     actions: usize,
     bases: &[usize],
@@ -361,33 +467,30 @@ fn next_leaf(
     factors: [u8; 32],
     conditions: &[u8],
     centre: Centre,
-    action: usize,
-    i: usize,
-    old: &[u64],
     new: &mut [u64],
 )
     requires { ⌜ Sound (boardOf leaves actions (now bases) (now moves) (now costs) (now kinds) factors (now conditions))
-        × (i < leaves) × (action < actions) × (length (now new) ≡ length (now old))
-        × (length (now old) ≡ getD (now bases) (i + 1) 0 - getD (now bases) i 0) ⌝ }
-    ensures { λ _. ⌜ now (new .exit) ≡ nextLeafOn (boardOf leaves actions (now (bases .entry)) (now (moves .entry)) (now (costs .entry)) (now (kinds .entry))
-        factors (now (conditions .entry))) i centre action (now (old .entry)) ⌝ }
+        × (getD (now bases) leaves 0 ≤ length (now new)) ⌝ }
+    ensures { λ _. ⌜ now (new .exit) ≡ settledOn (boardOf leaves actions (now (bases .entry)) (now (moves .entry)) (now (costs .entry)) (now (kinds .entry))
+        factors (now (conditions .entry))) centre (now (new .entry)) ++ drop (getD (now (bases .entry)) leaves 0) (now (new .entry)) ⌝ }
 {
-    let row = bases[leaves];
-    let at = bases[i];
-    pass(old, moves, action * row + at, new);
-    settle_leaf(
-        leaves,
-        actions,
-        bases,
-        moves,
-        costs,
-        kinds,
-        factors,
-        conditions,
-        centre,
-        i,
-        new,
-    );
+    for i in 0..leaves {
+        let from = bases[i];
+        let to = bases[i + 1];
+        settle_leaf(
+            leaves,
+            actions,
+            bases,
+            moves,
+            costs,
+            kinds,
+            factors,
+            conditions,
+            centre,
+            i,
+            &mut new[from..to],
+        );
+    }
 }
 
 // The layer behind a centre action, at the front of `new`; `old` has the prices before it, and `centre` is the centre state behind it.
@@ -410,25 +513,31 @@ pub fn next_layer(
     ensures { λ _. ⌜ now (new .exit) ≡ nextOn (boardOf leaves actions (now (bases .entry)) (now (moves .entry)) (now (costs .entry)) (now (kinds .entry))
         factors (now (conditions .entry))) centre action (now (old .entry)) ++ drop (getD (now (bases .entry)) leaves 0) (now (new .entry)) ⌝ }
 {
-    for i in 0..leaves {
-        let from = bases[i];
-        let to = bases[i + 1];
-        next_leaf(
-            leaves,
-            actions,
-            bases,
-            moves,
-            costs,
-            kinds,
-            factors,
-            conditions,
-            centre,
-            action,
-            i,
-            &old[from..to],
-            &mut new[from..to],
-        );
-    }
+    begin_layer(
+        leaves,
+        actions,
+        bases,
+        moves,
+        costs,
+        kinds,
+        factors,
+        conditions,
+        action,
+        old,
+        new,
+    );
+    settle_layer(
+        leaves,
+        actions,
+        bases,
+        moves,
+        costs,
+        kinds,
+        factors,
+        conditions,
+        centre,
+        new,
+    );
 }
 
 // Whether a centre action applies to a node: its centre conditions hold, and in each leaf a state that is reached passes.

@@ -1,2 +1,4 @@
 pub mod Row
 pub mod Scan
+pub mod Block
+pub mod Chain

@@ -1,18 +1,21 @@
-// Rows of nodes in the lent table, and what the search scans: keys, goal costs, dominance, the choice of the next node.
+// Rows of nodes in the lent table, and what the search scans: keys, goal costs, chains, blocks, dominance, the choice of the next node.
 use layer::MARK;
 use layer::add_price;
 use task::Centre;
 use words::copy_words;
 ghost use mathlib.Core.Path.{_≡_};
 ghost use mathlib.Core.List.{_++_};
-ghost use Prim.Native.Nat.{_+_, _*_, _≤_};
+ghost use Prim.Native.Nat.{_+_, _*_, _≤_, _<_, min};
 ghost use lib.Dec.{eqb};
 ghost use lib.ListN.{length, take, drop};
 ghost use Rattle.loops.specs.Count.{all, any};
 ghost use Rattle.task.specs.Centre.{valueIn};
+ghost use Rattle.layer.specs.Layer.{mark};
 ghost use Rattle.search.specs.Node.{leastOf, dominates};
 ghost use Rattle.nodes.specs.Row.{spotOf, nodeOf, nodeIn, nodeWith};
 ghost use Rattle.nodes.specs.Scan.{Cut, goalsBy, keyBy, goalSumBy, goalCostBy, chooseBy};
+ghost use Rattle.nodes.specs.Block.{blockEnd, Blocked, freshTo, retiredTo};
+ghost use Rattle.nodes.specs.Chain.{classOf, signOf, linkedTo, Chained};
 
 // ---- prices
 
@@ -100,11 +103,11 @@ pub fn read_spot(row: &[u64]) -> Centre
     requires { ⌜ 32 ≤ length (now row) ⌝ }
     ensures { λ r. ⌜ r ≡ spotOf (now (row .entry)) ⌝ }
 {
-    let mut spot = Centre::blank();
+    let mut values = [0u8; 32];
     for v in 0..32 {
-        spot = spot.with(v, (row[v] % 256) as u8);
+        values[v] = (row[v] % 256) as u8;
     }
-    spot
+    Centre { values }
 }
 
 // The centre state into a row.
@@ -138,6 +141,91 @@ pub fn write_row(
     copy_words(prices, &mut row[40..], states);
 }
 
+// ---- chains
+
+// The class of a centre state.
+pub fn class_of(spot: Centre) -> usize
+    ensures { λ r. ⌜ r ≡ classOf spot ⌝ }
+{
+    let values = spot.values;
+    let mut class = 0;
+    for v in 0..32 {
+        class = (class * 1637 + values[v] as usize) % 4096;
+    }
+    class
+}
+
+// The signature of the prices: a bit for each reachable state, the same for every 64th.
+pub fn sign_of(prices: &[u64]) -> u64
+    ensures { λ r. ⌜ r ≡ signOf (now (prices .entry)) ⌝ }
+{
+    let mut sign = 0;
+    for k in 0..prices.len() {
+        if prices[k] < MARK {
+            sign = sign | (1 << (k % 64));
+        }
+    }
+    sign
+}
+
+// The lesser of two words.
+fn lesser(a: u64, b: u64) -> u64
+    ensures { λ r. ⌜ r ≡ min a b ⌝ }
+{
+    if b < a {
+        return b;
+    }
+    a
+}
+
+// A node into the scan words: its key, its signature, the node itself as the last of its class, and its block's word no higher than its key.
+pub fn link(scan: &mut [u64], node: usize, key: u64, sign: u64, class: usize)
+    requires { ⌜ (length (now scan) ≡ 16448) × (node < 4096) × (class < 4096) ⌝ }
+    ensures { λ _. ⌜ now (scan .exit) ≡ linkedTo (now (scan .entry)) node key sign class ⌝ }
+{
+    let head = scan[12288 + class];
+    let block = 16384 + node / 64;
+    let low = lesser(scan[block], key);
+    scan[node] = key;
+    scan[4096 + node] = sign;
+    scan[8192 + node] = head;
+    scan[12288 + class] = (node + 1) as u64;
+    scan[block] = low;
+}
+
+// ---- blocks
+
+// The words of all blocks to the mark.
+pub fn fresh(scan: &mut [u64])
+    requires { ⌜ length (now scan) ≡ 16448 ⌝ }
+    ensures { λ _. ⌜ now (scan .exit) ≡ freshTo (now (scan .entry)) 64 ⌝ }
+{
+    for b in 0..64 {
+        scan[16384 + b] = MARK;
+    }
+}
+
+// Where the nodes of a block end, of `count` nodes.
+fn block_end(block: usize, count: usize) -> usize
+    requires { ⌜ block < 64 ⌝ }
+    ensures { λ r. ⌜ r ≡ blockEnd count block ⌝ }
+{
+    lesser((block * 64 + 64) as u64, count as u64) as usize
+}
+
+// The mark as the open key of a node, and its block's word again the least of the block.
+pub fn retire(scan: &mut [u64], node: usize, count: usize)
+    requires { ⌜ (length (now scan) ≡ 16448) × (count ≤ 4096) × (node < count) ⌝ }
+    ensures { λ _. ⌜ now (scan .exit) ≡ retiredTo (now (scan .entry)) node count ⌝ }
+{
+    let block = node / 64;
+    let from = block * 64;
+    let end = block_end(block, count);
+    scan[node] = MARK;
+    let low = least(&scan[from..end]);
+    scan[16384 + block] = low;
+}
+
 // ---- dominance
 
 // Whether the row's node has this centre state.
@@ -159,9 +247,6 @@ fn dominates_row(row: &[u64], states: usize, spot: Centre, paid: u64, prices: &[
     requires { ⌜ (length (now row) ≡ 40 + states) × (states ≤ length (now prices)) ⌝ }
     ensures { λ r. ⌜ r ≡ dominates (nodeOf states (now (row .entry))) (nodeWith spot paid (take states (now (prices .entry))) 0 0) ⌝ }
 {
-    if !same_spot(row, spot) {
-        return false;
-    }
     if row[32] > paid {
         return false;
     }
@@ -170,36 +255,64 @@ fn dominates_row(row: &[u64], states: usize, spot: Centre, paid: u64, prices: &[
             return false;
         }
     }
-    true
+    same_spot(row, spot)
 }
 
-// Whether one of the first `count` nodes dominates the node with these parts.
-pub fn is_dominated(
+// Whether node `u` dominates the node with these parts; `theirs` is its signature, `sign` that of the other's prices.
+fn dominates_node(
     table: &[u64],
     states: usize,
-    count: usize,
+    u: usize,
+    theirs: u64,
+    sign: u64,
     spot: Centre,
     paid: u64,
     prices: &[u64],
 ) -> bool
-    requires { ⌜ (states ≤ 1024) × (count ≤ 4096) × (count * (40 + states) ≤ length (now table)) × (states ≤ length (now prices)) ⌝ }
+    requires { ⌜ (u * (40 + states) + (40 + states) ≤ length (now table)) × (states ≤ length (now prices)) ⌝ }
+    requires { ⌜ (theirs ≡ signOf (nodeIn states (now table) u .prices)) × (sign ≡ signOf (take states (now prices))) ⌝ }
+    ensures { λ r. ⌜ r ≡ dominates (nodeIn states (now (table .entry)) u) (nodeWith spot paid (take states (now (prices .entry))) 0 0) ⌝ }
+{
+    if sign | theirs != theirs {
+        return false;
+    }
+    let wide = 40 + states;
+    let from = u * wide;
+    let end = from + wide;
+    dominates_row(&table[from..end], states, spot, paid, prices)
+}
+
+// Whether one of the first `count` nodes dominates the node with these parts: those of its class are tried, the last first.
+pub fn is_dominated(
+    table: &[u64],
+    states: usize,
+    count: usize,
+    scan: &[u64],
+    spot: Centre,
+    paid: u64,
+    prices: &[u64],
+) -> bool
+    requires { ⌜ (states ≤ 1024) × (count ≤ 4096) × (count * (40 + states) ≤ length (now table)) × (states ≤ length (now prices)) × Chained states (now table) (now scan) count ⌝ }
     ensures { λ r. ⌜ r ≡ any count (λ u. dominates (nodeIn states (now (table .entry)) u) (nodeWith spot paid (take states (now (prices .entry))) 0 0)) ⌝ }
 {
-    let wide = 40 + states;
-    for u in 0..count {
-        let at = u * wide;
-        let end = at + wide;
-        if dominates_row(&table[at..end], states, spot, paid, prices) {
+    let sign = sign_of(&prices[..states]);
+    let class = class_of(spot);
+    let mut to = scan[12288 + class] as usize;
+    while to > 0 {
+        let u = to - 1;
+        let theirs = scan[4096 + u];
+        if dominates_node(table, states, u, theirs, sign, spot, paid, prices) {
             return true;
         }
+        to = scan[8192 + u] as usize;
     }
     false
 }
 
 // ---- the choice
 
-// One more than the node with the least key below the bound, the lowest on ties; 0 for none.
-pub fn choose(keys: &[u64], count: usize, bound: u64) -> usize
+// One more than the first place of the least key below the bound, 0 for none.
+fn pick(keys: &[u64], count: usize, bound: u64) -> usize
     requires { ⌜ count ≤ length (now keys) ⌝ }
     ensures { λ r. ⌜ r ≡ chooseBy bound (now (keys .entry)) count ⌝ }
 {
@@ -212,4 +325,19 @@ pub fn choose(keys: &[u64], count: usize, bound: u64) -> usize
         }
     }
     chosen
+}
+
+// One more than the node with the least key below the bound, the lowest on ties; 0 for none. The block is picked by its word, the node in the block.
+pub fn choose(scan: &[u64], count: usize, bound: u64) -> usize
+    requires { ⌜ (length (now scan) ≡ 16448) × (count ≤ 4096) × (bound ≤ mark) × Blocked (now scan) count ⌝ }
+    ensures { λ r. ⌜ r ≡ chooseBy bound (now (scan .entry)) count ⌝ }
+{
+    let picked = pick(&scan[16384..16448], (count + 63) / 64, bound);
+    if picked == 0 {
+        return 0;
+    }
+    let block = picked - 1;
+    let from = block * 64;
+    let end = block_end(block, count);
+    from + pick(&scan[from..end], end - from, bound)
 }

@@ -4,7 +4,6 @@ use explore::Stop;
 use explore::Why;
 use explore::explore;
 use fields::Refusal;
-use layer::MARK;
 use plans::write_plan;
 use record::read_record;
 use tables::action_costs;
@@ -188,7 +187,7 @@ fn search_tables(
     let kinds = action_kinds(task);
     let starts = leaf_starts(task);
     let goals = leaf_goals(task, bases);
-    let mut open = [MARK; 4096];
+    let mut scan = [0u64; 16448];
     let stop = explore(
         task,
         &bases,
@@ -200,7 +199,7 @@ fn search_tables(
         nodes,
         budget,
         table,
-        &mut open,
+        &mut scan,
     );
     answer_of(
         task,

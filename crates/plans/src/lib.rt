@@ -6,6 +6,7 @@ use nodes::least_goal;
 use nodes::read_spot;
 use task::Task;
 use wayback::Ended;
+use wayback::first_depth;
 use wayback::leaf_back;
 use wayback::lowest_over;
 use wayback::put;
@@ -131,7 +132,8 @@ fn layer_begin(
 
 // ---- one leaf inside one layer
 
-// The leaf behind i leaves walks back from a state of a node's layer, which began with the prices `begins`.
+// The leaf behind i leaves walks back from a state of a node's layer, which began with the prices `begins`; from one that has kept its price there
+// is nothing to walk.
 fn leaf_walk(
     leaves: usize,
     actions: usize,
@@ -161,10 +163,14 @@ fn leaf_walk(
     let row = bases[leaves];
     let at = bases[i];
     let first = node * (40 + row);
+    let from = first + (40 + at);
+    let end = from + begins.len();
+    if first_depth(begins, &table[from..end], state) == 0 {
+        return Ended { state, place };
+    }
     let spot = read_spot(&table[first..first + (40 + row)]);
     let mut acts = [0u8; 256];
     let count = enabled(kinds, factors, conditions, spot, i, actions, &mut acts);
-    let from = first + (40 + at);
     leaf_back(
         moves,
         row,
@@ -173,7 +179,7 @@ fn leaf_walk(
         &acts[..count],
         count,
         begins,
-        &table[from..from + begins.len()],
+        &table[from..end],
         state,
         tight,
         plan,

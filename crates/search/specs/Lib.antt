@@ -5,3 +5,4 @@ pub mod Cover
 pub mod Made
 pub mod Small
 pub mod Optimal
+pub mod Begin

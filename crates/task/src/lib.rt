@@ -78,11 +78,12 @@ impl Centre {
     pub fn after(self, factors: [u8; 32], effects: [u8; 32]) -> Centre
         ensures { λ r. ⌜ r ≡ centreAfter (λ v. getD factors v 0) (λ v. getD effects v 0) self ⌝ }
     {
-        let mut next = Centre::blank();
+        let before = self.values;
+        let mut values = [0u8; 32];
         for v in 0..32 {
-            next = next.with(v, next_value(factors[v], effects[v], self.values[v]));
+            values[v] = next_value(factors[v], effects[v], before[v]);
         }
-        next
+        Centre { values }
     }
 
     // Whether the pairs on centre variables hold.

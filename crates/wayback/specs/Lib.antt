@@ -4,5 +4,6 @@ pub mod Sources
 pub mod Tight
 pub mod Rows
 pub mod On
+pub mod First
 pub mod Walked
 pub mod Ready

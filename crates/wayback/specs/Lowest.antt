@@ -1,16 +1,11 @@
 -- More laws of the lowest number at which a test passes. Assumes nothing.
 use mathlib.Core.Path.{_≡_, refl, sym, _∙_}
-use mathlib.Core.Logic.{_⊎_, inl, inr}
-use mathlib.Core.Bool.{Bool, true, false, true≢false}
+use mathlib.Core.Bool.{Bool, true, true≢false}
 use Prim.Native.Nat.{ℕ, zero, suc, _<_}
 use native.Mathlib.Decide.{decLt}
 use native.Mathlib.Omega.{arith}
-use lib.Dec.{ltb}
-use borrow.Author.Tests.{lt-ltb, le-ltb}
-use Rattle.loops.specs.Count.{any}
-use Rattle.loops.specs.Count.Laws.{test-cases, any-in, any-out}
 use Rattle.search.specs.Plan.{lowest}
-use Rattle.search.specs.Plan.Lowest.{Found, Fails, lowest-cases, lowest-is}
+use Rattle.search.specs.Plan.Lowest.{Found, Fails, lowest-is}
 
 -- the first number that passes is the lowest
 pub lowest-first : (n : ℕ) (test : ℕ → Bool) (k : ℕ) → k < n → test k ≡ true → Fails k test → lowest n test ≡ k
@@ -26,12 +21,3 @@ pub lowest-ext : (n : ℕ) (p q : ℕ → Bool) → ((k : ℕ) → k < n → p k
 unfolding lowest
 lowest-ext zero p q h = refl
 lowest-ext (suc n) p q h = rw (lowest-ext n p q (λ k l. h k (omega arith)), h n (omega arith))
-
--- some number passes just where the lowest is inside
-pub any-lowest : (n : ℕ) (test : ℕ → Bool) → any n test ≡ ltb (lowest n test) n
-any-lowest n test = go (lowest-cases n test) (test-cases (any n test))
-  where
-    go : {r : ℕ} → Found n test r ⊎ ((r ≡ n) × Fails n test) → (any n test ≡ true) ⊎ (any n test ≡ false) → any n test ≡ ltb r n
-    go {r} (inl d) w = any-in n test r (d .inside) (d .passes) ∙ sym (lt-ltb r n (d .inside))
-    go (inr (q, f)) (inl e) = let (k, (h, p)) = any-out n test e in absurd (true≢false (sym p ∙ f k h))
-    go {r} (inr (q, f)) (inr e) = e ∙ sym (le-ltb r n (omega arith))

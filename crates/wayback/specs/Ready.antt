@@ -15,6 +15,7 @@ use Rattle.search.specs.Plan.Laid.{laid}
 use Rattle.wayback.specs.Steps.{tightBy, rowsOf, depthsBy, backBy, wayBy, tableDepths, tableBack, Walkable, Tabled}
 use Rattle.wayback.specs.Sources.{Sourced, depths-length, depths-below, depths-bound, depths-ext, depths-sourced, back-ext}
 use Rattle.wayback.specs.Tight.{tight-le}
+use Rattle.wayback.specs.First.{Passable}
 use Rattle.wayback.specs.Walked.{Walked}
 
 -- ---- by a table
@@ -31,6 +32,10 @@ module _ (table acts : List ℕ) (m : ℕ) (B P : List ℕ) (y : ℕ) (w : Table
 
     pub table-sourced : Sourced (length D) m (rowsOf (length D) table) D
     table-sourced = rw (table-length, made) (depths-sourced (rowsOf (length P) table) m B P ranged)
+
+    -- one pass can go over it
+    pub table-passable : Passable table m (length D)
+    table-passable = rw table-length (record { few-actions = w .few-actions; few-states = w .few-states; long = w .long; stay = w .stay })
 
     -- there are few steps to walk
     pub table-few : getD D y mark ≤ 256

@@ -61,11 +61,15 @@ module _ (n : ℕ) (f : ℕ → ℕ → ℕ) where
 
 -- ---- a part of a list
 
+-- an entry of a part, which begins at a
+pub part-at : (table : List ℕ) (a n x : ℕ) → x < n → getD (take (a + n - a) (drop a table)) x 0 ≡ getD table (a + x) 0
+part-at table a n x h = let l : x < a + n - a = omega arith in rw (getD-take, getD-drop)
+
 -- the lowest state of depth k that a part, which begins at a, leads to y
 pub lowest-part : (table : List ℕ) (a n : ℕ) (D : List ℕ) (k y : ℕ)
     → lowest n (λ x. eqb (getD (take (a + n - a) (drop a table)) x 0) (suc y) && eqb (getD D x mark) k)
     ≡ lowest n (λ x. eqb (getD table (a + x) 0) (suc y) && eqb (getD D x mark) k)
-lowest-part table a n D k y = lowest-ext n _ _ (λ x h. let l : x < a + n - a = omega arith in rw (getD-take, getD-drop))
+lowest-part table a n D k y = lowest-ext n _ _ (λ x h. rw (part-at table a n x h))
 
 -- ---- lent to settling, by the actions 0, 1, 2, .. at cost 1
 

@@ -13,8 +13,9 @@ ghost use Rattle.layer.specs.Lent.{Lent};
 ghost use Rattle.search.specs.Plan.{lowest};
 ghost use Rattle.search.specs.Plan.Laid.{put};
 ghost use Rattle.search.specs.Plan.Depths.{depth0};
-ghost use Rattle.wayback.specs.Steps.{tightAt, tightBy, rowsOf, depthsBy, entryBy, backBy, wayBy, tableBack, Walkable, Tabled};
+ghost use Rattle.wayback.specs.Steps.{tightAt, tightBy, rowsOf, depthsBy, backBy, wayBy, tableBack, Walkable, Tabled};
 ghost use Rattle.wayback.specs.Sources.{Sourced};
+ghost use Rattle.wayback.specs.First.{keep, EdgeMet, RowMet, RowsMet, Passable};
 ghost use Rattle.wayback.specs.Walked.{Walked};
 
 // Where a walk back ends: the state, and the place of the next action.
@@ -86,7 +87,7 @@ fn tight_table(
 }
 
 // The depth of state x where depths begin: 0 where it has kept its price, else the mark.
-fn first_depth(begins: &[u64], prices: &[u64], x: usize) -> u64
+pub fn first_depth(begins: &[u64], prices: &[u64], x: usize) -> u64
     requires { ⌜ (x < length (now prices)) × (length (now begins) ≡ length (now prices)) ⌝ }
     ensures { λ r. ⌜ r ≡ cond (ltb (getD (now (prices .entry)) x mark) mark
         && eqb (getD (now (begins .entry)) x mark) (getD (now (prices .entry)) x mark)) 0 mark ⌝ }
@@ -146,7 +147,7 @@ fn is_source(to: u16, next: usize, p: u64, k: u64) -> bool
     p == k
 }
 
-// The lowest state from which a row leads to state y, and whose depth is k; their count where there is none.
+// The lowest state from which a row leads to state y, and whose price (or depth) is k; their count where there is none.
 fn lowest_source(row: &[u16], depths: &[u64], k: u64, y: usize) -> usize
     requires { ⌜ (length (now row) ≡ length (now depths)) × (y < length (now depths)) ⌝ }
     ensures { λ r. ⌜ r ≡ lowest (length (now (depths .entry)))
@@ -161,20 +162,59 @@ fn lowest_source(row: &[u16], depths: &[u64], k: u64, y: usize) -> usize
     depths.len()
 }
 
-// The first action with a source of state y, of depth k; `count` where there is none.
-fn source_action(tight: &[u16], depths: &[u64], count: usize, k: u64, y: usize) -> usize
-    requires { ⌜ (y < length (now depths)) × (count * length (now depths) ≤ length (now tight)) ⌝ }
-    ensures { λ r. ⌜ r ≡ entryBy (rowsOf (length (now (depths .entry))) (now (tight .entry))) count (length (now (depths .entry)))
-        (now (depths .entry)) k y ⌝ }
+// What a state of depth q keeps of its sources: `kept`, or else `place` where that is met from a state of depth p, one less.
+fn keep_first(kept: u16, p: u64, q: u64, place: u16) -> u16
+    ensures { λ r. ⌜ r ≡ keep kept (eqb (suc p) q) place ⌝ }
+{
+    if kept != 0 {
+        return kept;
+    }
+    if q == 0 {
+        return 0;
+    }
+    let less = q - 1;
+    if less != p {
+        return 0;
+    }
+    place
+}
+
+// An edge to the state before `to`, from a state of depth p, is met: that state keeps it where it is its first from depth one less.
+fn meet(to: u16, p: u64, place: u16, depths: &[u64], sources: &mut [u16])
+    requires { ⌜ (to ≤ length (now depths)) × (length (now depths) ≤ length (now sources)) ⌝ }
+    ensures { λ _. ⌜ EdgeMet to p place (now (depths .entry)) (now (sources .entry)) (now (sources .exit)) ⌝ }
+{
+    if to == 0 {
+        return;
+    }
+    let y = to as usize - 1;
+    sources[y] = keep_first(sources[y], p, depths[y], place);
+}
+
+// The edges of one row, which begins at place `from`, are met.
+fn sources_row(row: &[u16], from: usize, depths: &[u64], sources: &mut [u16])
+    requires { ⌜ (length (now row) ≡ length (now depths)) × (length (now depths) ≤ length (now sources)) × (from + length (now depths) ≤ 65280)
+        × ((x : ℕ) → x < length (now depths) → getD (now row) x 0 ≤ length (now depths)) ⌝ }
+    ensures { λ _. ⌜ RowMet (now (row .entry)) (now (depths .entry)) from (now (sources .entry)) (length (now (depths .entry))) (now (sources .exit)) ⌝ }
+{
+    for x in 0..depths.len() {
+        let place = (from + x + 1) as u16;
+        meet(row[x], depths[x], place, depths, sources);
+    }
+}
+
+// The first source of each state by a table of the edges of `count` actions: one more than its place there, 0 where there is none.
+fn sources_table(tight: &[u16], depths: &[u64], count: usize) -> [u16; 256]
+    requires { ⌜ Passable (now tight) count (length (now depths)) ⌝ }
+    ensures { λ r. ⌜ RowsMet (now (tight .entry)) (now (depths .entry)) count r ⌝ }
 {
     let n = depths.len();
+    let mut sources = [0u16; 256];
     for j in 0..count {
         let from = j * n;
-        if lowest_source(&tight[from..from + n], depths, k, y) < n {
-            return j;
-        }
+        sources_row(&tight[from..from + n], from, depths, &mut sources);
     }
-    count
+    sources
 }
 
 // An action at a place of the plan, counted from its last action; places before its begin are not written.
@@ -188,7 +228,8 @@ pub fn put(plan: &mut [u8], total: usize, place: usize, action: u8)
     plan[total - (place + 1)] = action;
 }
 
-// From a state back to one of depth 0: at each step the first action with a source, its lowest source, and the action into the plan.
+// From a state back to one of depth 0: at each step the first action with a source, its lowest source, and the action into the plan. One pass over
+// the table finds them for all states.
 fn walk(
     tight: &[u16],
     acts: &[u8],
@@ -199,22 +240,22 @@ fn walk(
     total: usize,
     place: usize,
 ) -> Ended
-    requires { ⌜ (state < length (now depths)) × (count ≤ length (now acts)) × (count * length (now depths) ≤ length (now tight))
+    requires { ⌜ (state < length (now depths)) × (count ≤ length (now acts)) × Passable (now tight) count (length (now depths))
         × Sourced (length (now depths)) count (rowsOf (length (now depths)) (now tight)) (now depths)
         × (getD (now depths) state mark ≤ 256) × (total ≤ length (now plan)) × (place + 256 ≤ mark) ⌝ }
     ensures { λ r. ⌜ Walked (backBy (rowsOf (length (now (depths .entry))) (now (tight .entry))) (now (acts .entry)) count (length (now (depths .entry)))
         (now (depths .entry)) (getD (now (depths .entry)) state mark) state) total place (now (plan .entry)) r (now (plan .exit)) ⌝ }
 {
     let n = depths.len();
+    let sources = sources_table(tight, depths, count);
     let mut y = state;
     let mut k = depths[state];
     let mut p = place;
     while k > 0 {
         k -= 1;
-        let j = source_action(tight, depths, count, k, y);
-        let from = j * n;
-        y = lowest_source(&tight[from..from + n], depths, k, y);
-        put(plan, total, p, acts[j]);
+        let e = sources[y] as usize - 1;
+        y = e % n;
+        put(plan, total, p, acts[e / n]);
         p += 1;
     }
     Ended { state: y, place: p }

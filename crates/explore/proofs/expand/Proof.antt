@@ -1,5 +1,5 @@
 -- `explore::expand` meets its contract. The invariant: what is left of the expansion from the next action on is the whole. Assumes nothing.
-use mathlib.Core.Path.{_≡_}
+use mathlib.Core.Path.{_≡_, _∙_}
 use mathlib.Core.List.{List}
 use Prim.Native.Nat.{ℕ, _+_, _-_, _*_, _≤_, _<_}
 use native.Mathlib.Omega.{arith}
@@ -18,11 +18,12 @@ use Rattle.explore.proofs.expand.Statement.{statement}
 use Rattle.explore.proofs.expand.Tie as tie
 
 abbrev Inv-loop : tie.InvT-loop
-Inv-loop leaves actions bases moves costs kinds factors conditions effects goals goal nodes u table₀ keys₀ states wide at end spot paid old going₀ a₀ table keys going a =
-    Passed (boardOf leaves actions bases moves costs kinds factors conditions) effects goals goal nodes u table₀ keys₀ going₀ table keys going a
+Inv-loop leaves actions bases moves costs kinds factors conditions effects goals goal nodes u table₀ scan₀ states wide at end spot paid old next₀ going₀ a₀ table scan next going a =
+    Passed (boardOf leaves actions bases moves costs kinds factors conditions) effects goals goal nodes u table₀ scan₀ going₀ table scan going a
+    × (length next ≡ 1024)
 
 abbrev μ-loop : tie.MeasureT-loop
-μ-loop leaves actions bases moves costs kinds factors conditions effects goals goal nodes u table₀ keys₀ states wide at end spot paid old going₀ a₀ table keys going a =
+μ-loop leaves actions bases moves costs kinds factors conditions effects goals goal nodes u table₀ scan₀ states wide at end spot paid old next₀ going₀ a₀ table scan next going a =
     actions - a
 
 -- where the function starts, the Board that is lent, and node u's row, which lies within the table
@@ -139,19 +140,22 @@ copy-words-requires : tie.Need-copy-words-requires Inv-loop μ-loop
 copy-words-requires c κs = search needs
 
 loop-holds : tie.Need-loop-holds Inv-loop μ-loop
-loop-holds c = passed-none _ _ _ _ _ _ _ _ _ (begun c .pre .1 .1)
+loop-holds c = (passed-none _ _ _ _ _ _ _ _ _ (begun c .pre .1 .1), search needs)
 
 slice-aggregate-turn : tie.Need-slice-aggregate-turn Inv-loop μ-loop
 slice-aggregate-turn c = search needs
 
+slice-aggregate-turn-2 : tie.Need-slice-aggregate-turn-2 Inv-loop μ-loop
+slice-aggregate-turn-2 c = search needs
+
 turn-requires : tie.Need-turn-requires Inv-loop μ-loop
 turn-requires c κs =
-    let taken = c .before .before .before in
+    let taken = c .before .before .before .before in
     let l = taken .before in
     let s = begun (l .before) in
     let long : length (old (l .before)) ≡ 1024 = l .before .before .copy-words .kept .1 .0 in
-    let inside : s .args .u < l .loop .going .count = omega (arith, s .pre .1 .0 .2, l .loop .inv .more) in
-    (s .pre .0, ((s .pre .1 .0 .0, s .pre .1 .0 .1, long, inside, taken .loop-test .taken), l .loop .inv .room))
+    let inside : s .args .u < l .loop .going .count = omega (arith, s .pre .1 .0 .2, l .loop .inv .0 .more) in
+    (s .pre .0, ((s .pre .1 .0 .0, s .pre .1 .0 .1, long, l .loop .inv .1, inside, taken .loop-test .taken), l .loop .inv .0 .room))
 
 same-length : tie.Need-same-length Inv-loop μ-loop
 same-length c = search needs
@@ -161,20 +165,20 @@ same-length-2 c = search needs
 
 returns : tie.Need-returns Inv-loop μ-loop
 returns c =
-    let taken = c .before .before .before .before .before .before .before .before .before in
+    let taken = c .before .before .before .before .before .before .before .before .before .before .before in
     let l = taken .before in
     let s = begun (l .before) in
     let a = s .args in
-    let w = c .before .before .before .before .before .turn in
-    passed-full (board s) (now (a .effects)) (now (a .goals)) (a .goal) (a .nodes) (a .u) (now (a .table)) (now (a .keys)) (a .run)
+    let w = c .before .before .before .before .before .before .turn in
+    passed-full (board s) (now (a .effects)) (now (a .goals)) (a .goal) (a .nodes) (a .u) (now (a .table)) (now (a .scan)) (a .run)
     (spot (l .before)) (paid (l .before)) (old (l .before)) (has (l .before)) (s .pre .1 .0 .2)
-    (l .loop .table) (l .loop .keys) (l .loop .going) (l .loop .a) (taken .loop-test .taken) (l .loop .inv)
-    (w .last .1 .1 .1 .1 .1 .1 .1 .1 .1 .1 .1 .1 .1 .1 .1 .1 .1 .0) (w .last .1 .1 .1 .1 .1 .1 .1 .1 .1 .1 .1 .1 .1 .1 .1 .1 .1 .1 .0)
+    (l .loop .table) (l .loop .scan) (l .loop .going) (l .loop .a) (taken .loop-test .taken) (l .loop .inv .0)
+    (w .last .1 .1 .1 .1 .1 .1 .1 .1 .1 .1 .1 .1 .1 .1 .1 .1 .1 .1 .0) (w .last .1 .1 .1 .1 .1 .1 .1 .1 .1 .1 .1 .1 .1 .1 .1 .1 .1 .1 .1 .0)
     (w .result) (w .ensures) (c .if1 .taken)
 
 add-a : tie.Need-add-a Inv-loop μ-loop
 add-a c =
-    let l = c .before .before .before .before .before .before .before .before .before .before in
+    let l = c .before .before .before .before .before .before .before .before .before .before .before .before in
     let s = begun (l .before .before) in
     omega (arith, s .good, l .loop-test .taken)
 
@@ -183,17 +187,18 @@ loop-less c = search needs
 
 loop-again : tie.Need-loop-again Inv-loop μ-loop
 loop-again c =
-    let taken = c .before .before .before .before .before .before .before .before .before .before in
+    let taken = c .before .before .before .before .before .before .before .before .before .before .before .before in
     let l = taken .before in
     let s = begun (l .before) in
     let a = s .args in
-    let w = c .before .before .before .before .before .before .turn in
-    passed-more (board s) (now (a .effects)) (now (a .goals)) (a .goal) (a .nodes) (a .u) (now (a .table)) (now (a .keys)) (a .run)
+    let w = c .before .before .before .before .before .before .before .turn in
+    let kept : length (w .last .1 .1 .1 .1 .1 .1 .1 .1 .1 .1 .1 .1 .1 .1 .1 .1 .1 .0) ≡ length (l .loop .next) = w .kept .1 .1 .1 .1 .1 .1 .1 .1 .1 .1 .1 .1 .1 .1 .1 .1 .1 .0 in
+    let passed =
+    passed-more (board s) (now (a .effects)) (now (a .goals)) (a .goal) (a .nodes) (a .u) (now (a .table)) (now (a .scan)) (a .run)
     (spot (l .before)) (paid (l .before)) (old (l .before)) (has (l .before)) (s .pre .1 .0 .2)
-    (l .loop .table) (l .loop .keys) (l .loop .going) (l .loop .a) (taken .loop-test .taken) (l .loop .inv)
-    (w .last .1 .1 .1 .1 .1 .1 .1 .1 .1 .1 .1 .1 .1 .1 .1 .1 .1 .0) (w .last .1 .1 .1 .1 .1 .1 .1 .1 .1 .1 .1 .1 .1 .1 .1 .1 .1 .1 .0)
-    (w .result) (w .ensures) (c .before .if1 .left)
-    (w .kept .1 .1 .1 .1 .1 .1 .1 .1 .1 .1 .1 .1 .1 .1 .1 .1 .1 .0) (w .kept .1 .1 .1 .1 .1 .1 .1 .1 .1 .1 .1 .1 .1 .1 .1 .1 .1 .1 .0)
+    (l .loop .table) (l .loop .scan) (l .loop .going) (l .loop .a) (taken .loop-test .taken) (l .loop .inv .0)
+    (w .last .1 .1 .1 .1 .1 .1 .1 .1 .1 .1 .1 .1 .1 .1 .1 .1 .1 .1 .0) (w .last .1 .1 .1 .1 .1 .1 .1 .1 .1 .1 .1 .1 .1 .1 .1 .1 .1 .1 .1 .0) (w .result) (w .ensures) (c .before .if1 .left) (w .kept .1 .1 .1 .1 .1 .1 .1 .1 .1 .1 .1 .1 .1 .1 .1 .1 .1 .1 .0) (w .kept .1 .1 .1 .1 .1 .1 .1 .1 .1 .1 .1 .1 .1 .1 .1 .1 .1 .1 .1 .0) in
+    (passed, kept ∙ l .loop .inv .1)
 
 same-length-3 : tie.Need-same-length-3 Inv-loop μ-loop
 same-length-3 c = search needs
@@ -206,8 +211,8 @@ returns-2 c =
     let l = c .before in
     let s = begun (l .before) in
     let a = s .args in
-    passed-all (board s) (now (a .effects)) (now (a .goals)) (a .goal) (a .nodes) (a .u) (now (a .table)) (now (a .keys)) (a .run)
-    (l .loop .table) (l .loop .keys) (l .loop .going) (l .loop .a) (c .loop-test .left) (l .loop .inv)
+    passed-all (board s) (now (a .effects)) (now (a .goals)) (a .goal) (a .nodes) (a .u) (now (a .table)) (now (a .scan)) (a .run)
+    (l .loop .table) (l .loop .scan) (l .loop .going) (l .loop .a) (c .loop-test .left) (l .loop .inv .0)
 
 pub expand-spec : {M : Type 1} → statement M
 expand-spec =
@@ -237,6 +242,7 @@ expand-spec =
     copy-words-requires
     loop-holds
     slice-aggregate-turn
+    slice-aggregate-turn-2
     turn-requires
     same-length
     same-length-2

@@ -18,12 +18,12 @@ use Rattle.explore.proofs.explore.Statement.{statement}
 use Rattle.explore.proofs.explore.Tie as tie
 
 abbrev Inv-loop : tie.InvT-loop
-Inv-loop bases moves costs kinds starts goals nodes budget table₀ keys₀ leaves actions factors goal conditions effects run₀ table keys run =
-    (length table ≡ length table₀) × (length keys ≡ 4096)
-    × AheadBy (boardOf leaves actions bases moves costs kinds factors conditions) effects goals goal nodes budget table₀ keys₀ run₀ table keys run
+Inv-loop bases moves costs kinds starts goals nodes budget table₀ scan₀ leaves actions factors goal conditions effects run₀ table scan run =
+    (length table ≡ length table₀) × (length scan ≡ 16448)
+    × AheadBy (boardOf leaves actions bases moves costs kinds factors conditions) effects goals goal nodes budget table₀ scan₀ run₀ table scan run
 
 abbrev μ-loop : tie.MeasureT-loop
-μ-loop bases moves costs kinds starts goals nodes budget table₀ keys₀ leaves actions factors goal conditions effects run₀ table keys run = suc nodes - run .begun
+μ-loop bases moves costs kinds starts goals nodes budget table₀ scan₀ leaves actions factors goal conditions effects run₀ table scan run = suc nodes - run .begun
 
 -- the Board of the task
 abbrev board : tie.Start Inv-loop μ-loop → Board
@@ -48,13 +48,13 @@ first l = l .before .before .before .before .before .before .before .before .bef
 
 -- before each round the rest of the task's search is ahead
 ahead : (l : tie.At-loop Inv-loop μ-loop) → let a = first l .args in
-    Ahead (a .task) (a .nodes) (a .budget) (allStates (a .task)) (l .loop .table) (l .loop .keys) (l .loop .run)
+    Ahead (a .task) (a .nodes) (a .budget) (allStates (a .task)) (l .loop .table) (l .loop .scan) (l .loop .run)
 ahead l =
     let s = first l in
     let f = l .before .before .before .before .before .start in
     l .loop .inv .2 (s .args .task) (fit s .0)
     (ahead-start (s .args .task) (s .args .nodes) (s .args .budget) (allStates (s .args .task)) (f .last .1 .1 .1 .1 .1 .1 .1 .0) (f .last .1 .1 .1 .1 .1 .1 .1 .1 .0) (f .result)
-    (s .pre .1 .1 .0) (f .ensures .0) (f .ensures .1))
+    (s .pre .1 .1 .0) (f .ensures .0) (f .ensures .1) (f .ensures .2))
 
 -- the table is as long as it was
 long : (l : tie.At-loop Inv-loop μ-loop) → length (l .loop .table) ≡ length (now (first l .args .table))
@@ -64,7 +64,7 @@ long l =
 
 -- there is room for the nodes
 room : (l : tie.At-loop Inv-loop μ-loop) → let a = first l .args in
-    Room (getD (now (a .bases)) (a .task .leaves) 0) (a .nodes) (l .loop .table) (l .loop .keys) (l .loop .run)
+    Room (getD (now (a .bases)) (a .task .leaves) 0) (a .nodes) (l .loop .table) (l .loop .scan) (l .loop .run)
 room l =
     let s = first l in
     let w = fit s in
@@ -73,15 +73,16 @@ room l =
       few-states = w .1 .few-all;
       few-nodes = s .pre .1 .1 .1;
       table-long = rw (row, long l) (s .pre .1 .1 .2);
-      open-long = l .loop .inv .1;
-      count-few = ahead-count (s .args .task) (s .pre .0) (s .args .nodes) (s .pre .1 .1 .1) (s .args .budget) (allStates (s .args .task)) (l .loop .table) (l .loop .keys) (l .loop .run) (ahead l);
+      scan-long = l .loop .inv .1;
+      count-few = ahead-count (s .args .task) (s .pre .0) (s .args .nodes) (s .pre .1 .1 .1) (s .args .budget) (allStates (s .args .task)) (l .loop .table) (l .loop .scan) (l .loop .run) (ahead l);
+      chained = rw row (ahead l .chained);
     }
 
 -- no more expansions have begun than there are nodes
 few : (l : tie.At-loop Inv-loop μ-loop) → l .loop .run .begun ≤ first l .args .nodes
 few l =
     let s = first l in
-    ahead-begun (s .args .task) (s .pre .0) (s .args .nodes) (s .pre .1 .1 .1) (s .args .budget) (allStates (s .args .task)) (l .loop .table) (l .loop .keys) (l .loop .run) (ahead l)
+    ahead-begun (s .args .task) (s .pre .0) (s .args .nodes) (s .pre .1 .1 .1) (s .args .budget) (allStates (s .args .task)) (l .loop .table) (l .loop .scan) (l .loop .run) (ahead l)
 
 cast-leaves : tie.Need-cast-leaves Inv-loop μ-loop
 cast-leaves c = search needs
@@ -93,12 +94,12 @@ start-requires : tie.Need-start-requires Inv-loop μ-loop
 start-requires c κs =
     let s = c .before .before .before .before .before .before .before .before .before .before .before .before .before .before .before .before in
     let row = mul-le-mul-right {m = 1} {n = s .args .nodes + 1} (40 + allStates (s .args .task)) (omega arith) in
-    (s .pre .0, (s .pre .1 .0, (omega (arith, row, s .pre .1 .1 .2), s .pre .1 .1 .3)))
+    (s .pre .0, (s .pre .1 .0, (omega (arith, row, s .pre .1 .1 .2), s .pre .1 .1 .3, s .pre .1 .1 .4)))
 
 loop-holds : tie.Need-loop-holds Inv-loop μ-loop
 loop-holds c =
     let s = c .before .before .before .before .before .before .before .before .before .before .before .before .before .before .before .before .before .before .before .before .before in
-    let kept : length (c .before .before .before .before .start .last .1 .1 .1 .1 .1 .1 .1 .1 .0) ≡ length (now (s .args .keys)) = c .before .before .before .before .start .kept .1 .1 .1 .1 .1 .1 .1 .1 .0 in
+    let kept : length (c .before .before .before .before .start .last .1 .1 .1 .1 .1 .1 .1 .1 .0) ≡ length (now (s .args .scan)) = c .before .before .before .before .start .kept .1 .1 .1 .1 .1 .1 .1 .1 .0 in
     (refl, kept ∙ s .pre .1 .1 .3, λ t f a. a)
 
 slice-aggregate-next-round : tie.Need-slice-aggregate-next-round Inv-loop μ-loop
@@ -123,7 +124,7 @@ same-length c =
 
 same-length-2 : tie.Need-same-length-2 Inv-loop μ-loop
 same-length-2 c =
-    let kept : length (c .before .before .before .before .before .before .before .next-round .last .1 .1 .1 .1 .1 .1 .1 .1 .1 .1 .1 .1 .1 .1 .0) ≡ length (c .before .before .before .before .before .before .before .before .before .before .before .before .loop .keys) = c .before .before .before .before .before .before .before .next-round .kept .1 .1 .1 .1 .1 .1 .1 .1 .1 .1 .1 .1 .1 .1 .0 in
+    let kept : length (c .before .before .before .before .before .before .before .next-round .last .1 .1 .1 .1 .1 .1 .1 .1 .1 .1 .1 .1 .1 .1 .0) ≡ length (c .before .before .before .before .before .before .before .before .before .before .before .before .loop .scan) = c .before .before .before .before .before .before .before .next-round .kept .1 .1 .1 .1 .1 .1 .1 .1 .1 .1 .1 .1 .1 .1 .0 in
     kept ∙ c .before .before .before .before .before .before .before .before .before .before .before .before .loop .inv .1 ∙ sym (first (c .before .before .before .before .before .before .before .before .before .before .before .before) .pre .1 .1 .3)
 
 returns : tie.Need-returns Inv-loop μ-loop
@@ -148,8 +149,8 @@ loop-again c =
     let l = c .before .before .before .before .before .before .before .before .before .before .before .before in
     let n = c .before .before .before .before .before .before .before .next-round in
     let table-kept : length (n .last .1 .1 .1 .1 .1 .1 .1 .1 .1 .1 .1 .1 .1 .0) ≡ length (l .loop .table) = n .kept .1 .1 .1 .1 .1 .1 .1 .1 .1 .1 .1 .1 .1 .0 in
-    let open-kept : length (n .last .1 .1 .1 .1 .1 .1 .1 .1 .1 .1 .1 .1 .1 .1 .0) ≡ length (l .loop .keys) = n .kept .1 .1 .1 .1 .1 .1 .1 .1 .1 .1 .1 .1 .1 .1 .0 in
-    (table-kept ∙ l .loop .inv .0, open-kept ∙ l .loop .inv .1, λ t f a. (rw (c .before .round2 .given .1) at (n .ensures t f (l .loop .inv .2 t f a))) .0)
+    let scan-kept : length (n .last .1 .1 .1 .1 .1 .1 .1 .1 .1 .1 .1 .1 .1 .1 .0) ≡ length (l .loop .scan) = n .kept .1 .1 .1 .1 .1 .1 .1 .1 .1 .1 .1 .1 .1 .1 .0 in
+    (table-kept ∙ l .loop .inv .0, scan-kept ∙ l .loop .inv .1, λ t f a. (rw (c .before .round2 .given .1) at (n .ensures t f (l .loop .inv .2 t f a))) .0)
 
 pub explore-spec : {M : Type 1} → statement M
 explore-spec =

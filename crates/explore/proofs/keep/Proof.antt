@@ -1,10 +1,13 @@
--- `explore::keep` meets its contract: the row, the key, and the new best by its goal cost. Assumes nothing.
+-- `explore::keep` meets its contract: the row, the links, and the new best by its goal cost. Assumes nothing.
 use Prim.Native.Nat.{ℕ}
+use mathlib.Core.Path.{sym}
 use native.Mathlib.Omega.{arith}
 use denote.Ref.{now}
 use lib.ListN.{getD, take}
+use lib.Seq.{length-take-le}
 use borrow.Author.Needs.{needs}
 use Rattle.search.specs.Node.{Node}
+use Rattle.nodes.specs.Chain.Laws.{class-lt}
 use Rattle.nodes.specs.Row.{nodeWith}
 use Rattle.nodes.specs.Scan.{goalCostBy}
 use Rattle.explore.specs.Held.Laws.{kept-best, kept-other}
@@ -51,20 +54,30 @@ part-write-row-end c = search needs
 write-row-requires : tie.Need-write-row-requires
 write-row-requires c κs = search needs
 
-mul-keys : tie.Need-mul-keys
-mul-keys c = search needs
+slice-aggregate-sign-of : tie.Need-slice-aggregate-sign-of
+slice-aggregate-sign-of c =
+    let s = c .before .before .before .before .before .before .before .before .before .before .before in
+    sym (length-take-le (S s) (now (s .args .prices)) (s .pre .0 .0 .fits))
 
-slice-write-keys : tie.Need-slice-write-keys
-slice-write-keys c = search needs
+sign-of-requires : tie.Need-sign-of-requires
+sign-of-requires c κs = search needs
+
+class-of-requires : tie.Need-class-of-requires
+class-of-requires c κs = search needs
+
+link-requires : tie.Need-link-requires
+link-requires c κs =
+    let s = c .before .before .before .before .before .before .before .before .before .before .before .before .before .before in
+    (s .pre .1 .3, s .pre .1 .1, omega (arith, c .before .class-of .ensures, class-lt (s .args .spot)))
 
 goal-cost-requires : tie.Need-goal-cost-requires
 goal-cost-requires c κs = search needs
 
-add-t30 : tie.Need-add-t30
-add-t30 c = search needs
+add-t35 : tie.Need-add-t35
+add-t35 c = search needs
 
-add-t31 : tie.Need-add-t31
-add-t31 c = search needs
+add-t36 : tie.Need-add-t36
+add-t36 c = search needs
 
 same-length : tie.Need-same-length
 same-length c = search needs
@@ -74,13 +87,15 @@ same-length-2 c = search needs
 
 returns : tie.Need-returns
 returns c =
-    let w = c .before .before .before .before .before in
+    let w = c .before .before .before .before .before .before .before .before .before .before .before .before in
     let s = w .before .before .before .before .before .before .before .before in
-    kept-best (S s) (now (s .args .table)) (now (s .args .keys)) (s .args .run) (node s) (s .args .key) (cost s) (w .write-row .last .0) _
-    (omega arith) (omega arith) (w .write-row .ensures) (c .before .before .goal-cost .result) (c .before .before .goal-cost .ensures) (c .if1 .taken)
+    kept-best (S s) (now (s .args .table)) (now (s .args .scan)) (s .args .run) (node s) (s .args .key) (cost s) (w .write-row .last .0) _
+    (omega arith) (omega arith) (w .write-row .ensures) (s .pre .1 .1) (c .before .before .before .before .before .link .last .0) (c .before .before .before .before .before .before .before .before .sign-of .result) (c .before .before .before .before .before .before .before .class-of .result)
+    (c .before .before .before .before .before .before .before .before .sign-of .ensures) (c .before .before .before .before .before .before .before .class-of .ensures) (c .before .before .before .before .before .link .ensures)
+    (c .before .before .goal-cost .result) (c .before .before .goal-cost .ensures) (c .if1 .taken)
 
-add-t23 : tie.Need-add-t23
-add-t23 c = search needs
+add-t25 : tie.Need-add-t25
+add-t25 c = search needs
 
 same-length-3 : tie.Need-same-length-3
 same-length-3 c = search needs
@@ -90,10 +105,12 @@ same-length-4 c = search needs
 
 returns-2 : tie.Need-returns-2
 returns-2 c =
-    let w = c .before .before .before .before .before in
+    let w = c .before .before .before .before .before .before .before .before .before .before .before .before in
     let s = w .before .before .before .before .before .before .before .before in
-    kept-other (S s) (now (s .args .table)) (now (s .args .keys)) (s .args .run) (node s) (s .args .key) (cost s) (w .write-row .last .0) _
-    (omega arith) (omega arith) (w .write-row .ensures) (c .before .before .goal-cost .result) (c .before .before .goal-cost .ensures) (c .if1 .left)
+    kept-other (S s) (now (s .args .table)) (now (s .args .scan)) (s .args .run) (node s) (s .args .key) (cost s) (w .write-row .last .0) _
+    (omega arith) (omega arith) (w .write-row .ensures) (s .pre .1 .1) (c .before .before .before .before .before .link .last .0) (c .before .before .before .before .before .before .before .before .sign-of .result) (c .before .before .before .before .before .before .before .class-of .result)
+    (c .before .before .before .before .before .before .before .before .sign-of .ensures) (c .before .before .before .before .before .before .before .class-of .ensures) (c .before .before .before .before .before .link .ensures)
+    (c .before .before .goal-cost .result) (c .before .before .goal-cost .ensures) (c .if1 .left)
 
 pub keep-spec : {M : Type 1} → statement M
 keep-spec =
@@ -109,15 +126,17 @@ keep-spec =
     part-write-row-start
     part-write-row-end
     write-row-requires
-    mul-keys
-    slice-write-keys
+    slice-aggregate-sign-of
+    sign-of-requires
+    class-of-requires
+    link-requires
     goal-cost-requires
-    add-t30
-    add-t31
+    add-t35
+    add-t36
     same-length
     same-length-2
     returns
-    add-t23
+    add-t25
     same-length-3
     same-length-4
     returns-2)

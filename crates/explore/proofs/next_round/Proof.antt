@@ -1,31 +1,80 @@
 -- `explore::next_round` meets its contract: the choice and the expansion are those of the search that the table holds. Assumes nothing.
-use Prim.Native.Nat.{suc, _-_, _<_, _≤_}
+use Prim.Native.Nat.{ℕ, suc, _-_, _<_, _≤_}
 use mathlib.Core.Path.{_≡_, sym, _∙_}
+use mathlib.Core.List.{List}
 use native.Mathlib.Omega.{arith}
 use denote.Ref.{now}
-use lib.ListN.{length, set, length-set}
+use lib.ListN.{length, getD, set}
 use borrow.Author.Needs.{needs}
 use Rattle.task.specs.Factors.{allStates}
 use Rattle.layer.specs.Layer.{mark}
+use Rattle.layer.specs.Board.{Board, rowOn}
+use Rattle.layer.specs.Board.Laws.{row-on}
+use Rattle.layer.specs.Lent.{boardOf}
 use Rattle.nodes.specs.Scan.{chooseBy}
-use Rattle.explore.specs.Held.Rounds.{choice-in, ahead-finished, ahead-spent, ahead-full, ahead-on}
+use Rattle.explore.specs.Held.{Room}
+use Rattle.explore.specs.Held.Rounds.{begun, choice-in, retired-keyed, retired-room, ahead-finished, ahead-spent, ahead-full, ahead-on}
 use Rattle.explore.proofs.next_round.Statement.{statement}
 use Rattle.explore.proofs.next_round.Tie as tie
 
+-- the Board that is lent
+abbrev board : tie.Start → Board
+board s =
+    let a = s .args in
+    boardOf (a .leaves) (a .actions) (now (a .bases)) (now (a .moves)) (now (a .costs)) (now (a .kinds)) (a .factors) (now (a .conditions))
+
 -- a node is chosen: one of those kept
 picked : (c : tie.Else1) → let a = c .before .before .before .before .before .before .before .before .before .before .before .before .args in
-    (chooseBy (a .run .«best_cost») (now (a .keys)) (a .run .count) ≡ suc (c .before .choose .result - 1)) × (c .before .choose .result - 1 < a .run .count)
+    (chooseBy (a .run .«best_cost») (now (a .scan)) (a .run .count) ≡ suc (c .before .choose .result - 1)) × (c .before .choose .result - 1 < a .run .count)
 picked c =
     let a = c .before .before .before .before .before .before .before .before .before .before .before .before .args in
     let e : c .before .choose .result ≡ suc (c .before .choose .result - 1) = omega (arith, c .if1 .left) in
-    (sym (c .before .choose .ensures) ∙ e, omega (arith, choice-in (a .run .«best_cost») (now (a .keys)) (a .run .count), c .before .choose .ensures))
+    (sym (c .before .choose .ensures) ∙ e, omega (arith, choice-in (a .run .«best_cost») (now (a .scan)) (a .run .count), c .before .choose .ensures))
 
 -- there is an open key for each node
-long : (s : tie.Start) → s .args .run .count ≤ length (now (s .args .keys))
-long s = omega (arith, s .pre .1 .1 .open-long, s .pre .1 .1 .count-few, s .pre .1 .1 .few-nodes)
+long : (s : tie.Start) → s .args .run .count ≤ length (now (s .args .scan))
+long s = omega (arith, s .pre .1 .1 .scan-long, s .pre .1 .1 .count-few, s .pre .1 .1 .few-nodes)
+
+-- there are no more nodes than scan words of each part
+few : (s : tie.Start) → s .args .run .count ≤ 4096
+few s = omega (arith, s .pre .1 .1 .count-few, s .pre .1 .1 .few-nodes)
+
+-- where the chosen node was retired: the function's start, the node, and the scan words then
+abbrev entry : tie.After-retire → tie.Start
+entry r = r .before .before .before .before .before .before .before .before .before .before .before .before .before .before .before .before
+
+abbrev node : tie.After-retire → ℕ
+node r = r .before .before .before .before .before .choose .result - 1
+
+abbrev words : tie.After-retire → List ℕ
+words r = r .retire .last .0
+
+-- they are as many as before
+words-long : (r : tie.After-retire) → length (words r) ≡ length (now (entry r .args .scan))
+words-long r = r .retire .kept .0
+
+-- the open keys are as before, but for the node's
+keyed : (r : tie.After-retire) (v : ℕ) → v < entry r .args .run .count
+    → getD (words r) v 0 ≡ getD (set (now (entry r .args .scan)) (node r) mark) v 0
+keyed r =
+    let s = entry r in
+    let a = s .args in
+    retired-keyed (rowOn (board s)) (a .nodes) (now (a .table)) (now (a .scan)) (words r) (a .run) (node r) (s .pre .1 .1)
+    (picked (r .before .before .before .before) .1) (r .retire .ensures)
+
+-- there is room for the expansion
+room : (r : tie.After-retire) → let a = entry r .args in
+    Room (rowOn (board (entry r))) (a .nodes) (now (a .table)) (words r) (begun (a .run))
+room r =
+    let s = entry r in
+    let a = s .args in
+    retired-room (rowOn (board s)) (a .nodes) (now (a .table)) (now (a .scan)) (words r) (a .run) (node r) (s .pre .1 .1)
+    (picked (r .before .before .before .before) .1) (r .retire .ensures)
 
 choose-requires : tie.Need-choose-requires
-choose-requires c κs = search needs
+choose-requires c κs =
+    let s = c .before .before .before .before .before .before .before .before .before .before in
+    (s .pre .1 .1 .scan-long, few s, omega (arith, s .good .1 .1 .1 .1 .1 .1 .1 .1 .1 .1 .1 .1 .1 .1 .1 .0), s .pre .1 .1 .chained .blocks)
 
 same-length : tie.Need-same-length
 same-length c = search needs
@@ -33,7 +82,7 @@ same-length c = search needs
 returns : tie.Need-returns
 returns c =
     let s = c .before .before .before .before .before .before .before .before .before .before .before .before in
-    λ t f a. ahead-finished t (f .valid) (s .args .nodes) (s .pre .1 .1 .few-nodes) (s .args .budget) (allStates t) (now (s .args .table)) (now (s .args .keys)) (s .args .run) a (sym (c .before .choose .ensures) ∙ c .if1 .taken)
+    λ t f a. ahead-finished t (f .valid) (s .args .nodes) (s .pre .1 .1 .few-nodes) (s .args .budget) (allStates t) (now (s .args .table)) (now (s .args .scan)) (s .args .run) a (sym (c .before .choose .ensures) ∙ c .if1 .taken)
 
 same-length-2 : tie.Need-same-length-2
 same-length-2 c = search needs
@@ -41,41 +90,43 @@ same-length-2 c = search needs
 returns-2 : tie.Need-returns-2
 returns-2 c =
     let s = c .before .before .before .before .before .before .before .before .before .before .before .before .before .before in
-    λ t f a. ahead-spent t (f .valid) (s .args .nodes) (s .pre .1 .1 .few-nodes) (s .args .budget) (allStates t) (now (s .args .table)) (now (s .args .keys)) (s .args .run) a (c .before .before .before .choose .result - 1) (picked (c .before .before) .0) (c .if2 .taken)
+    λ t f a. ahead-spent t (f .valid) (s .args .nodes) (s .pre .1 .1 .few-nodes) (s .args .budget) (allStates t) (now (s .args .table)) (now (s .args .scan)) (s .args .run) a (c .before .before .before .choose .result - 1) (picked (c .before .before) .0) (c .if2 .taken)
 
 sub-u : tie.Need-sub-u
 sub-u c = search needs
 
-mul-keys : tie.Need-mul-keys
-mul-keys c = omega (arith, picked (c .before .before) .1, long (c .before .before .before .before .before .before .before .before .before .before .before .before .before .before), c .before .before .before .before .before .before .before .before .before .before .before .before .before .before .pre .1 .1 .open-long)
+retire-requires : tie.Need-retire-requires
+retire-requires c κs =
+    let s = c .before .before .before .before .before .before .before .before .before .before .before .before .before .before .before in
+    (s .pre .1 .1 .scan-long, few s, picked (c .before .before .before) .1)
 
-slice-write-keys : tie.Need-slice-write-keys
-slice-write-keys c = omega (arith, picked (c .before .before) .1, long (c .before .before .before .before .before .before .before .before .before .before .before .before .before .before))
-
-add-t31 : tie.Need-add-t31
-add-t31 c = search needs
+add-t32 : tie.Need-add-t32
+add-t32 c = search needs
 
 expand-requires : tie.Need-expand-requires
 expand-requires c κs =
-    let s = c .before .before .before .before .before .before .before .before .before .before .before .before .before .before .before .before .before in
-    let m = s .pre .1 .1 in
-    (s .pre .0, ((s .pre .1 .0 .0, s .pre .1 .0 .1, picked (c .before .before .before .before .before) .1), record { few-states = m .few-states; few-nodes = m .few-nodes; table-long = m .table-long; open-long = length-set (now (s .args .keys)) (c .before .before .before .before .before .before .choose .result - 1) mark ∙ m .open-long; count-few = m .count-few }))
+    let r = c .before .before .before .before .before in
+    let s = entry r in
+    (s .pre .0, ((s .pre .1 .0 .0, s .pre .1 .0 .1, picked (r .before .before .before .before) .1), room r))
 
 same-length-3 : tie.Need-same-length-3
 same-length-3 c = search needs
 
 same-length-4 : tie.Need-same-length-4
 same-length-4 c =
-    let s = c .before .before .before .before .before .before .before .before .before .before .before .before .before .before .before .before .before .before .before .before .before .before .before .before in
-    let u = c .before .before .before .before .before .before .before .before .before .before .before .before .before .choose .result - 1 in
-    let kept : length (c .before .before .before .before .before .before .expand .last .1 .1 .1 .1 .1 .1 .1 .1 .1 .1 .1 .1 .1 .1 .0) ≡ length (set (now (s .args .keys)) u mark) = c .before .before .before .before .before .before .expand .kept .1 .1 .1 .1 .1 .1 .1 .1 .1 .1 .1 .1 .1 .1 .0 in
-    kept ∙ length-set (now (s .args .keys)) u mark
+    let r = c .before .before .before .before .before .before .before .before .before .before .before .before in
+    let w = c .before .before .before .before .before .before .expand in
+    let kept : length (w .last .1 .1 .1 .1 .1 .1 .1 .1 .1 .1 .1 .1 .1 .1 .0) ≡ length (words r) = w .kept .1 .1 .1 .1 .1 .1 .1 .1 .1 .1 .1 .1 .1 .1 .0 in
+    kept ∙ words-long r
 
 returns-3 : tie.Need-returns-3
 returns-3 c =
-    let s = c .before .before .before .before .before .before .before .before .before .before .before .before .before .before .before .before .before .before .before .before .before .before .before .before in
+    let r = c .before .before .before .before .before .before .before .before .before .before .before .before in
+    let s = entry r in
+    let a = s .args in
     let w = c .before .before .before .before .before .before .expand in
-    λ t f a. ahead-full t (f .valid) (s .args .nodes) (s .pre .1 .1 .few-nodes) (s .args .budget) (allStates t) (now (s .args .table)) (now (s .args .keys)) (s .args .run) a (c .before .before .before .before .before .before .before .before .before .before .before .before .before .choose .result - 1) (picked (c .before .before .before .before .before .before .before .before .before .before .before .before) .0) (long s) (c .before .before .before .before .before .before .before .before .before .before .if2 .left)
+    λ t f h. ahead-full t (f .valid) (a .nodes) (s .pre .1 .1 .few-nodes) (a .budget) (allStates t) (now (a .table)) (now (a .scan)) (a .run) h (node r)
+    (picked (r .before .before .before .before) .0) (long s) (r .before .before .if2 .left) (words r) (keyed r)
     (w .result) (w .last .1 .1 .1 .1 .1 .1 .1 .1 .1 .1 .1 .1 .1 .0) (w .last .1 .1 .1 .1 .1 .1 .1 .1 .1 .1 .1 .1 .1 .1 .0) (w .ensures .1 t f) (c .if3 .taken)
 
 same-length-5 : tie.Need-same-length-5
@@ -83,18 +134,21 @@ same-length-5 c = search needs
 
 same-length-6 : tie.Need-same-length-6
 same-length-6 c =
-    let s = c .before .before .before .before .before .before .before .before .before .before .before .before .before .before .before .before .before .before .before .before .before .before .before .before in
-    let u = c .before .before .before .before .before .before .before .before .before .before .before .before .before .choose .result - 1 in
-    let kept : length (c .before .before .before .before .before .before .expand .last .1 .1 .1 .1 .1 .1 .1 .1 .1 .1 .1 .1 .1 .1 .0) ≡ length (set (now (s .args .keys)) u mark) = c .before .before .before .before .before .before .expand .kept .1 .1 .1 .1 .1 .1 .1 .1 .1 .1 .1 .1 .1 .1 .0 in
-    kept ∙ length-set (now (s .args .keys)) u mark
+    let r = c .before .before .before .before .before .before .before .before .before .before .before .before in
+    let w = c .before .before .before .before .before .before .expand in
+    let kept : length (w .last .1 .1 .1 .1 .1 .1 .1 .1 .1 .1 .1 .1 .1 .1 .0) ≡ length (words r) = w .kept .1 .1 .1 .1 .1 .1 .1 .1 .1 .1 .1 .1 .1 .1 .0 in
+    kept ∙ words-long r
 
 returns-4 : tie.Need-returns-4
 returns-4 c =
-    let s = c .before .before .before .before .before .before .before .before .before .before .before .before .before .before .before .before .before .before .before .before .before .before .before .before in
+    let r = c .before .before .before .before .before .before .before .before .before .before .before .before in
+    let s = entry r in
+    let a = s .args in
     let w = c .before .before .before .before .before .before .expand in
-    λ t f a. (
-      ahead-on t (f .valid) (s .args .nodes) (s .pre .1 .1 .few-nodes) (s .args .budget) (allStates t) (now (s .args .table)) (now (s .args .keys)) (s .args .run) a (c .before .before .before .before .before .before .before .before .before .before .before .before .before .choose .result - 1) (picked (c .before .before .before .before .before .before .before .before .before .before .before .before) .0) (long s) (c .before .before .before .before .before .before .before .before .before .before .if2 .left)
-          (w .result) (w .last .1 .1 .1 .1 .1 .1 .1 .1 .1 .1 .1 .1 .1 .0) (w .last .1 .1 .1 .1 .1 .1 .1 .1 .1 .1 .1 .1 .1 .1 .0) (w .ensures .1 t f) (c .if3 .left) (w .ensures .0 .2),
+    λ t f h. (
+      ahead-on t (f .valid) (a .nodes) (s .pre .1 .1 .few-nodes) (a .budget) (allStates t) (now (a .table)) (now (a .scan)) (a .run) h (node r)
+          (picked (r .before .before .before .before) .0) (long s) (r .before .before .if2 .left) (words r) (keyed r)
+          (w .result) (w .last .1 .1 .1 .1 .1 .1 .1 .1 .1 .1 .1 .1 .1 .0) (w .last .1 .1 .1 .1 .1 .1 .1 .1 .1 .1 .1 .1 .1 .1 .0) (w .ensures .1 t f) (c .if3 .left) (w .ensures .0 .2) (rw (row-on t (board s) (f .fits)) at (w .ensures .0 .3)),
       w .ensures .0 .2,
     )
 
@@ -108,9 +162,8 @@ next-round-spec =
     same-length-2
     returns-2
     sub-u
-    mul-keys
-    slice-write-keys
-    add-t31
+    retire-requires
+    add-t32
     expand-requires
     same-length-3
     same-length-4

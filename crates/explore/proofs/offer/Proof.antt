@@ -1,12 +1,22 @@
 -- `explore::offer` meets its contract: one law for each of its four ends. Assumes nothing.
+use mathlib.Core.Path.{_≡_}
 use Prim.Native.Nat.{_+_, _≤_}
 use native.Mathlib.Omega.{arith}
 use denote.Ref.{now}
+use lib.ListN.{length}
 use borrow.Author.Needs.{needs}
-use Rattle.explore.specs.Held.Laws.{rows-fit}
+use Rattle.layer.specs.Board.{Board}
+use Rattle.layer.specs.Lent.{boardOf}
+use Rattle.explore.specs.Held.Laws.{rows-fit, cut}
 use Rattle.explore.specs.Held.Turns.{offered-above, offered-dominated, offered-full, offered-kept}
 use Rattle.explore.proofs.offer.Statement.{statement}
 use Rattle.explore.proofs.offer.Tie as tie
+
+-- the Board that is lent
+abbrev board : tie.Start → Board
+board s =
+    let a = s .args in
+    boardOf (a .leaves) (a .actions) (now (a .bases)) (now (a .moves)) (now (a .costs)) (now (a .kinds)) (a .factors) (now (a .conditions))
 
 mul-states : tie.Need-mul-states
 mul-states c = search needs
@@ -17,57 +27,32 @@ shared-slice-read-states c = search needs
 key-of-requires : tie.Need-key-of-requires
 key-of-requires c κs = search needs
 
+same-length : tie.Need-same-length
+same-length c = search needs
+
 returns : tie.Need-returns
 returns c =
     let k = c .before .before in
-    let s = k .before .before .before .before .before .before .before in
+    let s = k .before .before .before .before .before .before .before .before .before .before .before .before in
     let a = s .args in
-    offered-above (a .leaves) (now (a .bases)) (now (a .goals)) (a .factors) (a .goal) (a .nodes) (now (a .table)) (now (a .keys)) (a .run)
-    (a .spot) (a .paid) (now (a .prices)) (a .parent) (a .action) (s .pre .1 .few-nodes) (s .pre .1 .count-few)
+    offered-above (board s) (now (a .goals)) (a .goal) (a .nodes) (now (a .table)) (now (a .scan)) (a .run)
+    (a .spot) (a .paid) (now (a .begin)) (a .parent) (a .action) (s .pre .1 .1 .few-nodes) (s .pre .1 .1 .count-few)
     (k .key-of .result) (k .key-of .ensures) (c .if1 .taken)
 
 is-dominated-requires : tie.Need-is-dominated-requires
 is-dominated-requires c κs =
-    let s = c .before .before .before .before .before .before .before .before .before .before in
-    let room = s .pre .1 in
-    let some : s .args .run .count ≤ s .args .nodes + 1 = omega (arith, room .count-few) in
-    (room .few-states, omega (arith, room .few-nodes, room .count-few), rows-fit room (s .args .run .count) some, s .pre .0 .0 .fits)
-
-same-length : tie.Need-same-length
-same-length c = search needs
-
-returns-2 : tie.Need-returns-2
-returns-2 c =
-    let d = c .before in
-    let e = d .before .before in
-    let k = e .before .before in
-    let s = k .before .before .before .before .before .before .before in
-    let a = s .args in
-    offered-dominated (a .leaves) (now (a .bases)) (now (a .goals)) (a .factors) (a .goal) (a .nodes) (now (a .table)) (now (a .keys)) (a .run)
-    (a .spot) (a .paid) (now (a .prices)) (a .parent) (a .action) (s .pre .1 .few-nodes) (s .pre .1 .count-few)
-    (k .key-of .result) (k .key-of .ensures) (e .if1 .left) (d .is-dominated .result) (d .is-dominated .ensures) (c .if2 .taken)
+    let s = c .before .before .before .before .before .before .before .before .before .before .before .before .before .before .before .before .before in
+    let room = s .pre .1 .1 in
+    let some : s .args .run .count ≤ s .args .nodes + 1 = omega (arith, room .count-few) in (
+      room .few-states,
+      omega (arith, room .few-nodes, room .count-few),
+      rows-fit room (s .args .run .count) some,
+      s .pre .1 .0 .0 .fits,
+      room .chained,
+    )
 
 same-length-2 : tie.Need-same-length-2
 same-length-2 c = search needs
-
-returns-3 : tie.Need-returns-3
-returns-3 c =
-    let d = c .before .before in
-    let e = d .before .before in
-    let k = e .before .before in
-    let s = k .before .before .before .before .before .before .before in
-    let a = s .args in
-    offered-full (a .leaves) (now (a .bases)) (now (a .goals)) (a .factors) (a .goal) (a .nodes) (now (a .table)) (now (a .keys)) (a .run)
-    (a .spot) (a .paid) (now (a .prices)) (a .parent) (a .action) (s .pre .1 .few-nodes) (s .pre .1 .count-few)
-    (k .key-of .result) (k .key-of .ensures) (e .if1 .left) (d .is-dominated .result) (d .is-dominated .ensures) (c .before .if2 .left) (c .if3 .taken)
-
-keep-requires : tie.Need-keep-requires
-keep-requires c κs =
-    let f = c .before .before in
-    let s = f .before .before .before .before .before .before .before .before .before .before .before .before .before in
-    let room = s .pre .1 in
-    let left = f .if3 .left in
-    (s .pre .0, (room .few-states, omega (arith, room .few-nodes), rows-fit room (s .args .run .count + 1) (omega arith), room .open-long))
 
 same-length-3 : tie.Need-same-length-3
 same-length-3 c = search needs
@@ -75,19 +60,78 @@ same-length-3 c = search needs
 same-length-4 : tie.Need-same-length-4
 same-length-4 c = search needs
 
+returns-2 : tie.Need-returns-2
+returns-2 c =
+    let d = c .before in
+    let e = d .before .before .before .before in
+    let k = e .before .before in
+    let s = k .before .before .before .before .before .before .before .before .before .before .before .before in
+    let a = s .args in
+    offered-dominated (board s) (now (a .goals)) (a .goal) (a .nodes) (now (a .table)) (now (a .scan)) (a .run)
+    (a .spot) (a .paid) (now (a .begin)) (a .parent) (a .action) (s .pre .1 .1 .few-nodes) (s .pre .1 .1 .count-few)
+    (k .key-of .result) (k .key-of .ensures) (e .if1 .left) (d .is-dominated .result) (d .is-dominated .ensures) (c .if2 .taken)
+
+same-length-5 : tie.Need-same-length-5
+same-length-5 c = search needs
+
+same-length-6 : tie.Need-same-length-6
+same-length-6 c = search needs
+
+same-length-7 : tie.Need-same-length-7
+same-length-7 c = search needs
+
+returns-3 : tie.Need-returns-3
+returns-3 c =
+    let d = c .before .before in
+    let e = d .before .before .before .before in
+    let k = e .before .before in
+    let s = k .before .before .before .before .before .before .before .before .before .before .before .before in
+    let a = s .args in
+    offered-full (board s) (now (a .goals)) (a .goal) (a .nodes) (now (a .table)) (now (a .scan)) (a .run)
+    (a .spot) (a .paid) (now (a .begin)) (a .parent) (a .action) (s .pre .1 .1 .few-nodes) (s .pre .1 .1 .count-few)
+    (k .key-of .result) (k .key-of .ensures) (e .if1 .left) (d .is-dominated .result) (d .is-dominated .ensures) (c .before .if2 .left) (c .if3 .taken)
+
+settle-layer-requires : tie.Need-settle-layer-requires
+settle-layer-requires c κs =
+    let s = c .before .before .before .before .before .before .before .before .before .before .before .before .before .before .before .before .before .before .before .before .before in
+    (s .pre .0, s .pre .1 .0 .0 .fits)
+
+keep-requires : tie.Need-keep-requires
+keep-requires c κs =
+    let f = c .before .before .before .before .before .before .before in
+    let s = f .before .before .before .before .before .before .before .before .before .before .before .before .before .before .before .before .before .before .before .before in
+    let room = s .pre .1 .1 in
+    let left = f .if3 .left in
+    let new = c .before .before .before .before .before .settle-layer .last .1 .1 .1 .1 .1 .1 .1 .1 .1 .0 in
+    let kept : length new ≡ length (now (s .args .begin)) = c .before .before .before .before .before .settle-layer .kept .1 .1 .1 .1 .1 .1 .1 .1 .1 .0 in
+    let fits = s .pre .1 .0 .0 .fits in (
+      (cut {n = length new} (s .pre .0) (omega arith), s .pre .1 .0 .1),
+      (room .few-states, omega (arith, room .few-nodes), rows-fit room (s .args .run .count + 1) (omega arith), room .scan-long),
+    )
+
+same-length-8 : tie.Need-same-length-8
+same-length-8 c = search needs
+
+same-length-9 : tie.Need-same-length-9
+same-length-9 c = search needs
+
+same-length-10 : tie.Need-same-length-10
+same-length-10 c = search needs
+
 returns-4 : tie.Need-returns-4
 returns-4 c =
     let w = c .before .before .before .before .keep in
-    let f = c .before .before .before .before .before .before .before in
+    let n = c .before .before .before .before .before .before .before .before .before .before .settle-layer in
+    let f = c .before .before .before .before .before .before .before .before .before .before .before .before in
     let d = f .before .before in
-    let e = d .before .before in
+    let e = d .before .before .before .before in
     let k = e .before .before in
-    let s = k .before .before .before .before .before .before .before in
+    let s = k .before .before .before .before .before .before .before .before .before .before .before .before in
     let a = s .args in
-    offered-kept (a .leaves) (now (a .bases)) (now (a .goals)) (a .factors) (a .goal) (a .nodes) (now (a .table)) (now (a .keys)) (a .run)
-    (a .spot) (a .paid) (now (a .prices)) (a .parent) (a .action) (s .pre .1 .few-nodes) (s .pre .1 .count-few)
+    offered-kept (board s) (now (a .goals)) (a .goal) (a .nodes) (now (a .table)) (now (a .scan)) (a .run)
+    (a .spot) (a .paid) (now (a .begin)) (a .parent) (a .action) (s .pre .1 .1 .few-nodes) (s .pre .1 .1 .count-few)
     (k .key-of .result) (k .key-of .ensures) (e .if1 .left) (d .is-dominated .result) (d .is-dominated .ensures) (f .before .if2 .left) (f .if3 .left)
-    (s .pre .1 .open-long) (w .last .1 .1 .1 .1 .1 .1 .1 .1 .1 .1 .1 .0) (w .last .1 .1 .1 .1 .1 .1 .1 .1 .1 .1 .1 .1 .0) (w .result) (w .ensures)
+    (s .pre .1 .1 .scan-long) (n .last .1 .1 .1 .1 .1 .1 .1 .1 .1 .0) (n .ensures) (w .last .1 .1 .1 .1 .1 .1 .1 .1 .1 .1 .1 .0) (w .last .1 .1 .1 .1 .1 .1 .1 .1 .1 .1 .1 .1 .0) (w .result) (w .ensures)
 
 pub offer-spec : {M : Type 1} → statement M
 offer-spec =
@@ -96,13 +140,20 @@ offer-spec =
     mul-states
     shared-slice-read-states
     key-of-requires
+    same-length
     returns
     is-dominated-requires
-    same-length
-    returns-2
     same-length-2
-    returns-3
-    keep-requires
     same-length-3
     same-length-4
+    returns-2
+    same-length-5
+    same-length-6
+    same-length-7
+    returns-3
+    settle-layer-requires
+    keep-requires
+    same-length-8
+    same-length-9
+    same-length-10
     returns-4)

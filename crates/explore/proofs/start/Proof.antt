@@ -34,13 +34,23 @@ fit s =
     tables-suit (a .task) (s .pre .0) (now (a .bases)) (now (a .moves)) (now (a .costs)) (now (a .kinds)) (now (a .starts)) (now (a .goals))
     (s .pre .1 .0 .0) (s .pre .1 .0 .1) (lists s .0) (lists s .1)
 
+-- there are as many scan words after the block words are set
+wide : (f : tie.After-fresh) → length (f .fresh .last .0) ≡ 16448
+wide f =
+    let s = f .before .before .before .before .before .before .before .before .before .before in
+    let kept : length (f .fresh .last .0) ≡ length (now (s .args .scan)) = f .fresh .kept .0 in
+    kept ∙ s .pre .1 .1 .1
+
 -- the first layer's prices are cut into leaves
-cut : (c : tie.After-first-layer) → let s = c .before .before .before .before .before .before .before .before .before .before .before .before .before .before .before .before .before .before .before in
+cut : (c : tie.After-first-layer) → let s = c .before .before .before .before .before .before .before .before .before .before .before .before .before .before .before .before .before .before .before .before .before .before .before in
     Cut (s .args .task .leaves) (now (s .args .bases)) (length (c .first-layer .last .1 .1 .1 .1 .1 .1 .1 .1 .1 .1 .0))
 cut c =
-    let s = c .before .before .before .before .before .before .before .before .before .before .before .before .before .before .before .before .before .before .before in
+    let s = c .before .before .before .before .before .before .before .before .before .before .before .before .before .before .before .before .before .before .before .before .before .before .before in
     let kept : length (c .first-layer .last .1 .1 .1 .1 .1 .1 .1 .1 .1 .1 .0) ≡ 1024 = c .first-layer .kept .1 .1 .1 .1 .1 .1 .1 .1 .1 .1 .0 in
     sound-cut (board s) (fit s .1) _ (omega (arith, fit s .1 .few-all))
+
+fresh-requires : tie.Need-fresh-requires
+fresh-requires c κs = search needs
 
 cast-leaves : tie.Need-cast-leaves
 cast-leaves c = search needs
@@ -55,14 +65,14 @@ after-requires : tie.Need-after-requires
 after-requires c κs = search needs
 
 slice-aggregate-first-layer : tie.Need-slice-aggregate-first-layer
-slice-aggregate-first-layer c = sym (lists (c .before .before .before .before .before .before .before .before .before .before .before .before .before .before .before .before .before) .1)
+slice-aggregate-first-layer c = sym (lists (c .before .before .before .before .before .before .before .before .before .before .before .before .before .before .before .before .before .before .before .before .before) .1)
 
 slice-aggregate-first-layer-2 : tie.Need-slice-aggregate-first-layer-2
 slice-aggregate-first-layer-2 c = search needs
 
 first-layer-requires : tie.Need-first-layer-requires
 first-layer-requires c κs =
-    let s = c .before .before .before .before .before .before .before .before .before .before .before .before .before .before .before .before .before .before in
+    let s = c .before .before .before .before .before .before .before .before .before .before .before .before .before .before .before .before .before .before .before .before .before .before in
     let t = s .args .task in
     let w = fit s in
     let h = s .pre .1 .0 .0 .is-starts in
@@ -79,34 +89,40 @@ slice-aggregate-keep c = search needs
 
 keep-requires : tie.Need-keep-requires
 keep-requires c κs =
-    let s = c .before .before .before .before .before .before .before .before .before .before .before .before .before .before .before .before .before .before .before .before .before .before .before .before .before in
+    let s = c .before .before .before .before .before .before .before .before .before .before .before .before .before .before .before .before .before .before .before .before .before .before .before .before .before .before .before .before .before in
     let w = fit s in (
       (cut (c .before .before .before .before .before .before), sound-cut (board s) (w .1) (length (now (s .args .goals))) (omega (arith, w .1 .few-all, s .pre .1 .0 .1 .long))),
-      (w .1 .few-all, omega arith, omega (arith, row-on (s .args .task) (board s) (w .0 .fits), s .pre .1 .1 .0), s .pre .1 .1 .1),
+      (w .1 .few-all, omega arith, omega (arith, row-on (s .args .task) (board s) (w .0 .fits), s .pre .1 .1 .0), wide (c .before .before .before .before .before .before .before .before .before .before .before .before .before .before .before .before .before .before .before)),
     )
 
 same-length : tie.Need-same-length
 same-length c = search needs
 
 same-length-2 : tie.Need-same-length-2
-same-length-2 c = search needs
+same-length-2 c =
+    let f = c .before .before .before .before .before .before .before .before .before .before .before .before .before .before .before .before .before .before .before .before .before .before .before .before in
+    let k = c .before .before .before .before .keep in
+    let linked : length (k .last .1 .1 .1 .1 .1 .1 .1 .1 .1 .1 .1 .1 .0) ≡ length (f .fresh .last .0) = k .kept .1 .1 .1 .1 .1 .1 .1 .1 .1 .1 .1 .1 .0 in
+    let cleared : length (f .fresh .last .0) ≡ length (now (f .before .before .before .before .before .before .before .before .before .before .args .scan)) = f .fresh .kept .0 in
+    linked ∙ cleared
 
 returns : tie.Need-returns
 returns c =
-    let s = c .before .before .before .before .before .before .before .before .before .before .before .before .before .before .before .before .before .before .before .before .before .before .before .before .before .before .before .before .before .before in
+    let s = c .before .before .before .before .before .before .before .before .before .before .before .before .before .before .before .before .before .before .before .before .before .before .before .before .before .before .before .before .before .before .before .before .before .before in
     let a = s .args in
     let t = a .task in
     let f = c .before .before .before .before .before .before .before .before .before .before .before .first-layer in
     let k = c .before .before .before .before .keep in
     let spot = c .before .before .before .before .before .before .before .before .before .before .before .before .before .before .after .ensures ∙ ap (centreAfter (factor t) (initial t)) (c .before .before .before .before .before .before .before .before .before .before .before .before .before .before .before .blank .ensures) ∙ initial-centre t (s .pre .0) in
     start-is t (board s) (t .effects) (now (a .goals)) (t .goal) (fit s .0) (now (a .starts)) (s .pre .1 .0 .0 .is-starts) (c .before .before .before .before .before .before .before .before .before .before .before .before .before .before .after .result) (drop (getD (now (a .bases)) (t .leaves) 0) (replicate 1024 mark)) (f .last .1 .1 .1 .1 .1 .1 .1 .1 .1 .1 .0)
-    spot (f .ensures) (now (a .table)) (now (a .keys)) (k .last .1 .1 .1 .1 .1 .1 .1 .1 .1 .1 .1 .0) (k .last .1 .1 .1 .1 .1 .1 .1 .1 .1 .1 .1 .1 .0) (k .result)
-    (c .before .before .before .before .before .before .before .before .key-of .result) (s .pre .1 .1 .1) (c .before .before .before .before .before .before .before .before .key-of .ensures) (k .ensures)
+    spot (f .ensures) (now (a .table)) (now (a .scan)) (c .before .before .before .before .before .before .before .before .before .before .before .before .before .before .before .before .before .before .before .before .before .before .before .before .fresh .last .0) (k .last .1 .1 .1 .1 .1 .1 .1 .1 .1 .1 .1 .0) (k .last .1 .1 .1 .1 .1 .1 .1 .1 .1 .1 .1 .1 .0) (k .result)
+    (c .before .before .before .before .before .before .before .before .key-of .result) (s .pre .1 .1 .1) (s .pre .1 .1 .2) (c .before .before .before .before .before .before .before .before .before .before .before .before .before .before .before .before .before .before .before .before .before .before .before .before .fresh .ensures) (c .before .before .before .before .before .before .before .before .key-of .ensures) (k .ensures)
 
 pub start-spec : {M : Type 1} → statement M
 start-spec =
     tie.close
     (tie.spec
+    fresh-requires
     cast-leaves
     cast-actions
     blank-requires

@@ -11,7 +11,7 @@ use native.Mathlib.Decide.{decLt}
 use native.Mathlib.Omega.{arith}
 use borrow.Author.Tests.{ltb-true, lt-ltb, le-ltb, ne-eqb}
 use lib.Dec.{ltb, eqb}
-use lib.ListN.{length, getD, set, take, drop, length-take, length-drop}
+use lib.ListN.{length, getD, take, drop, length-take, length-drop}
 use lib.Seq.{take-at, take-take, drop-drop, getD-take, getD-drop, getD-set-same, getD-set-other}
 use Rattle.loops.specs.Count.{any, sum, list}
 use Rattle.loops.specs.Count.Laws.{below-cases, and-in, all-in, any-ext, sum-ext, sum-more, list-ext}
@@ -29,6 +29,8 @@ use Rattle.search.specs.Made.{Made, made-sound}
 use Rattle.search.specs.Small.{made-key, made-goal}
 use Rattle.search.specs.Explore.{nodeAt, belowBest, bestWith, keep}
 use Rattle.search.specs.Explore.Laws.{Base}
+use Rattle.nodes.specs.Chain.{signOf, classOf, linkedTo}
+use Rattle.nodes.specs.Chain.Laws.{linked-key, chained-more}
 use Rattle.nodes.specs.Row.{spotOf, nodeOf, nodeIn, nodesIn}
 use Rattle.nodes.specs.Row.Laws.{row-lent, row-kept, row-written, nodesIn-length, nodesIn-at}
 use Rattle.nodes.specs.Scan.{Cut, partBy, goalsBy, keyBy, goalSumBy, goalCostBy}
@@ -156,6 +158,14 @@ module _ (t : Task) (leaves : ℕ) (bases goals factors goalPairs : List ℕ) (s
   unfolding leafPart
   scan-prices i l P = scan-part i l P ∙ sym (part-take (states t (suc i)) (base t i) (getD bases leaves 0) P (omega (arith, base-fits t i l, scan-states)))
 
+  -- the key by tables is the key of a node with these prices, at most the mark
+  pub key-any : (n : Node) (P : List ℕ) → n .prices ≡ take (getD bases leaves 0) P → keyBy leaves bases (n .paid) P ≡ min (key t n) mark
+  unfolding keyBy key
+  key-any n P prices =
+      let each : sum leaves (λ i. leastOf (partBy bases i P)) ≡ sum (t .leaves) (λ i. leastOf (leafPart t i (n .prices))) =
+      rw (scans .leaves-is) (sum-ext (t .leaves) _ _ (λ i l. ap leastOf (scan-prices i l P ∙ ap (leafPart t i) (sym prices)))) in
+      omega (arith, each)
+
   module _ (u : ℕ) (n : Node) (few : u ≤ 4096) (m : Made t u n) (P : List ℕ) (prices : n .prices ≡ take (getD bases leaves 0) P) where
     -- a leaf's prices
     here : (i : ℕ) → i < t .leaves → partBy bases i P ≡ leafPart t i (n .prices)
@@ -163,12 +173,7 @@ module _ (t : Task) (leaves : ℕ) (bases goals factors goalPairs : List ℕ) (s
 
     -- the key by tables is the node's key
     pub key-is : keyBy leaves bases (n .paid) P ≡ key t n
-    unfolding keyBy key
-    key-is =
-        let each : sum leaves (λ i. leastOf (partBy bases i P)) ≡ sum (t .leaves) (λ i. leastOf (leafPart t i (n .prices))) =
-        rw (scans .leaves-is) (sum-ext (t .leaves) _ _ (λ i l. ap leastOf (here i l))) in
-        let small = made-key t (scans .valid) u n few m in
-        omega (arith, each, small)
+    key-is = omega (arith, key-any n P prices, made-key t (scans .valid) u n few m)
 
     -- a leaf's prices of goal states
     goals-here : (i : ℕ) → i < t .leaves → goalsBy (partBy bases i goals) (partBy bases i P) ≡ goalPrices t i n
@@ -217,38 +222,52 @@ module _ (t : Task) (leaves : ℕ) (bases goals factors goalPairs : List ℕ) (s
 
 -- ---- dominance
 
--- a node is dominated by one of the rows where it is by one of the search's nodes; its parent and action do not count
-pub dominated-is : (t : Task) (S : ℕ) (T O : List ℕ) (r : Run) (n m : Node) → n .spot ≡ m .spot → n .paid ≡ m .paid → n .prices ≡ m .prices
+-- a node m is dominated by one of the rows where n is by one of the search's nodes, if each row dominates both or neither
+pub dominated-is : (t : Task) (S : ℕ) (T O : List ℕ) (r : Run) (n m : Node) → ((u : ℕ) → u < r .count → dominates (nodeIn S T u) m ≡ dominates (nodeIn S T u) n)
     → any (r .count) (λ u. dominates (nodeIn S T u) m) ≡ any (length (searchOf S T O r .kept)) (λ u. dominates (nodeAt t (searchOf S T O r) u) n)
-unfolding dominates
-dominated-is t S T O r n m p q e =
+dominated-is t S T O r n m same =
     sym (ap (λ k. any k (λ u. dominates (nodeAt t (searchOf S T O r) u) n)) (kept-length S T O r)
-    ∙ any-ext (r .count) _ _ (λ u l. rw (node-at S T O r t u l, p, q, e)))
+    ∙ any-ext (r .count) _ _ (λ u l. rw (node-at S T O r t u l) (sym (same u l))))
 
 -- ---- one node more
 
--- the node's row was written over the next row, and its key was set: Q is the row, cost the goal cost
+-- the node's row was written over the next row, and it was linked: Q is the row, cost the goal cost
 module _ (S : ℕ) (T O : List ℕ) (r : Run) (n : Node) (opens cost : ℕ) (Q rest : List ℕ) (fits : r .count * (40 + S) ≤ length T) (long : length Q ≡ 40 + S)
-    (holds : nodeOf S Q ≡ n) (got : ℕ) (is : got ≡ cost) where
-  -- the table and the keys, whatever became of the counts
-  kept-by : {r′ : Run} → r′ ≡ keptRun r cost → Kept S T O r n opens cost (take (r .count * (40 + S)) T ++ (Q ++ rest)) (set O (r .count) opens) r′
+    (holds : nodeOf S Q ≡ n) (few : r .count < 4096) (O′ : List ℕ) (sign class : ℕ) (isSign : sign ≡ signOf (n .prices)) (isClass : class ≡ classOf (n .spot))
+    (isLinked : O′ ≡ linkedTo O (r .count) opens sign class) (got : ℕ) (is : got ≡ cost) where
+  -- the table afterwards
+  abbrev written : List ℕ
+  written = take (r .count * (40 + S)) T ++ (Q ++ rest)
+
+  -- the nodes before it are as they were, and it stands behind them
+  kept-old : (u : ℕ) → u < r .count → nodeIn S written u ≡ nodeIn S T u
+  kept-old u l = ap (nodeOf S) (row-kept S u (r .count) T (Q ++ rest) l fits)
+
+  kept-new : nodeIn S written (r .count) ≡ n
+  kept-new = ap (nodeOf S) (row-written S (r .count) T Q rest fits long) ∙ holds
+
+  -- the table and the scan words, whatever became of the counts
+  kept-by : {r′ : Run} → r′ ≡ keptRun r cost → Kept S T O r n opens cost written O′ r′
   kept-by e =
       record {
-        old = λ u l. ap (nodeOf S) (row-kept S u (r .count) T (Q ++ rest) l fits);
-        new = ap (nodeOf S) (row-written S (r .count) T Q rest fits long) ∙ holds;
-        keyed = refl;
+        old = kept-old;
+        new = kept-new;
+        keyed = λ u l. rw isLinked (linked-key O (r .count) opens sign class u l);
         counted = e;
+        linked = λ c. rw (isLinked, isSign, isClass, add-one)
+            (chained-more S T written O (r .count) opens (n .spot) (n .prices) few kept-old
+            (ap (λ (x : Node). x .spot) kept-new) (ap (λ (x : Node). x .prices) kept-new) c);
       }
 
   -- the node is the new best
   pub kept-best : got < r .«best_cost»
-      → Kept S T O r n opens cost (take (r .count * (40 + S)) T ++ (Q ++ rest)) (set O (r .count) opens)
+      → Kept S T O r n opens cost (take (r .count * (40 + S)) T ++ (Q ++ rest)) O′
       (record { count = r .count + 1; begun = r .begun; best = r .count + 1; «best_cost» = got })
   kept-best h = kept-by (rw (is, lt-ltb cost (r .«best_cost») (omega arith)))
 
   -- best stays
   pub kept-other : r .«best_cost» ≤ got
-      → Kept S T O r n opens cost (take (r .count * (40 + S)) T ++ (Q ++ rest)) (set O (r .count) opens)
+      → Kept S T O r n opens cost (take (r .count * (40 + S)) T ++ (Q ++ rest)) O′
       (record { count = r .count + 1; begun = r .begun; best = r .best; «best_cost» = r .«best_cost» })
   kept-other h = kept-by (rw (le-ltb cost (r .«best_cost») (omega arith)))
 
@@ -258,7 +277,7 @@ flag O u = cond (eqb (getD O u 0) mark) 1 0
 
 module _ (t : Task) (nodes S : ℕ) (T O : List ℕ) (r : Run) (n : Node) (opens cost : ℕ) (T′ O′ : List ℕ) (r′ : Run)
     (b : Base t nodes (searchOf S T O r)) (held : Cached t S T O r) (kept : Kept S T O r n opens cost T′ O′ r′)
-    (wide : r .count < length O) (isKey : opens ≡ key t n) (small : key t n < mark)
+    (wide : r .count < length O) (few : r .count < 4096) (isKey : opens ≡ key t n) (small : key t n < mark)
     (isCost : cost ≡ cond (isGoal t n) (goalCost t n) mark) (low : isGoal t n ≡ true → goalCost t n < mark) (cap : r .«best_cost» ≤ mark) where
   -- the new node is best where its goal cost is less than the best cost
   best-is : bestWith t (searchOf S T O r) n ≡ r′ .best
@@ -284,8 +303,8 @@ module _ (t : Task) (nodes S : ℕ) (T O : List ℕ) (r : Run) (n : Node) (opens
   done-is : list (r′ .count) (flag O′) ≡ list (r .count) (flag O) ++ (0 ∷ [])
   unfolding list
   done-is =
-      let new : flag O′ (r .count) ≡ 0 = rw (kept .keyed, getD-set-same O (r .count) opens 0 wide, ne-eqb opens mark (λ e. omega arith)) in
-      let old = list-ext (r .count) (flag O′) (flag O) (λ u l. rw (kept .keyed, getD-set-other O (r .count) u opens 0 (λ e. omega arith))) in
+      let new : flag O′ (r .count) ≡ 0 = rw (kept .keyed (r .count) few, getD-set-same O (r .count) opens 0 wide, ne-eqb opens mark (λ e. omega arith)) in
+      let old = list-ext (r .count) (flag O′) (flag O) (λ u l. rw (kept .keyed u (omega arith), getD-set-other O (r .count) u opens 0 (λ e. omega arith))) in
       rw (kept .counted, add-one, list, old, new)
 
   -- the search with one node more
@@ -306,8 +325,8 @@ module _ (t : Task) (nodes S : ℕ) (T O : List ℕ) (r : Run) (n : Node) (opens
       }
     where
       keyed : (u : ℕ) → (u < r .count) ⊎ (u ≡ r .count) → (getD O′ u 0 ≡ mark) ⊎ (getD O′ u 0 ≡ key t (nodeIn S T′ u))
-      keyed u (inl l) = rw (kept .old u l, kept .keyed, getD-set-other O (r .count) u opens 0 (λ e. omega arith)) (held .keys u l)
-      keyed u (inr q) = inr (rw (q, kept .new, kept .keyed, getD-set-same O (r .count) opens 0 wide) isKey)
+      keyed u (inl l) = rw (kept .old u l, kept .keyed u (omega arith), getD-set-other O (r .count) u opens 0 (λ e. omega arith)) (held .keys u l)
+      keyed u (inr q) = inr (rw (q, kept .new, kept .keyed (r .count) few, getD-set-same O (r .count) opens 0 wide) isKey)
 
       none : (c : Bool) → ltb cost (r .«best_cost») ≡ c → cond (ltb cost (r .«best_cost»)) (r .count + 1) (r .best) ≡ 0
           → cond (ltb cost (r .«best_cost»)) cost (r .«best_cost») ≡ mark

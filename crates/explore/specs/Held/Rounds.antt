@@ -23,13 +23,17 @@ use Rattle.search.specs.Explore.{Search, Reason, finished, tableFull, budgetSpe
 use Rattle.search.specs.Explore.Laws.{ones, ones-le, flag-in, Base}
 use Rattle.search.specs.Explore.Rounds.{Holds, holds-start, start-ones, begin-base, round-ones, round-holds}
 use Rattle.search.specs.Explore.Turns.{waits-out, choose-some}
+use Rattle.nodes.specs.Block.{retiredTo}
+use Rattle.nodes.specs.Block.Laws.{retired-length, retired-key}
+use Rattle.nodes.specs.Chain.{Chained}
+use Rattle.nodes.specs.Chain.Laws.{chained-retire}
 use Rattle.nodes.specs.Row.{nodeIn, nodesIn}
 use Rattle.nodes.specs.Scan.{keyOf, chooseBy}
 use Rattle.explore.specs.declared.Run.{Run}
 use Rattle.explore.specs.declared.Turned.{Turned}
 use Rattle.explore.specs.declared.Round.{Round}
 use Rattle.explore.specs.declared.Round.the-variants.{Stops, Goes}
-use Rattle.explore.specs.Held.{searchOf, Cached, Suits, expandedOf, stoppedOf}
+use Rattle.explore.specs.Held.{searchOf, Cached, Suits, Room, expandedOf, stoppedOf}
 use Rattle.explore.specs.Held.Laws.{kept-length, node-at, below-is, best-cap}
 
 -- ---- the flags
@@ -148,14 +152,15 @@ module _ (t : Task) (ok : Valid t) (nodes : ℕ) (few : nodes ≤ 4096) (S : ℕ
 abbrev pub begun : Run → Run
 begun r = record { count = r .count; begun = r .begun + 1; best = r .best; «best_cost» = r .«best_cost» }
 
-module _ (S : ℕ) (T O : List ℕ) (r : Run) (u : ℕ) (long : u < length O) where
+-- P has the open keys of O, but for node u's, which is the mark
+module _ (S : ℕ) (T O P : List ℕ) (r : Run) (u : ℕ) (long : u < length O) (keyed : (v : ℕ) → v < r .count → getD P v 0 ≡ getD (set O u mark) v 0) where
   -- the mark as open key: node u's expansion has begun
-  pub begin-is : searchOf S T (set O u mark) (begun r) ≡ begin u (searchOf S T O r)
+  pub begin-is : searchOf S T P (begun r) ≡ begin u (searchOf S T O r)
   unfolding searchOf begin
   begin-is = ap {B = Search} (λ ds. record { kept = nodesIn S T (r .count); done = ds; begun = r .begun + 1; best = r .best }) flags
     where
       new : Search
-      new = searchOf S T (set O u mark) (begun r)
+      new = searchOf S T P (begun r)
 
       old : Search
       old = searchOf S T O r
@@ -163,32 +168,52 @@ module _ (S : ℕ) (T O : List ℕ) (r : Run) (u : ℕ) (long : u < length O) wh
       flag : (v : ℕ) → v < r .count → Dec (v ≡ u) → getD (new .done) v 0 ≡ getD (set (old .done) u 1) v 0
       flag v l (yes e) =
           let m : u < length (old .done) = omega (arith, done-length S T O r) in
-          rw (done-at S T (set O u mark) (begun r) v 0 l, e, getD-set-same O u mark 0 long) (sym (getD-set-same (old .done) u 1 0 m))
+          rw (done-at S T P (begun r) v 0 l, keyed v l, e, getD-set-same O u mark 0 long) (sym (getD-set-same (old .done) u 1 0 m))
       flag v l (no d) =
-          done-at S T (set O u mark) (begun r) v 0 l
-          ∙ rw (getD-set-other O u v mark 0 d) (sym (getD-set-other (old .done) u v 1 0 d ∙ done-at S T O r v 0 l))
+          done-at S T P (begun r) v 0 l
+          ∙ rw (keyed v l, getD-set-other O u v mark 0 d) (sym (getD-set-other (old .done) u v 1 0 d ∙ done-at S T O r v 0 l))
 
       flags : new .done ≡ set (old .done) u 1
       flags =
-          let e = done-length S T (set O u mark) (begun r) in
+          let e = done-length S T P (begun r) in
           ext-getD 0 (new .done) (set (old .done) u 1) (omega (arith, e, length-set (old .done) u 1, done-length S T O r))
           (λ v l. flag v (omega (arith, e)) (ℕ-discrete v u))
 
   -- each open key is its node's key still
-  pub begin-cached : (t : Task) → Cached t S T O r → Cached t S T (set O u mark) (begun r)
+  pub begin-cached : (t : Task) → Cached t S T O r → Cached t S T P (begun r)
   begin-cached t c = record { keys = λ v l. go v l (ℕ-discrete v u); none = c .none; some = c .some }
     where
-      go : (v : ℕ) → v < r .count → Dec (v ≡ u) → (getD (set O u mark) v 0 ≡ mark) ⊎ (getD (set O u mark) v 0 ≡ key t (nodeIn S T v))
-      go v l (yes e) = inl (rw e (getD-set-same O u mark 0 long))
-      go v l (no d) = rw (getD-set-other O u v mark 0 d) (c .keys v l)
+      go : (v : ℕ) → v < r .count → Dec (v ≡ u) → (getD P v 0 ≡ mark) ⊎ (getD P v 0 ≡ key t (nodeIn S T v))
+      go v l (yes e) = inl (keyed v l ∙ rw e (getD-set-same O u mark 0 long))
+      go v l (no d) = rw (keyed v l, getD-set-other O u v mark 0 d) (c .keys v l)
+
+-- P is O after node u was retired
+module _ (S nodes : ℕ) (T O P : List ℕ) (r : Run) (u : ℕ) (room : Room S nodes T O r) (inside : u < r .count) (isRetired : P ≡ retiredTo O u (r .count)) where
+  -- of the open keys only the node's changed, to the mark
+  pub retired-keyed : (v : ℕ) → v < r .count → getD P v 0 ≡ getD (set O u mark) v 0
+  retired-keyed v l = rw isRetired (retired-key O u (r .count) v (omega (arith, room .count-few, room .few-nodes)))
+
+  -- there is room for the expansion
+  pub retired-room : Room S nodes T P (begun r)
+  retired-room =
+      record {
+        few-states = room .few-states;
+        few-nodes = room .few-nodes;
+        table-long = room .table-long;
+        scan-long = rw isRetired (retired-length O u (r .count) ∙ room .scan-long);
+        count-few = room .count-few;
+        chained = rw isRetired (chained-retire S T O (r .count) u (omega (arith, room .count-few, room .few-nodes)) inside (room .chained));
+      }
 
 -- ---- what is left of the search
 
--- what holds before each round: the search's own invariant, an expansion begun for each flag, and what is left of the search is the whole
+-- what holds before each round: the search's own invariant, an expansion begun for each flag, the nodes are chained, and what is left of the search
+-- is the whole
 pub record Ahead (t : Task) (nodes budget S : ℕ) (T O : List ℕ) (r : Run) : Type 0 where
   pub holds : Holds t nodes (searchOf S T O r)
   pub ones-is : r .begun ≡ ones (searchOf S T O r .done)
   pub cached : Cached t S T O r
+  pub chained : Chained S T O (r .count)
   pub rest : explore t nodes budget (suc nodes - r .begun) (searchOf S T O r) ≡ explored t nodes budget
 
 -- a search that stops
@@ -202,14 +227,15 @@ start-begun t = refl
 
 -- the whole is left at the start
 pub ahead-start : (t : Task) (nodes budget S : ℕ) (T O : List ℕ) (r : Run) → 1 ≤ nodes → searchOf S T O r ≡ start t → Cached t S T O r
-    → Ahead t nodes budget S T O r
+    → Chained S T O (r .count) → Ahead t nodes budget S T O r
 unfolding explored
-ahead-start t nodes budget S T O r h e c =
+ahead-start t nodes budget S T O r h e c chained =
     let z : r .begun ≡ 0 = sym (begun-is S T O r) ∙ ap (λ (s : Search). s .begun) e ∙ start-begun t in
     record {
       holds = rw e (holds-start t nodes h);
       ones-is = rw (e, z) (sym (start-ones t nodes));
       cached = c;
+      chained = chained;
       rest = rw (e, z) (ap (λ fuel. explore t nodes budget fuel (start t)) (omega arith));
     }
 
@@ -252,25 +278,27 @@ module _ (t : Task) (ok : Valid t) (nodes : ℕ) (few : nodes ≤ 4096) (budget 
     ahead-in : u < r .count
     ahead-in = waiting t ok nodes few S T O r (a .holds .base) (a .cached) u waits-chosen .0
 
-    module _ (long : r .count ≤ length O) (d : r .begun ≡ budget → ⊥) where
+    -- P has the open keys of O, but for the chosen node's, which is the mark
+    module _ (long : r .count ≤ length O) (d : r .begun ≡ budget → ⊥) (P : List ℕ)
+        (keyed : (v : ℕ) → v < r .count → getD P v 0 ≡ getD (set O u mark) v 0) where
       -- its expansion begins
-      begins : searchOf S T (set O u mark) (begun r) ≡ begin u (searchOf S T O r)
-      begins = begin-is S T O r u (omega (arith, ahead-in))
+      begins : searchOf S T P (begun r) ≡ begin u (searchOf S T O r)
+      begins = begin-is S T O P r u (omega (arith, ahead-in)) keyed
 
       -- the budget is not used up
       not-spent : eqb (searchOf S T O r .begun) budget ≡ false
       not-spent = ne-eqb (searchOf S T O r .begun) budget (λ q. d (sym (begun-is S T O r) ∙ q))
 
       module _ (w : Turned) (T′ O′ : List ℕ)
-          (h : Base t nodes (searchOf S T (set O u mark) (begun r)) → Cached t S T (set O u mark) (begun r)
-          → (expand t nodes u (t .actions) 0 (searchOf S T (set O u mark) (begun r)) ≡ expandedOf w (searchOf S T′ O′ (w .run)))
+          (h : Base t nodes (searchOf S T P (begun r)) → Cached t S T P (begun r)
+          → (expand t nodes u (t .actions) 0 (searchOf S T P (begun r)) ≡ expandedOf w (searchOf S T′ O′ (w .run)))
           × Cached t S T′ O′ (w .run)) where
         -- the expansion by the table is that of the round
         expands : (expand t nodes u (t .actions) 0 (begin u (searchOf S T O r)) ≡ expandedOf w (searchOf S T′ O′ (w .run)))
             × Cached t S T′ O′ (w .run)
         expands =
-            let v : Base t nodes (searchOf S T (set O u mark) (begun r)) = rw begins (begin-base t nodes u (searchOf S T O r) (a .holds .base)) in
-            let (x, c) = h v (begin-cached S T O r u (omega (arith, ahead-in)) t (a .cached)) in
+            let v : Base t nodes (searchOf S T P (begun r)) = rw begins (begin-base t nodes u (searchOf S T O r) (a .holds .base)) in
+            let (x, c) = h v (begin-cached S T O P r u (omega (arith, ahead-in)) keyed t (a .cached)) in
             (ap (expand t nodes u (t .actions) 0) (sym begins) ∙ x, c)
 
         -- it found the table full
@@ -282,9 +310,9 @@ module _ (t : Task) (ok : Valid t) (nodes : ℕ) (few : nodes ≤ 4096) (budget 
             (rw (p, not-spent, x, explore) at ahead-more, expands .1)
 
         -- it went through all actions
-        pub ahead-on : w .full ≡ false → w .run .begun ≡ r .begun + 1 → Ahead t nodes budget S T′ O′ (w .run)
+        pub ahead-on : w .full ≡ false → w .run .begun ≡ r .begun + 1 → Chained S T′ O′ (w .run .count) → Ahead t nodes budget S T′ O′ (w .run)
         unfolding explore
-        ahead-on f n =
+        ahead-on f n chained =
             let p = chosen e in
             let x : expand t nodes u (t .actions) 0 (begin u (searchOf S T O r)) ≡ through (searchOf S T′ O′ (w .run)) = expands .0 ∙ rw f in
             let m : nodes - r .begun ≡ suc nodes - w .run .begun = omega arith in
@@ -292,6 +320,7 @@ module _ (t : Task) (ok : Valid t) (nodes : ℕ) (few : nodes ≤ 4096) (budget 
               holds = round-holds t nodes u (searchOf S T O r) (searchOf S T′ O′ (w .run)) (a .holds) waits-chosen x;
               ones-is = omega (arith, round-ones t nodes u (searchOf S T O r) (searchOf S T′ O′ (w .run)) (a .holds) waits-chosen x, a .ones-is);
               cached = expands .1;
+              chained = chained;
               rest = rw (p, not-spent, x, explore, m) at ahead-more;
             }
 

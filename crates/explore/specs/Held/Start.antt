@@ -1,8 +1,8 @@
 -- The search at its start: node 0 kept in an empty table. Assumes nothing.
-use mathlib.Core.Path.{_≡_, refl, _∙_}
+use mathlib.Core.Path.{_≡_, refl, ap, _∙_}
 use mathlib.Core.Bool.{true}
 use mathlib.Core.List.{List, _++_}
-use Prim.Native.Nat.{ℕ, suc, _≤_, _<_}
+use Prim.Native.Nat.{ℕ, suc, _+_, _≤_, _<_}
 use native.Mathlib.Omega.{arith}
 use lib.ListN.{length, getD, take}
 use lib.Seq.{take-at}
@@ -27,6 +27,10 @@ use Rattle.search.specs.Small.{made-key, made-goal}
 use Rattle.search.specs.Explore.{keep, start}
 use Rattle.search.specs.Explore.Laws.{Base}
 use Rattle.search.specs.Explore.Rounds.{base-none}
+use Rattle.nodes.specs.Block.{freshTo}
+use Rattle.nodes.specs.Block.Laws.{fresh-length}
+use Rattle.nodes.specs.Chain.{Chained}
+use Rattle.nodes.specs.Chain.Laws.{chained-fresh}
 use Rattle.nodes.specs.Row.{nodesIn, nodeWith}
 use Rattle.nodes.specs.Scan.{Cut, keyBy, goalCostBy}
 use Rattle.explore.specs.declared.Run.{Run}
@@ -90,12 +94,13 @@ module _ (t : Task) (b : Board) (effects goals goalPairs : List ℕ) (suits : Su
       let e : take (rowOn b) P ≡ firstPrices t = rw (isPrices, isSpot, first, row) (take-at (firstPrices t) rest (allStates t) (first-length t)) in
       rw (e, isSpot)
 
-  -- node 0 is kept: the search at its start
-  pub start-is : (T O T′ O′ : List ℕ) (r′ : Run) (opens : ℕ) → length O ≡ 4096 → opens ≡ keyBy (b .leaves) (b .bases) 0 P
-      → Kept (rowOn b) T O noRun (nodeWith spot 0 (take (rowOn b) P) 0 0) opens
+  -- node 0 is kept, in the scan words O with all block words at the mark: the search at its start
+  pub start-is : (T O F T′ O′ : List ℕ) (r′ : Run) (opens : ℕ) → length O ≡ 16448 → ((h : ℕ) → h < 4096 → getD O (12288 + h) 0 ≡ 0) → F ≡ freshTo O 64
+      → opens ≡ keyBy (b .leaves) (b .bases) 0 P
+      → Kept (rowOn b) T F noRun (nodeWith spot 0 (take (rowOn b) P) 0 0) opens
       (goalCostBy (b .leaves) (b .bases) goals (b .factors) goalPairs spot 0 P) T′ O′ r′
-      → (searchOf (allStates t) T′ O′ r′ ≡ start t) × Cached t (allStates t) T′ O′ r′
-  start-is T O T′ O′ r′ opens long own kept =
+      → (searchOf (allStates t) T′ O′ r′ ≡ start t) × Cached t (allStates t) T′ O′ r′ × Chained (allStates t) T′ O′ (r′ .count)
+  start-is T O F T′ O′ r′ opens long heads isFresh own kept =
       let row = row-on t b (suits .fits) in
       let scans = suits-scans b effects goals goalPairs t suits in
       let n = nodeWith spot 0 (take (rowOn b) P) 0 0 in
@@ -104,9 +109,12 @@ module _ (t : Task) (b : Board) (effects goals goalPairs : List ℕ) (suits : Su
       let isCost = goal-is t (b .leaves) (b .bases) goals (b .factors) goalPairs scans 0 n (omega arith) m P refl in
       let small : key t n < mark = omega (arith, made-key t (suits .valid) 0 n (omega arith) m) in
       let cheap : isGoal t n ≡ true → goalCost t n < mark = λ g. omega (arith, made-goal t (suits .valid) 0 n (omega arith) m g) in
-      let v = none-base t (rowOn b) T O in
-      let held = none-cached t (rowOn b) T O in
-      let e = keep-is t 1 (rowOn b) T O noRun n _ _ T′ O′ r′ v held kept (omega arith) isKey small isCost cheap (omega arith) in
-      let c = keep-cached t 1 (rowOn b) T O noRun n _ _ T′ O′ r′ v held kept (omega arith) isKey small isCost cheap (omega arith) in
-      let z : keep t (searchOf (rowOn b) T O noRun) n ≡ start t = rw node-first (none-start t (rowOn b) T O) in
-      (rw row at (e ∙ z), rw row at c)
+      let wide : length F ≡ 16448 = ap length isFresh ∙ fresh-length O 64 ∙ long in
+      let chains : Chained (rowOn b) T F 0 = rw isFresh (chained-fresh (rowOn b) T O long heads) in
+      let v = none-base t (rowOn b) T F in
+      let held = none-cached t (rowOn b) T F in
+      let e = keep-is t 1 (rowOn b) T F noRun n _ _ T′ O′ r′ v held kept (omega arith) (omega arith) isKey small isCost cheap (omega arith) in
+      let c = keep-cached t 1 (rowOn b) T F noRun n _ _ T′ O′ r′ v held kept (omega arith) (omega arith) isKey small isCost cheap (omega arith) in
+      let z : keep t (searchOf (rowOn b) T F noRun) n ≡ start t = rw node-first (none-start t (rowOn b) T F) in
+      let h : Chained (rowOn b) T′ O′ (r′ .count) = rw (kept .counted) (kept .linked chains) in
+      (rw row at (e ∙ z), rw row at c, rw row at h)

@@ -1,150 +1,182 @@
 -- The cases of an offer, of a turn and of an expansion by tables, one law for each. Assumes nothing.
 use mathlib.Core.Path.{_≡_, refl, sym, ap, _∙_}
-use mathlib.Core.Bool.{Bool, true, false, not, _&&_, true≢false}
+use mathlib.Core.Bool.{Bool, true, false, not, true≢false}
 use mathlib.Core.List.{List, _++_}
 use Prim.Native.Nat.{ℕ, suc, _+_, _-_, _*_, _≤_, _<_, min}
 use native.Mathlib.Omega.{arith}
 use borrow.Author.Tests.{lt-ltb, le-ltb, eq-eqb, ne-eqb}
 use lib.Dec.{ltb}
-use lib.ListN.{length, getD, take}
+use lib.ListN.{length, getD, take, drop}
 use lib.Seq.{take-at}
 use Rattle.loops.specs.Count.{any, list}
-use Rattle.loops.specs.Count.Laws.{told-true, told-false, all-ext, list-at, list-ext}
+use Rattle.loops.specs.Count.Laws.{told-true, told-false, list-at, list-ext}
 use Rattle.task.specs.declared.Task.{Task}
 use Rattle.task.specs.declared.Centre.{Centre}
 use Rattle.task.specs.Meaning.{Partial, factor, condition, effect, cost}
 use Rattle.task.specs.Factors.{states, allStates, centreAction}
 use Rattle.task.specs.Centre.{centreMeets, centreAfter}
-use Rattle.layer.specs.Layer.{mark, base, leafPart, nextPrices, appliesTo}
+use Rattle.layer.specs.Layer.{mark, base, leafPart, nextPrices, appliesTo, nextCentre}
 use Rattle.layer.specs.Layer.Laws.{base-fits, next-length}
-use Rattle.layer.specs.Board.{Board, rowOn, nextOn, appliesOn}
-use Rattle.layer.specs.Board.Laws.{joined-ext, row-on, next-on, applies-on}
+use Rattle.layer.specs.Board.{Board, rowOn, metOn, beginOn, settledOn}
+use Rattle.layer.specs.Board.Laws.{joined-ext, row-on, met-on}
 use Rattle.search.specs.Node.{Node, nextNode, dominates, key, isGoal, goalCost}
 use Rattle.search.specs.Made.{Made, made-next}
 use Rattle.search.specs.Small.{made-key, made-goal, made-paid}
+use Rattle.search.specs.Begin.{beginPrices, beginNode, begin-on, settled-next, begin-length, key-begin, dominates-begin, blocked-begin}
 use Rattle.search.specs.Explore.{Search, nodeAt, belowBest, keep, on, full, offer, turn, through, filled, expand}
 use Rattle.search.specs.Explore.Laws.{Base}
 use Rattle.search.specs.Explore.Turns.{turn-on}
+use Rattle.nodes.specs.Chain.{Chained}
 use Rattle.nodes.specs.Row.{nodeIn, nodeWith}
 use Rattle.nodes.specs.Scan.{keyBy, goalCostBy}
 use Rattle.explore.specs.declared.Run.{Run}
 use Rattle.explore.specs.declared.Turned.{Turned}
-use Rattle.explore.specs.Held.{searchOf, Cached, Suits, Scans, Room, Has, Kept, expandedOf, Went, Stands, Offered, Moved}
-use Rattle.explore.specs.Held.Laws.{part-take, kept-length, node-at, below-is, best-cap, key-is, goal-is, dominated-is, keep-is, keep-cached}
+use Rattle.explore.specs.Held.{searchOf, Cached, Suits, Scans, Room, Has, Kept, expandedOf, Went, Stands, settledWords, begunNode, settledNode, Alike, Offered, Moved}
+use Rattle.explore.specs.Held.Laws.{part-take, kept-length, node-at, below-is, best-cap, key-any, goal-is, dominated-is, keep-is, keep-cached}
 
 -- ---- offer
 
 -- a turn that changes nothing
-went-same : (nodes : ℕ) (T O : List ℕ) (r : Run) (f : Bool) → r .count ≤ nodes → Went nodes T O r T O (record { full = f; run = r })
-went-same nodes T O r f h =
-    record { more = omega arith; room = h; begun-is = refl; table-still = λ _. refl; keys-still = λ _. refl; run-still = λ _. refl }
+went-same : (S nodes : ℕ) (T O : List ℕ) (r : Run) (f : Bool) → r .count ≤ nodes → Went S nodes T O r T O (record { full = f; run = r })
+went-same S nodes T O r f h =
+    record { more = omega arith; room = h; begun-is = refl; chained = λ c. c; table-still = λ _. refl; scan-still = λ _. refl; run-still = λ _. refl }
 
-module _ (leaves : ℕ) (bases goals factors goalPairs : List ℕ) (nodes : ℕ) (T O : List ℕ) (r : Run) (spot : Centre) (paid : ℕ) (P : List ℕ) (parent action : ℕ)
+module _ (b : Board) (goals goalPairs : List ℕ) (nodes : ℕ) (T O : List ℕ) (r : Run) (spot : Centre) (paid : ℕ) (P : List ℕ) (parent action : ℕ)
     (few : nodes ≤ 4096) (room : r .count ≤ nodes) where
-  -- S, the node and the search
+  -- S, the node with its layer's begin and with its layer, and the search
   abbrev S : ℕ
-  S = getD bases leaves 0
+  S = rowOn b
+
+  abbrev early : Node
+  early = begunNode b spot paid P parent action
 
   abbrev node : Node
-  node = nodeWith spot paid (take S P) parent action
+  node = settledNode b spot paid P parent action
 
   abbrev search : Search
   search = searchOf S T O r
 
+  -- whether a node kept dominates the begin
+  abbrev beaten : Bool
+  beaten = any (r .count) (λ u. dominates (nodeIn S T u) (nodeWith spot paid (take S P) 0 0))
+
   -- what holds for a task whose tables these are
-  module _ (t : Task) (scans : Scans t leaves bases goals factors goalPairs) (b : Base t nodes search) (held : Cached t S T O r) (m : Made t (r .count) node) where
-    -- the key, and that it is small
-    its-key : keyBy leaves bases paid P ≡ key t node
-    its-key = key-is t leaves bases goals factors goalPairs scans (r .count) node (omega arith) m P refl
+  module _ (t : Task) (scans : Scans t (b .leaves) (b .bases) goals (b .factors) goalPairs) (v : Base t nodes search) (held : Cached t S T O r) where
+    -- the key by tables
+    its-key : keyBy (b .leaves) (b .bases) paid P ≡ min (key t early) mark
+    its-key = key-any t (b .leaves) (b .bases) goals (b .factors) goalPairs scans early P refl
 
-    small : key t node < mark
-    small = omega (arith, made-key t (scans .valid) (r .count) node (omega arith) m)
+    -- the best cost is not above the mark
+    cap : r .«best_cost» ≤ mark
+    cap = best-cap t nodes S T O r v held (scans .valid) few
 
-    -- its key is below best just where it is below the best cost
-    below : belowBest t search (key t node) ≡ ltb (keyBy leaves bases paid P) (r .«best_cost»)
-    below = rw its-key (below-is t nodes S T O r b held (key t node) small)
+    module _ (m : Made t (r .count) node) (alike : Alike t S T (r .count) early node) where
+      -- the node's key, and that it is small
+      small : key t node < mark
+      small = omega (arith, made-key t (scans .valid) (r .count) node (omega arith) m)
 
-    -- whether a node kept dominates it
-    dominated : any (r .count) (λ u. dominates (nodeIn S T u) (nodeWith spot paid (take S P) 0 0))
-        ≡ any (length (search .kept)) (λ u. dominates (nodeAt t search u) node)
-    dominated = dominated-is t S T O r node (nodeWith spot paid (take S P) 0 0) refl refl refl
+      own-key : keyBy (b .leaves) (b .bases) paid P ≡ key t node
+      own-key = omega (arith, its-key, small, alike .key-same)
 
-    -- the four ends
-    said-above : r .«best_cost» ≤ keyBy leaves bases paid P → offer t nodes search node ≡ on search
-    unfolding offer
-    said-above h = rw (below ∙ le-ltb _ _ h, offer)
+      -- its key is below best just where it is below the best cost
+      below : belowBest t search (key t node) ≡ ltb (keyBy (b .leaves) (b .bases) paid P) (r .«best_cost»)
+      below = rw own-key (below-is t nodes S T O r v held (key t node) small)
 
-    module _ (h : keyBy leaves bases paid P < r .«best_cost») where
-      said-dominated : any (r .count) (λ u. dominates (nodeIn S T u) (nodeWith spot paid (take S P) 0 0)) ≡ true → offer t nodes search node ≡ on search
+      -- whether a node kept dominates it
+      dominated : beaten ≡ any (length (search .kept)) (λ u. dominates (nodeAt t search u) node)
+      unfolding dominates
+      dominated = dominated-is t S T O r node (nodeWith spot paid (take S P) 0 0) (λ u l. alike .dominated-same u l)
+
+      -- the four ends
+      said-above : r .«best_cost» ≤ keyBy (b .leaves) (b .bases) paid P → offer t nodes search node ≡ on search
       unfolding offer
-      said-dominated d = rw (below ∙ lt-ltb _ _ h, sym dominated ∙ d, offer)
+      said-above h = rw (below ∙ le-ltb _ _ h, offer)
 
-      module _ (d : any (r .count) (λ u. dominates (nodeIn S T u) (nodeWith spot paid (take S P) 0 0)) ≡ false) where
-        said-full : nodes ≤ r .count → offer t nodes search node ≡ full
+      module _ (h : keyBy (b .leaves) (b .bases) paid P < r .«best_cost») where
+        said-dominated : beaten ≡ true → offer t nodes search node ≡ on search
         unfolding offer
-        said-full k = rw (below ∙ lt-ltb _ _ h, sym dominated ∙ d, kept-length S T O r, le-ltb (r .count) nodes k, offer)
+        said-dominated d = rw (below ∙ lt-ltb _ _ h, sym dominated ∙ d, offer)
 
-        said-kept : r .count < nodes → offer t nodes search node ≡ on (keep t search node)
-        unfolding offer
-        said-kept k = rw (below ∙ lt-ltb _ _ h, sym dominated ∙ d, kept-length S T O r, lt-ltb (r .count) nodes k, offer)
+        module _ (d : beaten ≡ false) where
+          said-full : nodes ≤ r .count → offer t nodes search node ≡ full
+          unfolding offer
+          said-full k = rw (below ∙ lt-ltb _ _ h, sym dominated ∙ d, kept-length S T O r, le-ltb (r .count) nodes k, offer)
+
+          said-kept : r .count < nodes → offer t nodes search node ≡ on (keep t search node)
+          unfolding offer
+          said-kept k = rw (below ∙ lt-ltb _ _ h, sym dominated ∙ d, kept-length S T O r, lt-ltb (r .count) nodes k, offer)
 
   -- what the code has found: the key, and whether the node is dominated
-  module _ (opens : ℕ) (isKey : opens ≡ keyBy leaves bases paid P) where
+  module _ (opens : ℕ) (isKey : opens ≡ keyBy (b .leaves) (b .bases) paid P) where
     -- the key is not below best: dropped
-    pub offered-above : r .«best_cost» ≤ opens → Offered leaves bases goals factors goalPairs nodes T O r node T O (record { full = false; run = r })
+    pub offered-above : r .«best_cost» ≤ opens → Offered b goals goalPairs nodes T O r spot paid P parent action T O (record { full = false; run = r })
     offered-above h =
-        record { went = went-same nodes T O r false room; offered = λ t scans b held m. record { said = said-above t scans b held m (omega arith); held = held } }
+        record {
+          went = went-same S nodes T O r false room;
+          offered = λ t scans v held m alike. record { said = said-above t scans v held m alike (omega arith); held = held };
+          dropped = λ t scans v held e. record { said = refl; held = held };
+        }
 
-    module _ (h : opens < r .«best_cost») (found : Bool)
-        (isFound : found ≡ any (r .count) (λ u. dominates (nodeIn S T u) (nodeWith spot paid (take S P) 0 0))) where
+    module _ (h : opens < r .«best_cost») (found : Bool) (isFound : found ≡ beaten) where
+      -- a key below best is below the mark
+      unblocked : (t : Task) → Scans t (b .leaves) (b .bases) goals (b .factors) goalPairs → Base t nodes search → Cached t S T O r → mark ≤ key t early → ⊥
+      unblocked t scans v held e = omega (arith, its-key t scans v held, cap t scans v held)
+
       -- a node kept dominates it: dropped
-      pub offered-dominated : found ≡ true → Offered leaves bases goals factors goalPairs nodes T O r node T O (record { full = false; run = r })
+      pub offered-dominated : found ≡ true → Offered b goals goalPairs nodes T O r spot paid P parent action T O (record { full = false; run = r })
       offered-dominated d =
           record {
-            went = went-same nodes T O r false room;
-            offered = λ t scans b held m. record { said = said-dominated t scans b held m (omega arith) (sym isFound ∙ d); held = held };
+            went = went-same S nodes T O r false room;
+            offered = λ t scans v held m alike. record { said = said-dominated t scans v held m alike (omega arith) (sym isFound ∙ d); held = held };
+            dropped = λ t scans v held e. absurd (unblocked t scans v held e);
           }
 
       module _ (d : found ≡ false) where
         -- the table is full
-        pub offered-full : nodes ≤ r .count → Offered leaves bases goals factors goalPairs nodes T O r node T O (record { full = true; run = r })
+        pub offered-full : nodes ≤ r .count → Offered b goals goalPairs nodes T O r spot paid P parent action T O (record { full = true; run = r })
         offered-full k =
             record {
-              went = went-same nodes T O r true room;
-              offered = λ t scans b held m. record { said = said-full t scans b held m (omega arith) (sym isFound ∙ d) k; held = held };
+              went = went-same S nodes T O r true room;
+              offered = λ t scans v held m alike. record { said = said-full t scans v held m alike (omega arith) (sym isFound ∙ d) k; held = held };
+              dropped = λ t scans v held e. absurd (unblocked t scans v held e);
             }
 
-        -- it is kept
-        pub offered-kept : r .count < nodes → length O ≡ 4096 → (T′ O′ : List ℕ) (r′ : Run)
-            → Kept S T O r node opens (goalCostBy leaves bases goals factors goalPairs spot paid P) T′ O′ r′
-            → Offered leaves bases goals factors goalPairs nodes T O r node T′ O′ (record { full = false; run = r′ })
-        offered-kept k long T′ O′ r′ kept =
+        -- it is settled and kept
+        pub offered-kept : r .count < nodes → length O ≡ 16448 → (P′ : List ℕ) → P′ ≡ settledWords b spot P → (T′ O′ : List ℕ) (r′ : Run)
+            → Kept S T O r (nodeWith spot paid (take S P′) parent action) opens (goalCostBy (b .leaves) (b .bases) goals (b .factors) goalPairs spot paid P′) T′ O′ r′
+            → Offered b goals goalPairs nodes T O r spot paid P parent action T′ O′ (record { full = false; run = r′ })
+        offered-kept k long P′ isWords T′ O′ r′ given =
             record {
               went =
                   record {
                     more = rw (kept .counted) (omega arith);
                     room = rw (kept .counted) (omega arith);
                     begun-is = rw (kept .counted);
+                    chained = λ c. rw (kept .counted) (kept .linked c);
                     table-still = λ e. absurd (true≢false (sym e));
-                    keys-still = λ e. absurd (true≢false (sym e));
+                    scan-still = λ e. absurd (true≢false (sym e));
                     run-still = λ e. absurd (true≢false (sym e));
                   };
-              offered = λ t scans b held m. stands t scans b held m;
+              offered = λ t scans v held m alike. stands t scans v held m alike;
+              dropped = λ t scans v held e. absurd (unblocked t scans v held e);
             }
           where
-            stands : (t : Task) → Scans t leaves bases goals factors goalPairs → Base t nodes search → Cached t S T O r → Made t (r .count) node
-                → Stands t S T′ O′ (record { full = false; run = r′ }) (offer t nodes search node)
-            stands t scans b held m =
-                let isCost = goal-is t leaves bases goals factors goalPairs scans (r .count) node (omega arith) m P refl in
+            kept : Kept S T O r node opens (goalCostBy (b .leaves) (b .bases) goals (b .factors) goalPairs spot paid (settledWords b spot P)) T′ O′ r′
+            kept = rw isWords at given
+
+            stands : (t : Task) → Scans t (b .leaves) (b .bases) goals (b .factors) goalPairs → Base t nodes search → Cached t S T O r → Made t (r .count) node
+                → Alike t S T (r .count) early node → Stands t S T′ O′ (record { full = false; run = r′ }) (offer t nodes search node)
+            stands t scans v held m alike =
+                let isCost = goal-is t (b .leaves) (b .bases) goals (b .factors) goalPairs scans (r .count) node (omega arith) m (settledWords b spot P) refl in
                 let cheap : isGoal t node ≡ true → goalCost t node < mark = λ g. omega (arith, made-goal t (scans .valid) (r .count) node (omega arith) m g) in
-                let cap = best-cap t nodes S T O r b held (scans .valid) few in
-                let its = isKey ∙ its-key t scans b held m in
-                let low = small t scans b held m in
+                let top = cap t scans v held in
+                let its = isKey ∙ own-key t scans v held m alike in
+                let low = small t scans v held m alike in
                 record {
                   said =
-                      said-kept t scans b held m (omega arith) (sym isFound ∙ d) k
-                      ∙ ap on (sym (keep-is t nodes S T O r node _ _ T′ O′ r′ b held kept (omega arith) its low isCost cheap cap));
-                  held = keep-cached t nodes S T O r node _ _ T′ O′ r′ b held kept (omega arith) its low isCost cheap cap;
+                      said-kept t scans v held m alike (omega arith) (sym isFound ∙ d) k
+                      ∙ ap on (sym (keep-is t nodes S T O r node _ _ T′ O′ r′ v held kept (omega arith) (omega arith) its low isCost cheap top));
+                  held = keep-cached t nodes S T O r node _ _ T′ O′ r′ v held kept (omega arith) (omega arith) its low isCost cheap top;
                 }
 
 -- ---- turn
@@ -161,15 +193,10 @@ module _ (t : Task) (P : List ℕ) where
   unfolding leafPart
   part-front i l = part-take (states t (suc i)) (base t i) (allStates t) P (base-fits t i l)
 
-  -- the next layer
-  next-front : (c : Centre) (a : ℕ) → nextPrices t c a (take (allStates t) P) ≡ nextPrices t c a P
-  unfolding nextPrices
-  next-front c a = joined-ext (t .leaves) _ _ (λ i l. rw (part-front i l))
-
-  -- whether an action applies
-  applies-front : (c : Centre) (a : ℕ) → appliesTo t c (take (allStates t) P) a ≡ appliesTo t c P a
-  unfolding appliesTo
-  applies-front c a = ap (λ x. centreMeets (factor t) (condition t a) c && x) (all-ext (t .leaves) _ _ (λ i l. rw (part-front i l)))
+  -- the begin of the next layer
+  begin-front : (a : ℕ) → beginPrices t a (take (allStates t) P) ≡ beginPrices t a P
+  unfolding beginPrices
+  begin-front a = joined-ext (t .leaves) _ _ (λ i l. rw (part-front i l))
 
 module _ (b : Board) (effects goals goalPairs : List ℕ) where
   -- what offering reads
@@ -199,75 +226,123 @@ module _ (b : Board) (effects goals goalPairs : List ℕ) where
       node-here : nodeAt t here u ≡ nodeIn (rowOn b) T u
       node-here = node-at (rowOn b) T O r t u inside
 
-      -- whether the action applies to it
-      applies-here : appliesTo t (nodeAt t here u .spot) (nodeAt t here u .prices) a ≡ appliesOn b spot old a
-      applies-here =
-          rw (node-here, held .spot-is, held .prices-is, row-on t b (suits .fits))
-          (applies-front t old spot a ∙ sym (applies-on t b (suits .fits) spot old a known-in))
+      -- whether its centre conditions hold there
+      met-here : centreMeets (factor t) (condition t a) (nodeAt t here u .spot) ≡ metOn b spot a
+      met-here = rw (node-here, held .spot-is) (sym (met-on t b (suits .fits) spot a))
 
     -- the action is no centre action
     pub moved-leaf : (getD (b .kinds) a 0 ≡ 0 → ⊥) → Moved b effects goals goalPairs nodes spot paid old u a T O r T O (record { full = false; run = r })
     unfolding turn
     moved-leaf h =
         record {
-          went = went-same nodes T O r false room;
+          went = went-same (rowOn b) nodes T O r false room;
           moved = λ t suits v held has.
               let no : centreAction t a ≡ false = sym (suits .fits .kinds-centre a (known-in t suits has)) ∙ ne-eqb _ _ h in
               record { said = rw (no, turn); held = held };
         }
 
-    -- it does not apply
-    pub moved-blocked : getD (b .kinds) a 0 ≡ 0 → (able : Bool) → able ≡ appliesOn b spot old a → not able ≡ true
-        → Moved b effects goals goalPairs nodes spot paid old u a T O r T O (record { full = false; run = r })
-    unfolding turn
-    moved-blocked k able isAble h =
-        record {
-          went = went-same nodes T O r false room;
-          moved = λ t suits v held has.
-              let yes : centreAction t a ≡ true = sym (suits .fits .kinds-centre a (known-in t suits has)) ∙ eq-eqb _ _ k in
-              record { said = rw (yes, applies-here t suits has ∙ told-false isAble h, turn); held = held };
-        }
+    module _ (k : getD (b .kinds) a 0 ≡ 0) (able : Bool) (isAble : able ≡ metOn b spot a) where
+      -- it is one
+      centred : (t : Task) → Suits t b effects goals goalPairs → Has (nodeIn (rowOn b) T u) spot paid (take (rowOn b) old) → centreAction t a ≡ true
+      centred t suits has = sym (suits .fits .kinds-centre a (known-in t suits has)) ∙ eq-eqb _ _ k
 
-    -- it has a successor, which was offered
-    pub moved-offered : getD (b .kinds) a 0 ≡ 0 → (able : Bool) → able ≡ appliesOn b spot old a → not able ≡ false
-        → (pairs next rest : List ℕ) (behind : Centre) (spent : ℕ)
-        → pairs ≡ list 32 (λ v. getD effects (a * 32 + v) 0)
-        → behind ≡ centreAfter (λ v. getD (b .factors) v 0) (λ v. getD pairs v 0) spot
-        → next ≡ nextOn b behind a old ++ rest
-        → spent ≡ min (paid + getD (b .costs) a 0) mark
-        → (T′ O′ : List ℕ) (w : Turned)
-        → Offered (b .leaves) (b .bases) goals (b .factors) goalPairs nodes T O r (nodeWith behind spent (take (rowOn b) next) u a) T′ O′ w
-        → Moved b effects goals goalPairs nodes spot paid old u a T O r T′ O′ w
-    unfolding turn nextNode
-    moved-offered k able isAble h pairs next rest behind spent isPairs isBehind isNext isCost T′ O′ w o =
-        record { went = o .went; moved = λ t suits v held has. stands t suits v held has }
-      where
-        stands : (t : Task) → Suits t b effects goals goalPairs → Base t nodes here → Cached t (rowOn b) T O r
-            → Has (nodeIn (rowOn b) T u) spot paid (take (rowOn b) old) → Stands t (rowOn b) T′ O′ w (turn t nodes u a here)
-        stands t suits v held has =
-            let row : rowOn b ≡ allStates t = row-on t b (suits .fits) in
-            let n = nodeAt t here u in
-            let many : length (here .kept) ≡ r .count = kept-length (rowOn b) T O r in
-            let yes : centreAction t a ≡ true = sym (suits .fits .kinds-centre a (known-in t suits has)) ∙ eq-eqb _ _ k in
-            let applied : appliesTo t (n .spot) (n .prices) a ≡ true = applies-here t suits has ∙ told-true isAble h in
-            let made : Made t (r .count) (nextNode t u n a) = made-next t u (r .count) u n a inside (known-in t suits has) yes applied (v .made u (omega arith)) in
-            let isSpot : behind ≡ centreAfter (factor t) (effect t a) (n .spot) =
-            isBehind ∙ rw (isPairs, suits .fits .factors-is, suits .effects-is, node-here t suits has, has .spot-is) (after-list (factor t) (effect t a) spot) in
-            let low = made-paid t (suits .valid) (r .count) (nextNode t u n a) (omega arith) made in
-            let same-paid : n .paid ≡ paid = ap (λ (x : Node). x .paid) (node-here t suits has) ∙ has .paid-is in
-            let isPaid : spent ≡ n .paid + cost t a = omega (arith, isCost, suits .fits .costs-is a (known-in t suits has)) in
-            let isPrices : take (rowOn b) next ≡ nextPrices t behind a (n .prices) =
-            rw (
-              isNext,
-              node-here t suits has,
-              has .prices-is,
-              row,
-              next-on t b (suits .fits) behind a old (known-in t suits has),
-              take-at (nextPrices t behind a old) rest (allStates t) (next-length t behind a old),
-            ) (sym (next-front t old behind a)) in
-            let same : nodeWith behind spent (take (rowOn b) next) u a ≡ nextNode t u n a = rw (isPrices, isPaid, isSpot) in
-            let out = o .offered t (suits-scans t suits) v held (rw same made) in
-            record { said = rw (yes, applied, turn, ← same) (out .said); held = out .held }
+      -- its centre conditions do not hold
+      pub moved-unmet : not able ≡ true → Moved b effects goals goalPairs nodes spot paid old u a T O r T O (record { full = false; run = r })
+      unfolding turn appliesTo
+      moved-unmet h =
+          record {
+            went = went-same (rowOn b) nodes T O r false room;
+            moved = λ t suits v held has. record { said = rw (centred t suits has, met-here t suits has ∙ told-false isAble h, turn); held = held };
+          }
+
+      -- its centre conditions hold, and its layer's begin was offered
+      module _ (h : not able ≡ false) (pairs next rest : List ℕ) (behind : Centre) (spent : ℕ)
+          (isPairs : pairs ≡ list 32 (λ v. getD effects (a * 32 + v) 0))
+          (isBehind : behind ≡ centreAfter (λ v. getD (b .factors) v 0) (λ v. getD pairs v 0) spot)
+          (isNext : next ≡ beginOn b a old ++ rest)
+          (isCost : spent ≡ min (paid + getD (b .costs) a 0) mark)
+          (T′ O′ : List ℕ) (w : Turned) (o : Offered b goals goalPairs nodes T O r behind spent next u a T′ O′ w) where
+        module _ (t : Task) (suits : Suits t b effects goals goalPairs) (v : Base t nodes here) (held : Cached t (rowOn b) T O r)
+            (has : Has (nodeIn (rowOn b) T u) spot paid (take (rowOn b) old)) where
+          -- node u
+          abbrev n : Node
+          n = nodeAt t here u
+
+          -- each row's node is that of a centre path
+          made-here : (i : ℕ) → i < r .count → Made t i (nodeIn (rowOn b) T i)
+          made-here i l = rw (node-at (rowOn b) T O r t i l) at (v .made i (omega (arith, kept-length (rowOn b) T O r)))
+
+          -- the successor's centre state
+          isSpot : behind ≡ nextCentre t a (n .spot)
+          isSpot = isBehind ∙ rw (isPairs, suits .fits .factors-is, suits .effects-is, node-here t suits has, has .spot-is) (after-list (factor t) (effect t a) spot)
+
+          -- its centre cost, which is small
+          isPaid : spent ≡ n .paid + cost t a
+          isPaid =
+              let low = made-paid t (suits .valid) u (nodeIn (rowOn b) T u) (omega arith) (made-here u inside) in
+              let same : n .paid ≡ paid = ap (λ (x : Node). x .paid) (node-here t suits has) ∙ has .paid-is in
+              let also : nodeIn (rowOn b) T u .paid ≡ paid = has .paid-is in
+              omega (arith, isCost, suits .fits .costs-is a (known-in t suits has), suits .valid .fields .cost-bound a (known-in t suits has))
+
+          -- the begin, with words behind it
+          isWords : next ≡ beginPrices t a (n .prices) ++ rest
+          isWords =
+              let row : rowOn b ≡ allStates t = row-on t b (suits .fits) in
+              let front : beginPrices t a (n .prices) ≡ beginPrices t a old =
+              rw (node-here t suits has, has .prices-is, row) (begin-front t old a) in
+              rw (isNext, begin-on t b (suits .fits) a old (known-in t suits has), front)
+
+          -- the begin alone
+          isBegin : take (rowOn b) next ≡ beginPrices t a (n .prices)
+          isBegin =
+              ap (λ k. take k next) (row-on t b (suits .fits))
+              ∙ ap (take (allStates t)) isWords
+              ∙ take-at (beginPrices t a (n .prices)) rest (allStates t) (begin-length t a (n .prices))
+
+          -- the settled layer
+          isPrices : take (rowOn b) (settledWords b behind next) ≡ nextPrices t behind a (n .prices)
+          isPrices =
+              let s : settledOn b behind next ≡ nextPrices t behind a (n .prices) =
+              ap (settledOn b behind) isWords ∙ settled-next t b (suits .fits) behind a (n .prices) rest in
+              ap (λ k. take k (settledWords b behind next)) (row-on t b (suits .fits))
+              ∙ ap (λ xs. take (allStates t) (xs ++ drop (rowOn b) next)) s
+              ∙ take-at (nextPrices t behind a (n .prices)) (drop (rowOn b) next) (allStates t) (next-length t behind a (n .prices))
+
+          -- settled, it is the search's successor
+          isNode : settledNode b behind spent next u a ≡ nextNode t u n a
+          unfolding nextNode
+          isNode = rw (isPrices, isPaid, isSpot)
+
+          -- not settled, it is the search's begin
+          isEarly : begunNode b behind spent next u a ≡ beginNode t n a (nextNode t u n a .spot) u a
+          unfolding nextNode
+          isEarly = rw (isBegin, isPaid, isSpot)
+
+          -- the begin has the successor's key, and the same nodes dominate it
+          alike : Alike t (rowOn b) T (r .count) (beginNode t n a (nextNode t u n a .spot) u a) (nextNode t u n a)
+          unfolding nextNode
+          alike =
+              record {
+                key-same = sym (key-begin t n a _ u a u);
+                dominated-same = λ i l. sym (dominates-begin t (suits .valid) i (nodeIn (rowOn b) T i) (made-here i l) u n a u a);
+              }
+
+          -- what the search says: of an action that applies, and of another
+          stands : (c : Bool) → appliesTo t (n .spot) (n .prices) a ≡ c → Stands t (rowOn b) T′ O′ w (turn t nodes u a here)
+          unfolding turn
+          stands true e =
+              let made : Made t (r .count) (nextNode t u n a) =
+              made-next t u (r .count) u n a inside (known-in t suits has) (centred t suits has) e (v .made u (omega (arith, kept-length (rowOn b) T O r))) in
+              let out = o .offered t (suits-scans t suits) v held (rw isNode made) (rw (isEarly, isNode) alike) in
+              record { said = rw (centred t suits has, e, turn, ← isNode) (out .said); held = out .held }
+          stands false e =
+              let met : centreMeets (factor t) (condition t a) (n .spot) ≡ true = met-here t suits has ∙ told-true isAble h in
+              let out = o .dropped t (suits-scans t suits) v held (rw isEarly (blocked-begin t n a _ u a met e)) in
+              record { said = rw (centred t suits has, e, turn) (out .said); held = out .held }
+
+        -- the turn came out as the search says
+        pub moved-offered : Moved b effects goals goalPairs nodes spot paid old u a T O r T′ O′ w
+        moved-offered = record { went = o .went; moved = λ t suits v held has. stands t suits v held has _ refl }
 
 -- ---- expand
 
@@ -311,7 +386,7 @@ module _ (b : Board) (effects goals goalPairs : List ℕ) (nodes u : ℕ) (T₀ 
     pub inside : a ≤ b .actions
     pub room : Room (rowOn b) nodes T O r
     pub table-kept : length T ≡ length T₀
-    pub keys-kept : length O ≡ length O₀
+    pub scan-kept : length O ≡ length O₀
     pub more : r₀ .count ≤ r .count
     pub begun-is : r .begun ≡ r₀ .begun
     pub along : Along T O r a
@@ -323,7 +398,7 @@ module _ (b : Board) (effects goals goalPairs : List ℕ) (nodes u : ℕ) (T₀ 
         inside = omega arith;
         room = room;
         table-kept = refl;
-        keys-kept = refl;
+        scan-kept = refl;
         more = omega arith;
         begun-is = refl;
         along = λ t suits v held. let z : t .actions - 0 ≡ t .actions = omega arith in record { whole = rw z; base = v; held = held; node = refl };
@@ -370,7 +445,7 @@ module _ (b : Board) (effects goals goalPairs : List ℕ) (nodes u : ℕ) (T₀ 
       ended e = (
         before .whole
             ∙ expand-full t nodes u (t .actions) a (searchOf (rowOn b) T O r) one (rw e at (gave .said))
-            ∙ rw (e, m .went .table-still e, m .went .keys-still e, m .went .run-still e),
+            ∙ rw (e, m .went .table-still e, m .went .scan-still e, m .went .run-still e),
         gave .held,
       )
 
@@ -384,28 +459,30 @@ module _ (b : Board) (effects goals goalPairs : List ℕ) (nodes u : ℕ) (T₀ 
                 few-states = l .room .few-states;
                 few-nodes = l .room .few-nodes;
                 table-long = omega (arith, l .room .table-long);
-                open-long = q ∙ l .room .open-long;
+                scan-long = q ∙ l .room .scan-long;
                 count-few = m .went .room;
+                chained = m .went .chained (l .room .chained);
               };
           table-kept = p ∙ l .table-kept;
-          keys-kept = q ∙ l .keys-kept;
+          scan-kept = q ∙ l .scan-kept;
           more = omega (arith, l .more, m .went .more);
           begun-is = m .went .begun-is ∙ l .begun-is;
           along = λ t suits v held. behind t suits v held e;
         }
 
     -- the table was full at it
-    pub passed-full : w .full ≡ true → ((r₀ .count ≤ w .run .count) × (w .run .count ≤ nodes) × (w .run .begun ≡ r₀ .begun)) × Done T′ O′ w
+    pub passed-full : w .full ≡ true
+        → ((r₀ .count ≤ w .run .count) × (w .run .count ≤ nodes) × (w .run .begun ≡ r₀ .begun) × Chained (rowOn b) T′ O′ (w .run .count)) × Done T′ O′ w
     passed-full e = (
-      (omega (arith, l .more, m .went .more), m .went .room, m .went .begun-is ∙ l .begun-is),
+      (omega (arith, l .more, m .went .more), m .went .room, m .went .begun-is ∙ l .begun-is, m .went .chained (l .room .chained)),
       λ t suits. rw (← row-on t b (suits .fits)) (λ v held. ended t suits v held e),
     )
 
   -- behind the last action
   pub passed-all : (T O : List ℕ) (r : Run) (a : ℕ) → b .actions ≤ a → Passed T O r a
-      → ((r₀ .count ≤ r .count) × (r .count ≤ nodes) × (r .begun ≡ r₀ .begun)) × Done T O (record { full = false; run = r })
+      → ((r₀ .count ≤ r .count) × (r .count ≤ nodes) × (r .begun ≡ r₀ .begun) × Chained (rowOn b) T O (r .count)) × Done T O (record { full = false; run = r })
   passed-all T O r a end l = (
-    (l .more, l .room .count-few, l .begun-is),
+    (l .more, l .room .count-few, l .begun-is, l .room .chained),
     λ t suits. rw (← row-on t b (suits .fits)) (λ v held. last t suits (l .along t suits v held)),
   )
     where

@@ -81,7 +81,7 @@ module _ (t : Task) (b : Board) (f : Fits t b) where
   passes-on i a P l h = rw (states-on i l) (any-ext (states t (suc i)) _ _ (λ x m. rw (f .moves-is i a x l h m)))
 
   -- lists of all leaves, one behind the other
-  joined-on : (g h : ℕ → List ℕ) → ((i : ℕ) → i < t .leaves → g i ≡ h i) → joined (b .leaves) g ≡ joined (t .leaves) h
+  pub joined-on : (g h : ℕ → List ℕ) → ((i : ℕ) → i < t .leaves → g i ≡ h i) → joined (b .leaves) g ≡ joined (t .leaves) h
   joined-on g h e = rw (f .leaves-is) (joined-ext (t .leaves) g h e)
 
   -- the first layer, from the initial state of each leaf

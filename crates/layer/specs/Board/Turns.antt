@@ -1,7 +1,7 @@
 -- The loops over a Board, a turn at a time: the actions of a leaf, the leaves one behind the other. Assumes nothing.
 use mathlib.Core.Path.{_≡_, refl, sym, ap, _∙_}
 use mathlib.Core.Logic.{_⊎_, inl, inr}
-use mathlib.Core.Bool.{Bool, true, false, cond, not, _&&_, _||_}
+use mathlib.Core.Bool.{Bool, true, false, cond, not, _&&_}
 use mathlib.Core.List.{List, [], _∷_, _++_, append-assoc}
 use Prim.Native.Nat.{ℕ, zero, suc, _+_, _-_, _*_, _≤_, _<_}
 use native.Mathlib.Nat.{not-suc-le-zero, add-assoc, suc-mul, mul-le-mul-right}
@@ -11,12 +11,9 @@ use native.Mathlib.Omega.{arith}
 use lib.Dec.{ltb, eqb}
 use lib.ListN.{length, getD, set, take, drop, length-append, length-take, length-drop, List·getD-append}
 use lib.Seq.{getD-at, set-at, take-at, drop-at, drop-cons, drop-drop}
-use Rattle.loops.specs.Count.{any, list}
-use Rattle.loops.specs.Count.Laws.{below-cases, all-ext, list-at}
+use Rattle.loops.specs.Count.{any}
+use Rattle.loops.specs.Count.Laws.{below-cases}
 use Rattle.task.specs.declared.Centre.{Centre}
-use Rattle.task.specs.Meaning.{met}
-use Rattle.task.specs.Factors.{holdsIn}
-use Rattle.task.specs.Centre.{valueIn, centreMeets}
 use Rattle.layer.specs.Settle.{settled}
 use Rattle.layer.specs.Pass.{pass}
 use Rattle.layer.specs.Layer.{mark, joined}
@@ -53,14 +50,6 @@ module _ (b : Board) (sound : Sound b) where
 
   pub moves-stay : (i a : ℕ) → i < b .leaves → a < b .actions → (x : ℕ) → x < statesOn b i → getD (b .moves) (a * rowOn b + baseOn b i + x) 0 ≤ statesOn b i
   moves-stay i a h l x k = rw add-assoc (sound .moves-in i a x h l k)
-
--- ---- conditions
-
--- the pairs on centre variables hold, by the list of the 32 pairs
-pub meets-list : (fac p : ℕ → ℕ) (c : Centre) → centreMeets fac (λ v. getD (list 32 p) v 0) c ≡ centreMeets fac p c
-unfolding centreMeets holdsIn
-meets-list fac p c =
-    all-ext 32 _ _ (λ k l. ap (λ (x : ℕ). not (eqb (fac k) 0) || met x (valueIn c k)) (list-at 32 p k l))
 
 -- ---- enabled actions
 
@@ -168,3 +157,7 @@ laid-more f i a e xs ys Q r h l q k =
           rw (l .laid, take-at J (drop a xs) a (l .long), drop-at J (drop a xs) a (l .long), drop-drop, whole, add-one, joined, ← q)
           (sym (append-assoc J Q (drop e xs)));
     }
+
+-- behind the lists so far the prices are as they were
+pub laid-rest : {f : ℕ → List ℕ} {i at : ℕ} {xs ys : List ℕ} → Laid f i at xs ys → drop at ys ≡ drop at xs
+laid-rest {f} {i} {at} {xs} l = rw (l .laid) (drop-at (joined i f) (drop at xs) at (l .long))

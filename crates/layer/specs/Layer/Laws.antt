@@ -24,7 +24,7 @@ use Rattle.layer.specs.Layer.Leaf.{leaf-length, leaf-cap, startLeaf-leng
 -- ---- base and leafPart
 
 -- a term and those before it are no more than the sum
-sum-part : (n i : ℕ) (g : ℕ → ℕ) → i < n → sum i g + g i ≤ sum n g
+pub sum-part : (n i : ℕ) (g : ℕ → ℕ) → i < n → sum i g + g i ≤ sum n g
 unfolding sum
 sum-part zero i g l = absurd (not-suc-le-zero l)
 sum-part (suc n) i g l = below-suc (λ i. sum i g + g i ≤ sum (suc n) g) n (λ i h. omega (arith, sum-part n i g h)) (omega arith) i l
@@ -42,13 +42,13 @@ part-length t i P l h = simp (length-take, length-drop) (omega (arith, base-fits
 -- ---- joined
 
 -- the length is the sum of the lengths
-joined-sum : (n : ℕ) (f : ℕ → List ℕ) (g : ℕ → ℕ) → ((j : ℕ) → j < n → length (f j) ≡ g j) → length (joined n f) ≡ sum n g
+pub joined-sum : (n : ℕ) (f : ℕ → List ℕ) (g : ℕ → ℕ) → ((j : ℕ) → j < n → length (f j) ≡ g j) → length (joined n f) ≡ sum n g
 unfolding joined sum
 joined-sum zero f g h = refl
 joined-sum (suc n) f g h = simp length-append (omega (arith, joined-sum n f g (λ j l. h j (omega arith)), h n (omega arith)))
 
 -- the list behind i others, found by their lengths
-joined-part : (n i : ℕ) (f : ℕ → List ℕ) (g : ℕ → ℕ) → ((j : ℕ) → j < n → length (f j) ≡ g j) → i < n → take (g i) (drop (sum i g) (joined n f)) ≡ f i
+pub joined-part : (n i : ℕ) (f : ℕ → List ℕ) (g : ℕ → ℕ) → ((j : ℕ) → j < n → length (f j) ≡ g j) → i < n → take (g i) (drop (sum i g) (joined n f)) ≡ f i
 unfolding joined
 joined-part zero i f g h l = absurd (not-suc-le-zero l)
 joined-part (suc n) i f g h l = of (below-cases l) (joined-part n i f g (λ j k. h j (omega arith)))

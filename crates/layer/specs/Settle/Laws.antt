@@ -81,7 +81,7 @@ module _ (M m : ℕ) (cost : ℕ → ℕ) (to : ℕ → ℕ → ℕ) where
   settled-cap P c u = omega (arith, settled-below P u, c u)
 
   -- a round from prices that are realised: so are the prices afterwards
-  round-real : (P R : List ℕ) (x : ℕ) → Real M m cost to P R → getD R x M < M → Real M m cost to P (round M m cost to x R)
+  pub round-real : (P R : List ℕ) (x : ℕ) → Real M m cost to P R → getD R x M < M → Real M m cost to P (round M m cost to x R)
   round-real P R x r lx u = go (relax-from M cost to x (getD R x M) R m u)
     where
       go : {q : ℕ} → (q ≡ getD R u M) ⊎ (Hit cost to x (getD R x M) m u q × (q ≤ getD R u M)) → q < M → Realised M m cost to P u q

@@ -1,17 +1,14 @@
--- The loops of settling, a turn at a time: one price lowered, one state looked at, one action, one round. Assumes nothing.
+-- The loops of settling, a turn at a time: one price lowered, one action. Assumes nothing.
 use mathlib.Core.Path.{_≡_, refl, ap}
-use mathlib.Core.Bool.{Bool, true, false, cond}
 use mathlib.Core.List.{List, [], _∷_}
 use Prim.Native.Nat.{ℕ, zero, suc, _+_, _-_, _≤_, _<_, min}
-use native.Mathlib.Nat.{not-suc-le-zero, le-of-suc-le-suc, sub-zero}
+use native.Mathlib.Nat.{not-suc-le-zero, le-of-suc-le-suc}
 use native.Mathlib.Numerals.{add-one}
 use native.Mathlib.Decide.{decLe}
 use native.Mathlib.Omega.{arith}
-use lib.Dec.{ltb}
 use lib.ListN.{length, getD, set, take, replicate, List·getD-eq-default}
-use lib.Seq.{set-getD, take-set-lt}
-use borrow.Author.Tests.{lt-ltb, le-ltb}
-use Rattle.layer.specs.Settle.{lower, key, keyAt, keyOf, pick, relax, settle, settled}
+use lib.Seq.{set-getD}
+use Rattle.layer.specs.Settle.{lower, pick, relax, settle, settled}
 
 -- ---- lists
 
@@ -71,65 +68,20 @@ module _ (M : ℕ) (cost : ℕ → ℕ) (to : ℕ → ℕ → ℕ) (x d : ℕ) (
   unfolding relax
   relax-more j k v Q q h e f = rw (add-one, relax, ← q, e, f) (lower-capped M Q (to j x) (d + cost j) h)
 
--- ---- pick
+-- ---- no actions
 
-pub key-open : (M f p : ℕ) → f ≡ 0 → key M f p ≡ p
-unfolding key
-key-open M f p e = rw e
-
-pub key-closed : (M f p : ℕ) → (f ≡ 0 → ⊥) → key M f p ≡ M
-unfolding key
-key-closed M zero p n = absurd (n refl)
-key-closed M (suc f) p n = refl
-
-module _ (M : ℕ) (P D : List ℕ) where
-  -- a turn of the loop: the key at i is less than that of the pick so far, or it is not
-  pub pick-here : (i : ℕ) → keyAt M P D i < keyOf M P D (pick M P D i) → pick M P D (i + 1) ≡ i + 1
-  unfolding pick
-  pick-here i h = rw (add-one, pick, lt-ltb (keyAt M P D i) (keyOf M P D (pick M P D i)) h)
-
-  pub pick-kept : (i : ℕ) → keyOf M P D (pick M P D i) ≤ keyAt M P D i → pick M P D (i + 1) ≡ pick M P D i
-  unfolding pick
-  pick-kept i h = rw (add-one, pick, le-ltb (keyAt M P D i) (keyOf M P D (pick M P D i)) h)
-
-  pub key-next : (i : ℕ) → keyOf M P D (i + 1) ≡ keyAt M P D i
-  unfolding keyOf
-  key-next i = rw add-one
-
-  pub pick-le : (i : ℕ) → pick M P D i ≤ i
-  unfolding pick
-  pick-le zero = omega arith
-  pick-le (suc i) = go (ltb (keyAt M P D i) (keyOf M P D (pick M P D i))) (pick-le i)
+module _ (M : ℕ) (cost : ℕ → ℕ) (to : ℕ → ℕ → ℕ) where
+  -- without actions no round changes a price
+  settle-none : (k : ℕ) (P D : List ℕ) → settle M 0 cost to k P D ≡ P
+  unfolding settle relax
+  settle-none zero P D = refl
+  settle-none (suc k) P D = go (pick M P D (length P)) refl (settle-none k)
     where
-      go : (b : Bool) → pick M P D i ≤ i → cond b (suc i) (pick M P D i) ≤ suc i
-      go true h = omega arith
-      go false h = omega arith
+      go : (r : ℕ) → pick M P D (length P) ≡ r → ((R E : List ℕ) → settle M 0 cost to k R E ≡ R) → settle M 0 cost to (suc k) P D ≡ P
+      go zero e rec = rw (e, settle)
+      go (suc x) e rec = rw (e, settle) (rec P (set D x 1))
 
-  -- a pick that is not 0 is one more than a state
-  pub pick-in : (r : ℕ) → r ≡ pick M P D (length P) → (r ≡ 0 → ⊥) → r - 1 < length P
-  pick-in r e n = omega (arith, pick-le (length P))
-
--- ---- settle
-
-module _ (M m : ℕ) (cost : ℕ → ℕ) (to : ℕ → ℕ → ℕ) where
-  -- before the first round, where the flags are a part of a longer list
-  pub settle-first : (P : List ℕ) (k : ℕ) → length P ≤ k → settle M m cost to (length P - 0) P (take (length P) (replicate k 0)) ≡ settled M m cost to P
+  -- without actions the prices are settled as they are
+  pub settled-none : (P : List ℕ) → settled M 0 cost to P ≡ P
   unfolding settled
-  settle-first P k h = rw (sub-zero, take-replicate (length P) k 0 h)
-
-  -- no round is left
-  pub settle-end : (P D : List ℕ) (n k : ℕ) → n ≤ k → settle M m cost to (n - k) P D ≡ P
-  unfolding settle
-  settle-end P D n k h = let none : n - k ≡ 0 = omega arith in rw none
-
-  -- no state is left
-  pub settle-stop : (P D : List ℕ) (k : ℕ) → pick M P D (length P) ≡ 0 → settle M m cost to k P D ≡ P
-  unfolding settle
-  settle-stop P D zero e = refl
-  settle-stop P D (suc k) e = rw (e, settle)
-
-  -- a round
-  pub settle-on : (P D : List ℕ) (n k x : ℕ) → k < n → pick M P (take n D) (length P) ≡ suc x → x < n
-      → settle M m cost to (n - k) P (take n D) ≡ settle M m cost to (n - (k + 1)) (relax M cost to x (getD P x M) P m) (take n (set D x 1))
-  unfolding settle
-  settle-on P D n k x h e l = let left : n - k ≡ suc (n - (k + 1)) = omega arith in rw (left, e, settle, take-set-lt n D x 1 l)
+  settled-none P = settle-none (length P) P _

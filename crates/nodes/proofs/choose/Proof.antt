@@ -1,75 +1,114 @@
--- `nodes::choose` meets its contract. The invariant: `chosen` is the choice among the nodes so far, and `low` its key. Assumes nothing.
-use mathlib.Core.Path.{_≡_, refl, sym, _∙_}
-use mathlib.Core.Logic.{⊎-elim}
-use Prim.Native.Nat.{_-_, _≤_}
+-- `nodes::choose` meets its contract: the first of the least block words leads to the first of the least keys. Assumes nothing.
+use mathlib.Core.Path.{_≡_, sym, ap, _∙_}
+use Prim.Native.Nat.{ℕ, suc, _+_, _-_, _*_, _/_, _<_}
 use native.Mathlib.Omega.{arith}
 use borrow.Author.Needs.{needs}
-use Rattle.nodes.specs.Scan.{keyOf, chooseBy}
-use Rattle.nodes.specs.Scan.Laws.{choose-here, choose-kept, key-next}
+use Rattle.nodes.specs.Scan.{chooseBy}
+use Rattle.nodes.specs.Scan.Laws.{choose-most}
+use Rattle.nodes.specs.Block.{blockWords, blockEnd, blockOf}
+use Rattle.nodes.specs.Block.Laws.{blocks-none, blocks-chosen}
 use Rattle.nodes.proofs.choose.Statement.{statement}
 use Rattle.nodes.proofs.choose.Tie as tie
 
-abbrev Inv-loop : tie.InvT-loop
-Inv-loop keys count bound low₀ chosen₀ u₀ low chosen u =
-    (u ≤ count) × (chosen ≡ chooseBy bound keys u) × (low ≡ keyOf bound keys (chooseBy bound keys u))
+sub-pick : tie.Need-sub-pick
+sub-pick c = search needs
 
-abbrev μ-loop : tie.MeasureT-loop
-μ-loop keys count bound low₀ chosen₀ u₀ low chosen u = count - u
+part-pick-start : tie.Need-part-pick-start
+part-pick-start c = search needs
 
-loop-holds : tie.Need-loop-holds Inv-loop μ-loop
-unfolding chooseBy keyOf
-loop-holds c = (omega arith, refl, refl)
+part-pick-end : tie.Need-part-pick-end
+part-pick-end c = search needs
 
-mul-if1 : tie.Need-mul-if1 Inv-loop μ-loop
-mul-if1 c = search needs
+add-pick : tie.Need-add-pick
+add-pick c = search needs
 
-shared-slice-read-if1 : tie.Need-shared-slice-read-if1 Inv-loop μ-loop
-shared-slice-read-if1 c = search needs
+pick-requires : tie.Need-pick-requires
+pick-requires c κs = search needs
 
-mul-low : tie.Need-mul-low Inv-loop μ-loop
-mul-low c = search needs
+returns : tie.Need-returns
+returns c =
+    let s = c .before .before .before .before in
+    let a = s .args in
+    let e : c .before .pick .result ≡ 0 = c .if1 .taken in
+    sym (blocks-none (a .bound) (a .scan .now) (a .count) (s .pre .0) (s .pre .1) (s .pre .2) (s .pre .3) (sym (c .before .pick .ensures) ∙ e))
 
-shared-slice-read-low : tie.Need-shared-slice-read-low Inv-loop μ-loop
-shared-slice-read-low c = search needs
+-- the block that is picked
+abbrev block : tie.Else1 → ℕ
+block c = c .before .pick .result - 1
 
-add-chosen : tie.Need-add-chosen Inv-loop μ-loop
-add-chosen c = search needs
-
-add-u : tie.Need-add-u Inv-loop μ-loop
-add-u c = search needs
-
-loop-less : tie.Need-loop-less Inv-loop μ-loop
-loop-less c = search needs
-
-loop-again : tie.Need-loop-again Inv-loop μ-loop
-loop-again c =
-    let l = c .before .before .before .loop in
+-- it has nodes
+below : (c : tie.Else1) → block c * 64 < c .before .before .before .before .args .count
+below c =
     let a = c .before .before .before .before .args in
-    ⊎-elim
-    (λ w.
-    let p = choose-here (a .bound) (a .keys .now) (l .u) (omega (arith, w .0 .taken, l .inv .2)) in
-    (omega arith, w .3 ∙ sym p, w .2 ∙ rw p (sym (key-next (a .bound) (a .keys .now) (l .u)))))
-    (λ w.
-    let p = choose-kept (a .bound) (a .keys .now) (l .u) (omega (arith, w .0 .left, l .inv .2)) in
-    (omega arith, w .2 ∙ l .inv .1 ∙ sym p, w .1 ∙ rw p (l .inv .2)))
-    (c .if1 .came)
+    omega (arith, c .before .pick .ensures, choose-most (a .bound) (blockWords (a .scan .now)) ((a .count + 63) / 64), c .if1 .left)
 
-returns : tie.Need-returns Inv-loop μ-loop
-returns c = let all : c .before .loop .u ≡ c .before .before .args .count = omega arith in c .before .loop .inv .1 ∙ rw all
+sub-block : tie.Need-sub-block
+sub-block c = search needs
+
+mul-from : tie.Need-mul-from
+mul-from c = omega (arith, below c, c .before .before .before .before .pre .1)
+
+block-end-requires : tie.Need-block-end-requires
+block-end-requires c κs = omega (arith, below c, c .before .before .before .before .pre .1)
+
+mul-pick : tie.Need-mul-pick
+mul-pick c = omega (arith, below (c .before), c .before .before .before .before .before .pre .1, c .block-end .ensures)
+
+sub-pick-2 : tie.Need-sub-pick-2
+sub-pick-2 c = omega (arith, below (c .before), c .before .before .before .before .before .pre .1, c .block-end .ensures)
+
+part-pick-start-2 : tie.Need-part-pick-start-2
+part-pick-start-2 c = omega (arith, below (c .before), c .before .before .before .before .before .pre .1, c .block-end .ensures)
+
+part-pick-end-2 : tie.Need-part-pick-end-2
+part-pick-end-2 c = search needs
+
+sub-pick-3 : tie.Need-sub-pick-3
+sub-pick-3 c = omega (arith, below (c .before .before), c .before .block-end .ensures)
+
+pick-requires-2 : tie.Need-pick-requires-2
+pick-requires-2 c κs = search needs
+
+-- the choice in the block
+inner : (c : tie.After-pick2) → let t = c .before .before .before in let a = t .before .before .before .before .args in
+    c .pick2 .result ≡ chooseBy (a .bound) (blockOf (a .scan .now) (a .count) (block t)) (blockEnd (a .count) (block t) - block t * 64)
+inner c = c .pick2 .ensures ∙ rw (c .before .before .block-end .ensures)
+
+add-result : tie.Need-add-result
+add-result c =
+    let t = c .before .before .before in
+    let s = t .before .before .before .before in
+    let a = s .args in
+    omega
+    (arith, below t, s .pre .1, inner c, choose-most (a .bound) (blockOf (a .scan .now) (a .count) (block t)) (blockEnd (a .count) (block t) - block t * 64))
+
+returns-2 : tie.Need-returns-2
+returns-2 c =
+    let t = c .before .before .before in
+    let s = t .before .before .before .before in
+    let a = s .args in
+    let e : t .before .pick .result ≡ suc (block t) = omega (arith, t .if1 .left) in
+    ap (λ (i : ℕ). block t * 64 + i) (inner c)
+    ∙ blocks-chosen (a .bound) (a .scan .now) (a .count) (s .pre .0) (s .pre .1) (s .pre .2) (s .pre .3) (block t) (sym (t .before .pick .ensures) ∙ e)
 
 pub choose-spec : {M : Type 1} → statement M
 choose-spec =
     tie.close
     (tie.spec
-    Inv-loop
-    μ-loop
-    loop-holds
-    mul-if1
-    shared-slice-read-if1
-    mul-low
-    shared-slice-read-low
-    add-chosen
-    add-u
-    loop-less
-    loop-again
-    returns)
+    sub-pick
+    part-pick-start
+    part-pick-end
+    add-pick
+    pick-requires
+    returns
+    sub-block
+    mul-from
+    block-end-requires
+    mul-pick
+    sub-pick-2
+    part-pick-start-2
+    part-pick-end-2
+    sub-pick-3
+    pick-requires-2
+    add-result
+    returns-2)

@@ -1,99 +1,134 @@
--- `nodes::is_dominated` meets its contract. The invariant: no node so far dominates. Assumes nothing.
-use mathlib.Core.Path.{_≡_, refl, sym}
-use mathlib.Core.Bool.{Bool, false}
-use mathlib.Core.List.{List}
-use Prim.Native.Nat.{ℕ, _+_, _-_, _*_, _≤_}
+-- `nodes::is_dominated` meets its contract. The invariant: the walk along the chain has come to `to`, and no node from there on dominates.
+-- Assumes nothing.
+use mathlib.Core.Path.{_≡_, sym}
+use Prim.Native.Nat.{ℕ, suc, _-_, _<_}
 use native.Mathlib.Omega.{arith}
-use lib.ListN.{length, take}
+use lib.ListN.{take}
+use lib.Seq.{length-take-le}
 use borrow.Author.Needs.{needs}
-use Rattle.loops.specs.Count.{any}
-use Rattle.loops.specs.Count.Laws.{told, any-in, any-more}
-use Rattle.task.specs.declared.Centre.{Centre}
-use Rattle.search.specs.Node.{dominates}
+use Rattle.loops.specs.Count.Laws.{told, any-in}
+use Rattle.search.specs.Node.{Node, dominates}
 use Rattle.nodes.specs.Row.{nodeIn, nodeWith}
-use Rattle.nodes.specs.Row.Laws.{row-in, row-lent, row-length}
+use Rattle.nodes.specs.Row.Laws.{row-in}
+use Rattle.nodes.specs.Chain.{Walked}
+use Rattle.nodes.specs.Chain.Laws.{class-lt, walk-start, walk-more, walk-end}
 use Rattle.nodes.proofs.is_dominated.Statement.{statement}
 use Rattle.nodes.proofs.is_dominated.Tie as tie
 
--- node k of the table dominates
-abbrev above : List ℕ → ℕ → Centre → ℕ → List ℕ → ℕ → Bool
-above table states spot paid prices k = dominates (nodeIn states table k) (nodeWith spot paid (take states prices) 0 0)
-
 abbrev Inv-loop : tie.InvT-loop
-Inv-loop table states count spot paid prices wide u₀ u = (wide ≡ 40 + states) × (u ≤ count) × (any u (above table states spot paid prices) ≡ false)
+Inv-loop table states count scan spot paid prices sign class to₀ to = Walked states table count (nodeWith spot paid (take states prices) 0 0) to
 
 abbrev μ-loop : tie.MeasureT-loop
-μ-loop table states count spot paid prices wide u₀ u = count - u
+μ-loop table states count scan spot paid prices sign class to₀ to = to
 
-add-wide : tie.Need-add-wide Inv-loop μ-loop
-add-wide c = search needs
+-- the new node
+abbrev fresh : tie.Start Inv-loop μ-loop → Node
+fresh s = nodeWith (s .args .spot) (s .args .paid) (take (s .args .states) (s .args .prices .now)) 0 0
+
+slice-aggregate-sign-of : tie.Need-slice-aggregate-sign-of Inv-loop μ-loop
+slice-aggregate-sign-of c =
+    let s = c .before .before .before .before in
+    sym (length-take-le (s .args .states) (s .args .prices .now) (s .pre .3))
+
+sign-of-requires : tie.Need-sign-of-requires Inv-loop μ-loop
+sign-of-requires c κs = search needs
+
+class-of-requires : tie.Need-class-of-requires Inv-loop μ-loop
+class-of-requires c κs = search needs
+
+-- the class is below 4,096
+small : (c : tie.After-class-of Inv-loop μ-loop) → c .class-of .result < 4096
+small c = rw (c .class-of .ensures) (class-lt (c .before .before .before .before .before .before .args .spot))
+
+add-to : tie.Need-add-to Inv-loop μ-loop
+add-to c = omega (arith, small c)
+
+mul-to : tie.Need-mul-to Inv-loop μ-loop
+mul-to c = omega (arith, small c)
+
+shared-slice-read-to : tie.Need-shared-slice-read-to Inv-loop μ-loop
+shared-slice-read-to c =
+    let s = c .before .before .before .before .before .before .before in
+    omega (arith, small (c .before), s .pre .4 .long)
 
 loop-holds : tie.Need-loop-holds Inv-loop μ-loop
-unfolding any
-loop-holds c = (refl, omega arith, refl)
+loop-holds c =
+    let s = c .before .before .before .before .before .before .before in
+    let a = s .args in
+    rw (c .before .class-of .ensures) (walk-start (a .states) (a .table .now) (a .scan .now) (a .count) (fresh s) (s .pre .4))
 
 -- where the function starts
 abbrev start : tie.In-loop Inv-loop μ-loop → tie.Start Inv-loop μ-loop
-start c = c .before .before .before .before
+start c = c .before .before .before .before .before .before .before .before .before
 
--- the row lies within the table
-room : (c : tie.In-loop Inv-loop μ-loop) → let a = start c .args in
-    c .before .loop .u * (40 + a .states) + (40 + a .states) ≤ length (a .table .now)
-room c = row-in (start c .args .states) (start c .args .count) (c .before .loop .u) (start c .args .table .now) (c .loop-test .taken) (start c .pre .2)
+-- the node that the turn is at
+abbrev node : tie.In-loop Inv-loop μ-loop → ℕ
+node c = c .before .loop .to - 1
 
-mul-at : tie.Need-mul-at Inv-loop μ-loop
-mul-at c = omega (arith, start c .good, room c)
+-- the walk has come to it
+walked : (c : tie.In-loop Inv-loop μ-loop) → let a = start c .args in Walked (a .states) (a .table .now) (a .count) (fresh (start c)) (suc (node c))
+walked c = let e : c .before .loop .to ≡ suc (node c) = omega arith in rw e at (c .before .loop .inv)
 
-add-end : tie.Need-add-end Inv-loop μ-loop
-add-end c = omega (arith, start c .good, room c)
+-- it is one of the nodes
+below : (c : tie.In-loop Inv-loop μ-loop) → node c < start c .args .count
+below c = walked c .low
 
-mul-dominates-row : tie.Need-mul-dominates-row Inv-loop μ-loop
-mul-dominates-row c = omega (arith, start c .good, room c)
+sub-u : tie.Need-sub-u Inv-loop μ-loop
+sub-u c = search needs
 
-sub-dominates-row : tie.Need-sub-dominates-row Inv-loop μ-loop
-sub-dominates-row c = omega (arith, room c)
+add-theirs : tie.Need-add-theirs Inv-loop μ-loop
+add-theirs c = omega (arith, below c, start c .pre .1)
 
-part-dominates-row-start : tie.Need-part-dominates-row-start Inv-loop μ-loop
-part-dominates-row-start c = omega (arith, room c)
+mul-theirs : tie.Need-mul-theirs Inv-loop μ-loop
+mul-theirs c = omega (arith, below c, start c .pre .1)
 
-part-dominates-row-end : tie.Need-part-dominates-row-end Inv-loop μ-loop
-part-dominates-row-end c = omega (arith, room c)
+shared-slice-read-theirs : tie.Need-shared-slice-read-theirs Inv-loop μ-loop
+shared-slice-read-theirs c = let t = c .before in omega (arith, below t, start t .pre .1, start t .pre .4 .long)
 
-dominates-row-requires : tie.Need-dominates-row-requires Inv-loop μ-loop
-dominates-row-requires c κs =
+dominates-node-requires : tie.Need-dominates-node-requires Inv-loop μ-loop
+dominates-node-requires c κs =
     let t = c .before in
-    let a = start t .args in
-    let u = t .before .loop .u in
-    (rw (row-lent (a .states) u (a .table .now)) (row-length (a .states) u (a .table .now) (room t)), start t .pre .3)
+    let s = start t in
+    let a = s .args in
+    let room = row-in (a .states) (a .count) (node t) (a .table .now) (below t) (s .pre .2) in
+    ((room, s .pre .3), (s .pre .4 .signs (node t) (below t), t .before .before .before .before .sign-of .ensures))
 
--- what the test of a row tells
-tested : (c : tie.After-dominates-row Inv-loop μ-loop) → let t = c .before .before in let a = start t .args in
-    c .dominates-row .result ≡ above (a .table .now) (a .states) (a .spot) (a .paid) (a .prices .now) (t .before .loop .u)
-tested c =
-    let t = c .before .before in
-    let a = start t .args in
-    rw (row-lent (a .states) (t .before .loop .u) (a .table .now)) at (c .dominates-row .ensures)
+-- what the test of the node tells
+tested : (c : tie.After-dominates-node Inv-loop μ-loop) → let t = c .before .before in let a = start t .args in
+    c .dominates-node .result ≡ dominates (nodeIn (a .states) (a .table .now) (node t)) (fresh (start t))
+tested c = c .dominates-node .ensures
 
 returns : tie.Need-returns Inv-loop μ-loop
 returns c =
     let t = c .before .before .before in
-    sym (any-in (start t .args .count) _ (t .before .loop .u) (t .loop-test .taken) (told (tested (c .before)) (c .if1 .taken)))
+    sym (any-in (start t .args .count) _ (node t) (below t) (told (tested (c .before)) (c .if1 .taken)))
 
-add-u : tie.Need-add-u Inv-loop μ-loop
-add-u c = search needs
+add-to-2 : tie.Need-add-to-2 Inv-loop μ-loop
+add-to-2 c = let t = c .before .before .before in omega (arith, below t, start t .pre .1)
+
+mul-to-2 : tie.Need-mul-to-2 Inv-loop μ-loop
+mul-to-2 c = let t = c .before .before .before in omega (arith, below t, start t .pre .1)
+
+shared-slice-read-to-2 : tie.Need-shared-slice-read-to-2 Inv-loop μ-loop
+shared-slice-read-to-2 c = let t = c .before .before .before .before in omega (arith, below t, start t .pre .1, start t .pre .4 .long)
 
 loop-less : tie.Need-loop-less Inv-loop μ-loop
-loop-less c = search needs
+loop-less c = let t = c .before .before .before .before in omega (arith, start t .pre .4 .links (node t) (below t), t .loop-test .taken)
 
 loop-again : tie.Need-loop-again Inv-loop μ-loop
 loop-again c =
-    let l = c .before .before .before .before .loop in
-    (refl, omega arith, any-more (l .u) _ (l .inv .2) (told (tested (c .before)) (c .if1 .left)))
+    let e = c .before in
+    let t = e .before .before .before in
+    let s = start t in
+    let a = s .args in
+    walk-more (a .states) (a .table .now) (a .scan .now) (a .count) (fresh s) (s .pre .4) (node t) (walked t) (told (tested (e .before)) (e .if1 .left))
 
 returns-2 : tie.Need-returns-2 Inv-loop μ-loop
 returns-2 c =
-    let every : c .before .loop .u ≡ c .before .before .before .before .args .count = omega arith in
-    sym (rw every at (c .before .loop .inv .2))
+    let l = c .before .loop in
+    let s = c .before .before .before .before .before .before .before .before .before in
+    let e : l .to ≡ 0 = omega arith in
+    sym (walk-end (s .args .states) (s .args .table .now) (s .args .count) (fresh s) (rw e at (l .inv)))
 
 pub is-dominated-spec : {M : Type 1} → statement M
 is-dominated-spec =
@@ -101,17 +136,22 @@ is-dominated-spec =
     (tie.spec
     Inv-loop
     μ-loop
-    add-wide
+    slice-aggregate-sign-of
+    sign-of-requires
+    class-of-requires
+    add-to
+    mul-to
+    shared-slice-read-to
     loop-holds
-    mul-at
-    add-end
-    mul-dominates-row
-    sub-dominates-row
-    part-dominates-row-start
-    part-dominates-row-end
-    dominates-row-requires
+    sub-u
+    add-theirs
+    mul-theirs
+    shared-slice-read-theirs
+    dominates-node-requires
     returns
-    add-u
+    add-to-2
+    mul-to-2
+    shared-slice-read-to-2
     loop-less
     loop-again
     returns-2)

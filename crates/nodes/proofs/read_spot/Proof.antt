@@ -1,5 +1,5 @@
 -- `nodes::read_spot` meets its contract. The invariant: the values so far are the row's. Assumes nothing.
-use mathlib.Core.Path.{_≡_}
+use mathlib.Core.Path.{_≡_, refl}
 use mathlib.Core.List.{_++_, append-nil}
 use Prim.Native.Nat.{_-_, _≤_, _%_}
 use native.Mathlib.Omega.{arith}
@@ -12,29 +12,26 @@ use Rattle.nodes.proofs.read_spot.Statement.{statement}
 use Rattle.nodes.proofs.read_spot.Tie as tie
 
 abbrev Inv-loop : tie.InvT-loop
-Inv-loop row spot₀ v₀ spot v = (v ≤ 32) × (spot ≡ record { values = list v (λ k. getD row k 0 % 256) ++ drop v (replicate 32 0) })
+Inv-loop row values₀ v₀ values v = (v ≤ 32) × (values ≡ list v (λ k. getD row k 0 % 256) ++ drop v (replicate 32 0))
 
 abbrev μ-loop : tie.MeasureT-loop
-μ-loop row spot₀ v₀ spot v = 32 - v
-
-blank-requires : tie.Need-blank-requires Inv-loop μ-loop
-blank-requires c κs = search needs
+μ-loop row values₀ v₀ values v = 32 - v
 
 loop-holds : tie.Need-loop-holds Inv-loop μ-loop
 unfolding list
-loop-holds c = (omega arith, c .blank .ensures)
+loop-holds c = (omega arith, refl)
 
-mul-with : tie.Need-mul-with Inv-loop μ-loop
-mul-with c = search needs
+mul-values : tie.Need-mul-values Inv-loop μ-loop
+mul-values c = search needs
 
-shared-slice-read-with : tie.Need-shared-slice-read-with Inv-loop μ-loop
-shared-slice-read-with c = search needs
+shared-slice-read-values : tie.Need-shared-slice-read-values Inv-loop μ-loop
+shared-slice-read-values c = search needs
 
-cast-with : tie.Need-cast-with Inv-loop μ-loop
-cast-with c = search needs
+cast-values : tie.Need-cast-values Inv-loop μ-loop
+cast-values c = search needs
 
-with-requires : tie.Need-with-requires Inv-loop μ-loop
-with-requires c κs = search needs
+array-write-values : tie.Need-array-write-values Inv-loop μ-loop
+array-write-values c = search needs
 
 add-v : tie.Need-add-v Inv-loop μ-loop
 add-v c = search needs
@@ -44,11 +41,10 @@ loop-less c = search needs
 
 loop-again : tie.Need-loop-again Inv-loop μ-loop
 loop-again c =
-    let turn = c .before .before in
-    let l = turn .before .loop in
-    let row = turn .before .before .before .before .args .row .now in
-    let filled = list-more (l .v) (λ k. getD row k 0 % 256) (replicate 32 0) (turn .loop-test .taken) in
-    (omega arith, rw (c .with .ensures, l .inv .1, filled))
+    let l = c .before .before .loop in
+    let row = c .before .before .before .args .row .now in
+    let filled = list-more (l .v) (λ k. getD row k 0 % 256) (replicate 32 0) (omega arith) in
+    (omega arith, rw (l .inv .1) filled)
 
 returns : tie.Need-returns Inv-loop μ-loop
 unfolding spotOf
@@ -60,12 +56,11 @@ read-spot-spec =
     (tie.spec
     Inv-loop
     μ-loop
-    blank-requires
     loop-holds
-    mul-with
-    shared-slice-read-with
-    cast-with
-    with-requires
+    mul-values
+    shared-slice-read-values
+    cast-values
+    array-write-values
     add-v
     loop-less
     loop-again

@@ -1,10 +1,12 @@
 -- `planner::search_tables` meets its contract: the tables are the task's, and what the search stops with is answered. Assumes nothing.
 use mathlib.Core.Path.{_≡_, refl, sym, _∙_}
 use mathlib.Core.List.{[]}
+use Prim.Native.Nat.{_+_}
 use native.Mathlib.Omega.{arith}
 use denote.Ref.{now}
 use lib.ListN.{length}
 use borrow.Author.Needs.{needs}
+use Rattle.layer.specs.Settle.Steps.{replicate-at}
 use Rattle.pricer.specs.Pricer.Laws.{moves-fit}
 use Rattle.tables.specs.Tables.{Tabled}
 use Rattle.planner.specs.Planner.{tableWords}
@@ -81,7 +83,7 @@ unfolding tableWords
 explore-requires c κs =
     let g = c .before .before .before .before .before .before .before .before in
     let s = g .before .before .before .before .before .before .before .before .before in
-    (s .pre .0, ((tabled g, g .leaf-goals .ensures), (s .pre .1 .1, s .pre .1 .2, s .pre .1 .3, refl)))
+    (s .pre .0, ((tabled g, g .leaf-goals .ensures), (s .pre .1 .1, s .pre .1 .2, s .pre .1 .3, refl, λ h _. replicate-at 16448 0 (12288 + h))))
 
 slice-aggregate-answer-of : tie.Need-slice-aggregate-answer-of
 slice-aggregate-answer-of c = sym (c .before .before .before .before .before .before .before .before .before .before .before .before .before .before .before .before .before .before .before .before .before .before .pre .1 .0 .long)

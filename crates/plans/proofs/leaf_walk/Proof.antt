@@ -1,5 +1,6 @@
--- `plans::leaf_walk` meets its contract: it lends the enabled actions and the leaf's prices in the node's row. Assumes nothing.
-use mathlib.Core.Path.{_≡_, ap, _∙_}
+-- `plans::leaf_walk` meets its contract: from a state that has kept its price nothing is walked; else it lends the enabled actions and the leaf's
+-- prices in the node's row. Assumes nothing.
+use mathlib.Core.Path.{_≡_, sym, ap, _∙_}
 use Prim.Native.Nat.{ℕ, _+_, _-_, _*_, _≤_}
 use native.Mathlib.Omega.{arith}
 use lib.ListN.{length, take, drop, length-take}
@@ -9,7 +10,7 @@ use Rattle.layer.specs.Board.{Board, baseOn, rowOn, statesOn, enabledOn}
 use Rattle.layer.specs.Board.Turns.{base-in, enabled-part, front-these, front-many}
 use Rattle.layer.specs.Lent.{boardOf}
 use Rattle.plans.specs.Walk.{pricesOn, actsOn}
-use Rattle.plans.specs.Walk.Laws.{spot-at, slice-is, slice-length, walkable-here, walked-here}
+use Rattle.plans.specs.Walk.Laws.{spot-at, slice-is, slice-length, kept-here, walkable-here, walked-here}
 use Rattle.plans.proofs.leaf_walk.Statement.{statement}
 use Rattle.plans.proofs.leaf_walk.Tie as tie
 
@@ -30,6 +31,72 @@ add-first c = search needs
 
 mul-first : tie.Need-mul-first
 mul-first c = search needs
+
+-- the Board that is lent
+abbrev board : tie.Start → Board
+board s =
+    let a = s .args in
+    boardOf (a .leaves) (a .actions) (a .bases .now) (a .moves .now) (a .costs .now) (a .kinds .now) (a .factors) (a .conditions .now)
+
+-- the leaf lies within the node's row
+room : (s : tie.Start) → let b = board s in
+    (s .args .node * (40 + rowOn b) + (40 + rowOn b) ≤ length (s .args .table .now)) × (baseOn b (s .args .i) + length (s .args .begins .now) ≤ rowOn b)
+    × (length (s .args .begins .now) ≡ statesOn b (s .args .i)) × (rowOn b ≤ 1024)
+room s =
+    let b = board s in
+    let T = s .args .table .now in
+    let i = s .args .i in
+    let sound = s .pre .0 .0 in
+    let l = s .pre .0 .1 in
+    let many = ap length (slice-is b sound T i (s .args .node) l) in
+    let long = slice-length b sound T i (s .args .node) l (s .pre .0 .2) in
+    omega (arith, s .pre .0 .2, many, long, s .pre .1 .0 .same, base-in b sound i l, sound .bases-rise i l, sound .few-all)
+
+-- its prices, as they are lent
+lent : (s : tie.Start) → let b = board s in
+    let from = s .args .node * (40 + rowOn b) + (40 + baseOn b (s .args .i)) in
+    take (from + length (s .args .begins .now) - from) (drop from (s .args .table .now)) ≡ pricesOn b (s .args .table .now) (s .args .i) (s .args .node)
+lent s =
+    let b = board s in
+    let from = s .args .node * (40 + rowOn b) + (40 + baseOn b (s .args .i)) in
+    let many : from + length (s .args .begins .now) - from ≡ statesOn b (s .args .i) = omega (arith, room s .2) in
+    ap (λ (k : ℕ). take k (drop from (s .args .table .now))) many
+    ∙ slice-is b (s .pre .0 .0) (s .args .table .now) (s .args .i) (s .args .node) (s .pre .0 .1)
+
+-- where the function starts, seen from before its test
+abbrev entry : tie.After-shared-slice-known9 → tie.Start
+entry c = c .before .before .before .before .before .before .before .before .before .before .before
+
+add-from : tie.Need-add-from
+add-from c = omega (arith, room (entry c))
+
+add-from-2 : tie.Need-add-from-2
+add-from-2 c = omega (arith, room (entry c))
+
+add-end : tie.Need-add-end
+add-end c = omega (arith, room (entry c), entry c .good .1 .1 .1 .1 .1 .1 .1 .1 .0)
+
+mul-first-depth : tie.Need-mul-first-depth
+mul-first-depth c = omega (arith, room (entry c), entry c .good .1 .1 .1 .1 .1 .1 .1 .1 .0)
+
+sub-first-depth : tie.Need-sub-first-depth
+sub-first-depth c = search needs
+
+part-first-depth-start : tie.Need-part-first-depth-start
+part-first-depth-start c = search needs
+
+part-first-depth-end : tie.Need-part-first-depth-end
+part-first-depth-end c = omega (arith, room (entry c), entry c .good .1 .1 .1 .1 .1 .1 .1 .1 .0)
+
+first-depth-requires : tie.Need-first-depth-requires
+first-depth-requires c κs = let s = entry (c .before) in rw (lent s) (s .pre .1 .0 .inside, s .pre .1 .0 .same)
+
+returns : tie.Need-returns
+returns c =
+    let s = entry (c .before .before .before) in
+    let a = s .args in
+    kept-here (board s) (a .table .now) (a .i) (a .node) (a .begins .now) _ (a .state) (lent s) (s .pre .1 .0)
+    (a .total) (a .place) (a .plan .now) (sym (c .before .first-depth .ensures) ∙ c .if1 .taken)
 
 add-read-spot : tie.Need-add-read-spot
 add-read-spot c = search needs
@@ -58,30 +125,9 @@ slice-aggregate-enabled c = search needs
 enabled-requires : tie.Need-enabled-requires
 enabled-requires c κs = search needs
 
--- the Board that is lent
-abbrev board : tie.Start → Board
-board s =
-    let a = s .args in
-    boardOf (a .leaves) (a .actions) (a .bases .now) (a .moves .now) (a .costs .now) (a .kinds .now) (a .factors) (a .conditions .now)
-
 -- where the function starts, seen from behind the enabled actions
 abbrev start : tie.After-enabled → tie.Start
-start c = c .before .before .before .before .before .before .before .before .before .before .before .before .before .before .before
-
--- the leaf lies within the node's row
-room : (c : tie.After-enabled) → let s = start c in let b = board s in
-    (s .args .node * (40 + rowOn b) + (40 + rowOn b) ≤ length (s .args .table .now)) × (baseOn b (s .args .i) + length (s .args .begins .now) ≤ rowOn b)
-    × (length (s .args .begins .now) ≡ statesOn b (s .args .i)) × (rowOn b ≤ 1024)
-room c =
-    let s = start c in
-    let b = board s in
-    let T = s .args .table .now in
-    let i = s .args .i in
-    let sound = s .pre .0 .0 in
-    let l = s .pre .0 .1 in
-    let many = ap length (slice-is b sound T i (s .args .node) l) in
-    let long = slice-length b sound T i (s .args .node) l (s .pre .0 .2) in
-    omega (arith, s .pre .0 .2, many, long, s .pre .1 .0 .same, base-in b sound i l, sound .bases-rise i l, sound .few-all)
+start c = c .before .before .before .before .before .before .before .before .before .before .before .before .before .before .before .before .before .before
 
 -- the actions at the front of the list are the enabled ones
 front : (c : tie.After-enabled) → let s = start c in
@@ -98,35 +144,14 @@ front c =
 counted : (c : tie.After-enabled) → c .enabled .result ≡ length (take (c .enabled .result) (c .enabled .last .1 .1 .1 .1 .1 .1 .0))
 counted c = front-many (c .enabled .ensures)
 
--- the leaf's prices, as they are lent
-lent : (c : tie.After-enabled) → let s = start c in let b = board s in
-    let from = s .args .node * (40 + rowOn b) + (40 + baseOn b (s .args .i)) in
-    take (from + length (s .args .begins .now) - from) (drop from (s .args .table .now)) ≡ pricesOn b (s .args .table .now) (s .args .i) (s .args .node)
-lent c =
-    let s = start c in
-    let b = board s in
-    let from = s .args .node * (40 + rowOn b) + (40 + baseOn b (s .args .i)) in
-    let many : from + length (s .args .begins .now) - from ≡ statesOn b (s .args .i) = omega (arith, room c .2) in
-    ap (λ (k : ℕ). take k (drop from (s .args .table .now))) many
-    ∙ slice-is b (s .pre .0 .0) (s .args .table .now) (s .args .i) (s .args .node) (s .pre .0 .1)
-
-add-from : tie.Need-add-from
-add-from c = omega (arith, room (c .before))
-
-add-from-2 : tie.Need-add-from-2
-add-from-2 c = omega (arith, room (c .before))
-
 array-share-prefix-acts : tie.Need-array-share-prefix-acts
 array-share-prefix-acts c = omega (arith, counted (c .before), length-take (c .before .enabled .result) (c .before .enabled .last .1 .1 .1 .1 .1 .1 .0))
 
 slice-aggregate-leaf-back : tie.Need-slice-aggregate-leaf-back
 slice-aggregate-leaf-back c = counted (c .before .before)
 
-add-leaf-back : tie.Need-add-leaf-back
-add-leaf-back c = omega (arith, room (c .before .before), start (c .before .before) .good .1 .1 .1 .1 .1 .1 .1 .1 .0)
-
 mul-leaf-back : tie.Need-mul-leaf-back
-mul-leaf-back c = omega (arith, room (c .before .before), start (c .before .before) .good .1 .1 .1 .1 .1 .1 .1 .1 .0)
+mul-leaf-back c = omega (arith, room (start (c .before .before)), start (c .before .before) .good .1 .1 .1 .1 .1 .1 .1 .1 .0)
 
 sub-leaf-back : tie.Need-sub-leaf-back
 sub-leaf-back c = search needs
@@ -135,14 +160,14 @@ part-leaf-back-start : tie.Need-part-leaf-back-start
 part-leaf-back-start c = search needs
 
 part-leaf-back-end : tie.Need-part-leaf-back-end
-part-leaf-back-end c = omega (arith, room (c .before .before), start (c .before .before) .good .1 .1 .1 .1 .1 .1 .1 .1 .0)
+part-leaf-back-end c = omega (arith, room (start (c .before .before)), start (c .before .before) .good .1 .1 .1 .1 .1 .1 .1 .1 .0)
 
 leaf-back-requires : tie.Need-leaf-back-requires
 leaf-back-requires c κs =
     let e = c .before .before .before .before .before in
     let s = start e in
     let a = s .args in (
-      walkable-here (board s) (a .table .now) (a .i) (a .node) (a .begins .now) _ _ _ (a .state) (front e) (counted e) (lent e) (s .pre .1 .0),
+      walkable-here (board s) (a .table .now) (a .i) (a .node) (a .begins .now) _ _ _ (a .state) (front e) (counted e) (lent s) (s .pre .1 .0),
       s .pre .1 .1 .0,
       s .pre .1 .1 .1,
       s .pre .1 .1 .2,
@@ -154,12 +179,12 @@ same-length c = search needs
 same-length-2 : tie.Need-same-length-2
 same-length-2 c = search needs
 
-returns : tie.Need-returns
-returns c =
+returns-2 : tie.Need-returns-2
+returns-2 c =
     let e = c .before .before .before .before .before .before .before .before .before .before in
     let s = start e in
     let a = s .args in
-    walked-here (board s) (a .table .now) (a .i) (a .node) (a .begins .now) _ _ _ (a .state) (front e) (counted e) (lent e)
+    walked-here (board s) (a .table .now) (a .i) (a .node) (a .begins .now) _ _ _ (a .state) (front e) (counted e) (lent s)
     (a .total) (a .place) (a .plan .now) _ _
     (c .before .before .before .before .leaf-back .ensures)
 
@@ -173,6 +198,15 @@ leaf-walk-spec =
     shared-slice-read-at
     add-first
     mul-first
+    add-from
+    add-from-2
+    add-end
+    mul-first-depth
+    sub-first-depth
+    part-first-depth-start
+    part-first-depth-end
+    first-depth-requires
+    returns
     add-read-spot
     add-read-spot-2
     mul-read-spot
@@ -182,11 +216,8 @@ leaf-walk-spec =
     read-spot-requires
     slice-aggregate-enabled
     enabled-requires
-    add-from
-    add-from-2
     array-share-prefix-acts
     slice-aggregate-leaf-back
-    add-leaf-back
     mul-leaf-back
     sub-leaf-back
     part-leaf-back-start
@@ -194,4 +225,4 @@ leaf-walk-spec =
     leaf-back-requires
     same-length
     same-length-2
-    returns)
+    returns-2)

@@ -5,7 +5,7 @@ use mathlib.Core.List.{List, [], _∷_}
 use Prim.Native.Nat.{ℕ, zero, suc, _+_, _*_, _≤_, _<_}
 use native.Mathlib.Nat.{not-suc-le-zero}
 use native.Mathlib.Omega.{arith}
-use lib.Dec.{eqb}
+use lib.Dec.{ltb, eqb}
 use lib.ListN.{length, getD, set, take, drop, replicate, length-drop}
 use lib.Seq.{length-take-le, take-take, drop-drop, getD-take, getD-drop}
 use Rattle.layer.specs.Settle.Turns.{at-any}
@@ -19,6 +19,7 @@ use Rattle.nodes.specs.Row.{spotOf, nodeOf, rowIn, nodeIn}
 use Rattle.nodes.specs.Scan.{goalsBy}
 use Rattle.wayback.specs.declared.Ended.{Ended}
 use Rattle.wayback.specs.Steps.{tableBack, Walkable}
+use Rattle.wayback.specs.Ready.{back-kept}
 use Rattle.wayback.specs.Walked.{Walked}
 use Rattle.plans.specs.Walk.{nodeOn, pricesOn, actsOn, beginsOn, backFrom, WalkableFrom, backOn, WalkableOn, overOn, RowIn}
 
@@ -99,6 +100,12 @@ begins-passed b starts T i u p a sound l z row e q =
     ∙ rw (slice-is b sound T i p l, e, q) (sym (begins-later b starts T i u z))
 
 -- ---- one leaf's walk
+
+-- from a state that has kept its price, by the prices of the leaf as they are lent, nothing is walked
+pub kept-here : (b : Board) (T : List ℕ) (i u : ℕ) (B P : List ℕ) (y : ℕ) → P ≡ pricesOn b T i u → WalkableFrom b T i u B y → (total p : ℕ) (plan : List ℕ)
+    → cond (ltb (getD P y mark) mark && eqb (getD B y mark) (getD P y mark)) 0 mark ≡ 0
+    → Walked (backFrom b T i u B y) total p plan (record { state = y; place = p }) plan
+kept-here b T i u B P y prices w total p plan e = back-kept _ _ _ _ _ _ _ _ _ w total p plan (rw prices at e)
 
 -- the enabled actions and the prices of the leaf, as they are lent
 module _ (b : Board) (T : List ℕ) (i u : ℕ) (B acts P : List ℕ) (m y : ℕ) (these : acts ≡ actsOn b T i u) (many : m ≡ length acts)

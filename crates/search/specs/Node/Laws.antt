@@ -135,6 +135,12 @@ dominates-out m n a b e =
       low = λ k h. leb-true _ _ (all-out (length (n .prices)) _ l k h);
     }
 
+pub dominates-in : (m n : Node) → Dominates m n → dominates m n ≡ true
+unfolding dominates
+dominates-in m n d =
+    and-in (all-in 32 _ (λ v h. eq-eqb (valueIn (m .spot) v) _ (ap (λ (c : Centre). valueIn c v) (d .same))))
+    (and-in (le-leb (m .paid) _ (d .cheap)) (all-in (length (n .prices)) _ (λ k h. le-leb (getD (m .prices) k mark) _ (d .low k h))))
+
 -- a node dominates itself
 pub dominates-refl : (n : Node) → dominates n n ≡ true
 unfolding dominates

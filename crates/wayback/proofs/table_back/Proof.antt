@@ -3,7 +3,7 @@ use mathlib.Core.Path.{_≡_}
 use native.Mathlib.Omega.{arith}
 use lib.ListN.{length}
 use borrow.Author.Needs.{needs}
-use Rattle.wayback.specs.Ready.{table-length, table-sourced, table-few, table-way}
+use Rattle.wayback.specs.Ready.{table-length, table-sourced, table-passable, table-few, table-way}
 use Rattle.wayback.proofs.table_back.Statement.{statement}
 use Rattle.wayback.proofs.table_back.Tie as tie
 
@@ -22,7 +22,7 @@ walk-requires c κs =
     let long : length (d .depths-of .last .1 .1 .1 .1 .0) ≡ length (s .args .prices .now) = table-length _ _ _ _ _ _ w _ (d .depths-of .ensures) in (
       omega (arith, w .inside),
       w .acts-long,
-      rw long (w .long),
+      table-passable _ _ _ _ _ _ w _ (d .depths-of .ensures),
       table-sourced _ _ _ _ _ _ w _ (d .depths-of .ensures),
       table-few _ _ _ _ _ _ w _ (d .depths-of .ensures),
       s .pre .2,

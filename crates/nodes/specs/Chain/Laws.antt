@@ -1,0 +1,484 @@
+-- Laws of the scan words: signatures of reachable states, the class of a centre state, chains as nodes are linked, and walks along a chain.
+-- Assumes nothing.
+use mathlib.Core.Path.{_≡_, refl, sym, ap, ap₂, _∙_}
+use mathlib.Core.Logic.{_⊎_, inl, inr}
+use mathlib.Core.Bool.{true, false, true≢false}
+use mathlib.Core.List.{List}
+use Prim.Native.Nat.{ℕ, zero, suc, _+_, _*_, _/_, _%_, _^_, _≤_, _<_, min, max}
+use native.Mathlib.Nat.{not-suc-le-zero, one-mul}
+use native.Mathlib.Numerals.{add-one}
+use native.Mathlib.Omega.{arith}
+use native.Mathlib.Decide.{ℕ-discrete, decLe, decLt}
+use borrow.Author.Tests.{lt-ltb, le-ltb, leb-true, eqb-true}
+use lib.Arith.{bin-ind}
+use lib.Bits.{bitOr, or-step, or-comm, or-self}
+use lib.Dec.{leb, eqb, lit<}
+use lib.Pow.{shl-exact}
+use lib.ListN.{length, getD, set, drop, length-set, length-drop}
+use lib.Seq.{getD-set-same, getD-set-other, length-take-le}
+use Rattle.loops.specs.Count.{all, any}
+use Rattle.loops.specs.Count.Laws.{and-out, all-out, any-out, below-cases, test-cases}
+use Rattle.task.specs.declared.Centre.{Centre}
+use Rattle.task.specs.Centre.{valueIn}
+use Rattle.layer.specs.Layer.{mark}
+use Rattle.search.specs.Node.{Node, dominates}
+use Rattle.nodes.specs.Row.{nodeOf, rowIn, nodeIn}
+use Rattle.nodes.specs.Row.Laws.{row-length}
+use Rattle.nodes.specs.Block.{blockAt, Held, Blocked, freshTo, retiredTo}
+use Rattle.nodes.specs.Block.Laws.{blocked-change, blocked-none, fresh-length, fresh-other, fresh-block, retired-length, retired-key, blocked-retire}
+use Rattle.nodes.specs.Chain.{signAt, linkAt, headAt, classTo, classOf, signTo, signOf, chainedTo, linkedTo, Chained, Walked}
+
+-- ---- bits
+
+-- all digits of the union but the last
+or-half : (a b : ℕ) → bitOr a b / 2 ≡ bitOr (a / 2) (b / 2)
+or-half a b = omega (arith, or-step a b)
+
+-- the last digit of the union
+or-odd : (a b : ℕ) → bitOr a b % 2 ≡ max (a % 2) (b % 2)
+or-odd a b = omega (arith, or-step a b)
+
+-- three sets of bits, joined in either order
+pub or-assoc : (a b c : ℕ) → bitOr (bitOr a b) c ≡ bitOr a (bitOr b c)
+or-assoc a =
+    bin-ind (λ (n : ℕ). (b c : ℕ) → bitOr (bitOr n b) c ≡ bitOr n (bitOr b c)) (λ b c. refl)
+    (λ n ih b c.
+    or-step (bitOr n b) c
+    ∙ ap₂ (λ (x y : ℕ). x * 2 + y)
+    (ap (λ (x : ℕ). bitOr x (c / 2)) (or-half n b) ∙ ih (b / 2) (c / 2) ∙ ap (bitOr (n / 2)) (sym (or-half b c)))
+    (omega (arith, or-odd n b, or-odd b c))
+    ∙ sym (or-step n (bitOr b c))) a
+
+-- bits within a set stay within it when it grows
+or-more : (a b x : ℕ) → bitOr a b ≡ b → bitOr a (bitOr b x) ≡ bitOr b x
+or-more a b x e = sym (or-assoc a b x) ∙ ap (λ (y : ℕ). bitOr y x) e
+
+-- and also when both grow
+or-both : (a b x : ℕ) → bitOr a b ≡ b → bitOr (bitOr a x) (bitOr b x) ≡ bitOr b x
+or-both a b x e =
+    or-assoc a x (bitOr b x)
+    ∙ ap (bitOr a) (ap (bitOr x) (or-comm b x) ∙ sym (or-assoc x x b) ∙ ap (λ (y : ℕ). bitOr y b) (or-self x) ∙ or-comm x b)
+    ∙ or-more a b x e
+
+-- one bit, as a word that is shifted
+pub one-bit : (k : ℕ) → (1 * 2 ^ (k % 64)) % 2 ^ 64 ≡ 2 ^ (k % 64)
+one-bit k = shl-exact {a = 1} 1 (k % 64) 64 (lit< tt) (omega arith) ∙ one-mul (2 ^ (k % 64))
+
+-- ---- signatures
+
+-- a turn of the loop: state k is reachable
+pub sign-here : (P : List ℕ) (k : ℕ) → getD P k mark < mark → signTo P (k + 1) ≡ bitOr (signTo P k) (2 ^ (k % 64))
+unfolding signTo
+sign-here P k h = rw (add-one, signTo, lt-ltb (getD P k mark) mark h)
+
+-- it is not
+pub sign-kept : (P : List ℕ) (k : ℕ) → mark ≤ getD P k mark → signTo P (k + 1) ≡ signTo P k
+unfolding signTo
+sign-kept P k h = rw (add-one, signTo, le-ltb (getD P k mark) mark h)
+
+-- where no price of P is higher than that of Q, the signature of P has every bit of that of Q
+sign-below : (P Q : List ℕ) (n : ℕ) → ((k : ℕ) → k < n → getD P k mark ≤ getD Q k mark) → bitOr (signTo Q n) (signTo P n) ≡ signTo P n
+unfolding signTo
+sign-below P Q zero h = refl
+sign-below P Q (suc n) h =
+    go (decLt (getD Q n mark) mark) (decLt (getD P n mark) mark) (h n (omega arith)) (sign-below P Q n (λ k l. h k (omega arith)))
+  where
+    go : Dec (getD Q n mark < mark) → Dec (getD P n mark < mark) → getD P n mark ≤ getD Q n mark → bitOr (signTo Q n) (signTo P n) ≡ signTo P n
+        → bitOr (signTo Q (suc n)) (signTo P (suc n)) ≡ signTo P (suc n)
+    go (yes q) (yes p) l e =
+        rw (lt-ltb (getD Q n mark) mark q, lt-ltb (getD P n mark) mark p) (or-both (signTo Q n) (signTo P n) (2 ^ (n % 64)) e)
+    go (yes q) (no p) l e = absurd (omega arith)
+    go (no q) (yes p) l e =
+        rw (le-ltb (getD Q n mark) mark (omega arith), lt-ltb (getD P n mark) mark p) (or-more (signTo Q n) (signTo P n) (2 ^ (n % 64)) e)
+    go (no q) (no p) l e = rw (le-ltb (getD Q n mark) mark (omega arith), le-ltb (getD P n mark) mark (omega arith)) e
+
+-- the same of two lists of one length
+pub sign-within : (P Q : List ℕ) → length P ≡ length Q → ((k : ℕ) → k < length Q → getD P k mark ≤ getD Q k mark)
+    → bitOr (signOf Q) (signOf P) ≡ signOf P
+sign-within P Q e h = rw e (sign-below P Q (length Q) h)
+
+-- ---- classes
+
+-- a turn of the loop
+pub class-more : (xs : List ℕ) (v : ℕ) → classTo xs (v + 1) ≡ (classTo xs v * 1637 + getD xs v 0) % 4096
+unfolding classTo
+class-more xs v = rw add-one
+
+-- a class is below 4,096
+class-to-lt : (xs : List ℕ) (n : ℕ) → classTo xs n < 4096
+unfolding classTo
+class-to-lt xs zero = omega arith
+class-to-lt xs (suc n) = omega arith
+
+pub class-lt : (c : Centre) → classOf c < 4096
+unfolding classOf
+class-lt c = class-to-lt (c .values) 32
+
+-- the same values have the same class
+class-same : (xs ys : List ℕ) (n : ℕ) → ((v : ℕ) → v < n → getD xs v 0 ≡ getD ys v 0) → classTo xs n ≡ classTo ys n
+unfolding classTo
+class-same xs ys zero h = refl
+class-same xs ys (suc n) h =
+    ap₂ (λ (x y : ℕ). (x * 1637 + y) % 4096) (class-same xs ys n (λ v l. h v (omega arith))) (h n (omega arith))
+
+-- ---- dominance
+
+module _ (m n : Node) (e : dominates m n ≡ true) where
+  -- a node that dominates has the same class
+  pub dominates-class : classOf (m .spot) ≡ classOf (n .spot)
+  unfolding dominates classOf
+  dominates-class =
+      let (p, _) = and-out (all 32 (λ v. eqb (valueIn (m .spot) v) (valueIn (n .spot) v))) _ e in
+      class-same (m .spot .values) (n .spot .values) 32 (λ v l. eqb-true _ _ (all-out 32 _ p v l))
+
+  -- no price of it is higher
+  pub dominates-low : (k : ℕ) → k < length (n .prices) → getD (m .prices) k mark ≤ getD (n .prices) k mark
+  unfolding dominates
+  dominates-low k l =
+      let (_, q) = and-out (all 32 (λ v. eqb (valueIn (m .spot) v) (valueIn (n .spot) v))) _ e in
+      let (_, r) = and-out (leb (m .paid) (n .paid)) _ q in
+      leb-true _ _ (all-out (length (n .prices)) _ r k l)
+
+-- a node of another class does not dominate
+pub other-class : (m n : Node) → (classOf (m .spot) ≡ classOf (n .spot) → ⊥) → dominates m n ≡ false
+other-class m n d = go (test-cases (dominates m n))
+  where
+    go : (dominates m n ≡ true) ⊎ (dominates m n ≡ false) → dominates m n ≡ false
+    go (inl e) = absurd (d (dominates-class m n e))
+    go (inr e) = e
+
+-- a node whose signature lacks a bit does not dominate
+pub other-sign : (m n : Node) → length (m .prices) ≡ length (n .prices)
+    → (bitOr (signOf (n .prices)) (signOf (m .prices)) ≡ signOf (m .prices) → ⊥) → dominates m n ≡ false
+other-sign m n l d = go (test-cases (dominates m n))
+  where
+    go : (dominates m n ≡ true) ⊎ (dominates m n ≡ false) → dominates m n ≡ false
+    go (inl e) = absurd (d (sign-within (m .prices) (n .prices) l (dominates-low m n e)))
+    go (inr e) = e
+
+-- a node of a table has S prices
+pub prices-length : (S u : ℕ) (T : List ℕ) → u * (40 + S) + (40 + S) ≤ length T → length (nodeIn S T u .prices) ≡ S
+unfolding nodeOf
+prices-length S u T h = length-take-le S (drop 40 (rowIn S T u)) (simp length-drop (omega (arith, row-length S u T h)))
+
+-- ---- chains
+
+-- no node
+pub chained-none : (S : ℕ) (T C : List ℕ) → length C ≡ 16448 → ((h : ℕ) → h < 4096 → headAt C h ≡ 0) → ((b : ℕ) → b < 64 → blockAt C b ≡ mark)
+    → Chained S T C 0
+chained-none S T C l z m = record {
+  long = l;
+  signs = λ u h. absurd (not-suc-le-zero h);
+  links = λ u h. absurd (not-suc-le-zero h);
+  skips = λ u w h. absurd (not-suc-le-zero h);
+  linked = λ u w h. absurd (not-suc-le-zero h);
+  heads = λ h b. omega (arith, z h b);
+  last = λ h w b a k. absurd (not-suc-le-zero k);
+  headed = λ h w b e. absurd (omega (arith, z h b));
+  blocks = blocked-none C m;
+}
+
+-- no node, after all block words are set to the mark
+pub chained-fresh : (S : ℕ) (T C : List ℕ) → length C ≡ 16448 → ((h : ℕ) → h < 4096 → headAt C h ≡ 0) → Chained S T (freshTo C 64) 0
+chained-fresh S T C l z =
+    chained-none S T (freshTo C 64) (fresh-length C 64 ∙ l) (λ h b. fresh-other C 64 (12288 + h) (omega arith) ∙ z h b)
+    (λ b k. fresh-block C 64 b (omega arith) k)
+
+-- signatures, links and heads are the same, and the block words are right
+chained-words : (S : ℕ) (T C C′ : List ℕ) (n : ℕ) → n ≤ 4096 → length C′ ≡ length C → ((i : ℕ) → 4096 ≤ i → i < 16384 → getD C′ i 0 ≡ getD C i 0)
+    → Blocked C′ n → Chained S T C n → Chained S T C′ n
+chained-words S T C C′ n few l s k r = record {
+  long = l ∙ r .long;
+  signs = λ u h. s (4096 + u) (omega arith) (omega arith) ∙ r .signs u h;
+  links = λ u h. omega (arith, s (8192 + u) (omega arith) (omega arith), r .links u h);
+  skips = λ u w h a. r .skips u w h (omega (arith, s (8192 + u) (omega arith) (omega arith)));
+  linked = λ u w h e. r .linked u w h (sym (s (8192 + u) (omega arith) (omega arith)) ∙ e);
+  heads = λ h b. omega (arith, s (12288 + h) (omega arith) (omega arith), r .heads h b);
+  last = λ h w b a. r .last h w b (omega (arith, s (12288 + h) (omega arith) (omega arith)));
+  headed = λ h w b e. r .headed h w b (sym (s (12288 + h) (omega arith) (omega arith)) ∙ e);
+  blocks = k;
+}
+
+-- a node is retired
+pub chained-retire : (S : ℕ) (T C : List ℕ) (n u : ℕ) → n ≤ 4096 → u < n → Chained S T C n → Chained S T (retiredTo C u n) n
+chained-retire S T C n u few inside r =
+    chained-words S T C (retiredTo C u n) n few (retired-length C u n)
+    (λ i l h. retired-key C u n i h ∙ getD-set-other C u i mark 0 (λ e. omega arith)) (blocked-retire C u n (r .long) few inside (r .blocks)) r
+
+-- another table with the same nodes
+pub chained-same : (S : ℕ) (T T′ C : List ℕ) (n : ℕ) → ((u : ℕ) → u < n → nodeIn S T′ u ≡ nodeIn S T u) → Chained S T C n → Chained S T′ C n
+chained-same S T T′ C n s r = record {
+  long = r .long;
+  signs = λ u h. r .signs u h ∙ ap (λ (m : Node). signOf (m .prices)) (sym (s u h));
+  links = r .links;
+  skips = λ u w h a b e. r .skips u w h a b (sym (class w (omega arith)) ∙ e ∙ class u h);
+  linked = λ u w h e. class w (omega (arith, r .links u h)) ∙ r .linked u w h e ∙ sym (class u h);
+  heads = r .heads;
+  last = λ h w b a k e. r .last h w b a k (sym (class w k) ∙ e);
+  headed = λ h w b e. class w (omega (arith, r .heads h b)) ∙ r .headed h w b e;
+  blocks = r .blocks;
+}
+  where
+    class : (u : ℕ) → u < n → classOf (nodeIn S T′ u .spot) ≡ classOf (nodeIn S T u .spot)
+    class u h = ap (λ (m : Node). classOf (m .spot)) (s u h)
+
+-- ---- a node is linked
+
+-- the scan words stay as many
+chain-length : (C : List ℕ) (n key s h : ℕ) → length (chainedTo C n key s h) ≡ length C
+unfolding chainedTo
+chain-length C n key s h = simp length-set
+
+-- also with the block's word
+pub linked-length : (C : List ℕ) (n key s h : ℕ) → length (linkedTo C n key s h) ≡ length C
+unfolding linkedTo
+linked-length C n key s h =
+    length-set (chainedTo C n key s h) (16384 + n / 64) (min (blockAt C (n / 64)) key) ∙ chain-length C n key s h
+
+-- before the block words, those of the chains
+linked-chain : (C : List ℕ) (n key s h i : ℕ) → i < 16384 → getD (linkedTo C n key s h) i 0 ≡ getD (chainedTo C n key s h) i 0
+unfolding linkedTo
+linked-chain C n key s h i b = getD-set-other (chainedTo C n key s h) (16384 + n / 64) i (min (blockAt C (n / 64)) key) 0 (λ e. omega arith)
+
+-- a word that is none of the four
+chain-other : (C : List ℕ) (n key s h i : ℕ) → (i ≡ n → ⊥) → (i ≡ 4096 + n → ⊥) → (i ≡ 8192 + n → ⊥) → (i ≡ 12288 + h → ⊥)
+    → getD (chainedTo C n key s h) i 0 ≡ getD C i 0
+unfolding chainedTo
+chain-other C n key s h i p q r t =
+    getD-set-other (set (set (set C n key) (4096 + n) s) (8192 + n) (headAt C h)) (12288 + h) i (n + 1) 0 t
+    ∙ getD-set-other (set (set C n key) (4096 + n) s) (8192 + n) i (headAt C h) 0 r
+    ∙ getD-set-other (set C n key) (4096 + n) i s 0 q
+    ∙ getD-set-other C n i key 0 p
+
+-- of the open keys only the node's is stored
+pub linked-key : (C : List ℕ) (n key s h u : ℕ) → u < 4096 → getD (linkedTo C n key s h) u 0 ≡ getD (set C n key) u 0
+unfolding chainedTo
+linked-key C n key s h u b =
+    linked-chain C n key s h u (omega arith)
+    ∙ getD-set-other (set (set (set C n key) (4096 + n) s) (8192 + n) (headAt C h)) (12288 + h) u (n + 1) 0 (λ e. omega arith)
+    ∙ getD-set-other (set (set C n key) (4096 + n) s) (8192 + n) u (headAt C h) 0 (λ e. omega arith)
+    ∙ getD-set-other (set C n key) (4096 + n) u s 0 (λ e. omega arith)
+
+module _ (C : List ℕ) (n key s h : ℕ) (long : length C ≡ 16448) (few : n < 4096) (small : h < 4096) where
+  -- the node's signature
+  linked-sign : signAt (linkedTo C n key s h) n ≡ s
+  unfolding chainedTo
+  linked-sign =
+      linked-chain C n key s h (4096 + n) (omega arith)
+      ∙ getD-set-other (set (set (set C n key) (4096 + n) s) (8192 + n) (headAt C h)) (12288 + h) (4096 + n) (n + 1) 0 (λ e. omega arith)
+      ∙ getD-set-other (set (set C n key) (4096 + n) s) (8192 + n) (4096 + n) (headAt C h) 0 (λ e. omega arith)
+      ∙ getD-set-same (set C n key) (4096 + n) s 0 (simp length-set (omega arith))
+
+  -- its link
+  linked-link : linkAt (linkedTo C n key s h) n ≡ headAt C h
+  unfolding chainedTo
+  linked-link =
+      linked-chain C n key s h (8192 + n) (omega arith)
+      ∙ getD-set-other (set (set (set C n key) (4096 + n) s) (8192 + n) (headAt C h)) (12288 + h) (8192 + n) (n + 1) 0 (λ e. omega arith)
+      ∙ getD-set-same (set (set C n key) (4096 + n) s) (8192 + n) (headAt C h) 0 (simp length-set (omega arith))
+
+  -- the head of its class
+  linked-head : headAt (linkedTo C n key s h) h ≡ n + 1
+  unfolding chainedTo
+  linked-head =
+      linked-chain C n key s h (12288 + h) (omega arith)
+      ∙ getD-set-same (set (set (set C n key) (4096 + n) s) (8192 + n) (headAt C h)) (12288 + h) (n + 1) 0 (simp length-set (omega arith))
+
+  -- the words of the other blocks
+  linked-words : (i : ℕ) → (i ≡ n / 64 → ⊥) → blockAt (linkedTo C n key s h) i ≡ blockAt C i
+  unfolding linkedTo
+  linked-words i d =
+      getD-set-other (chainedTo C n key s h) (16384 + n / 64) (16384 + i) (min (blockAt C (n / 64)) key) 0 (λ e. d (omega arith))
+      ∙ chain-other C n key s h (16384 + i) (λ e. omega arith) (λ e. omega arith) (λ e. omega arith) (λ e. omega arith)
+
+  -- the word of its block
+  linked-word : blockAt (linkedTo C n key s h) (n / 64) ≡ min (blockAt C (n / 64)) key
+  unfolding linkedTo
+  linked-word =
+      getD-set-same (chainedTo C n key s h) (16384 + n / 64) (min (blockAt C (n / 64)) key) 0 (omega (arith, chain-length C n key s h))
+
+  -- the open keys of the nodes before it
+  linked-old : (u : ℕ) → u < n → getD (linkedTo C n key s h) u 0 ≡ getD C u 0
+  linked-old u l = linked-key C n key s h u (omega arith) ∙ getD-set-other C n u key 0 (λ e. omega arith)
+
+  -- its own open key
+  linked-new : getD (linkedTo C n key s h) n 0 ≡ key
+  linked-new = linked-key C n key s h n few ∙ getD-set-same C n key 0 (omega arith)
+
+  -- the block words are right again
+  pub blocked-link : Blocked C n → Blocked (linkedTo C n key s h) (suc n)
+  blocked-link r =
+      blocked-change C (linkedTo C n key s h) n (suc n) (n / 64)
+      (record { words = linked-words; keys = λ u l d. linked-old u (older u d (below-cases l)); old = λ u l d. older u d (below-cases l); kept = omega arith })
+      (λ u l e. low u e (below-cases l)) (one (decLe (blockAt C (n / 64)) key) (r .held (n / 64) (omega arith))) r
+    where
+      older : (u : ℕ) → (u / 64 ≡ n / 64 → ⊥) → (u < n) ⊎ (u ≡ n) → u < n
+      older u d (inl l) = l
+      older u d (inr e) = absurd (d (ap (λ (i : ℕ). i / 64) e))
+
+      low : (u : ℕ) → u / 64 ≡ n / 64 → (u < n) ⊎ (u ≡ n) → blockAt (linkedTo C n key s h) (n / 64) ≤ getD (linkedTo C n key s h) u 0
+      low u e (inl l) = let k : blockAt C (n / 64) ≤ getD C u 0 = rw e at (r .lower u l) in omega (arith, linked-word, linked-old u l)
+      low u e (inr f) = rw f (omega (arith, linked-word, linked-new))
+
+      one : Dec (blockAt C (n / 64) ≤ key) → (blockAt C (n / 64) ≡ mark) ⊎ Held C n (n / 64) (blockAt C (n / 64))
+          → (blockAt (linkedTo C n key s h) (n / 64) ≡ mark) ⊎ Held (linkedTo C n key s h) (suc n) (n / 64) (blockAt (linkedTo C n key s h) (n / 64))
+      one (yes l) (inl e) = inl (omega (arith, linked-word))
+      one (yes l) (inr k) =
+          inr (record {
+            node = k .node;
+            inside = omega (arith, k .inside);
+            block = k .block;
+            key = omega (arith, linked-old (k .node) (k .inside), k .key, linked-word);
+          })
+      one (no d) k = inr (record { node = n; inside = omega arith; block = refl; key = omega (arith, linked-new, linked-word) })
+
+-- node n of the table is linked behind the first n
+module _ (S : ℕ) (T C : List ℕ) (n key : ℕ) (few : n < 4096) (r : Chained S T C n) where
+  -- its signature, its class, and the words
+  abbrev s : ℕ
+  s = signOf (nodeIn S T n .prices)
+
+  abbrev h : ℕ
+  h = classOf (nodeIn S T n .spot)
+
+  abbrev D : List ℕ
+  D = linkedTo C n key s h
+
+  small : h < 4096
+  small = class-lt (nodeIn S T n .spot)
+
+  -- the words of the nodes before it, and the heads of the other classes
+  sign-old : (u : ℕ) → u < n → signAt D u ≡ signAt C u
+  sign-old u l =
+      linked-chain C n key s h (4096 + u) (omega arith)
+      ∙ chain-other C n key s h (4096 + u) (λ e. omega arith) (λ e. omega arith) (λ e. omega arith) (λ e. omega arith)
+
+  link-old : (u : ℕ) → u < n → linkAt D u ≡ linkAt C u
+  link-old u l =
+      linked-chain C n key s h (8192 + u) (omega arith)
+      ∙ chain-other C n key s h (8192 + u) (λ e. omega arith) (λ e. omega arith) (λ e. omega arith) (λ e. omega arith)
+
+  head-old : (i : ℕ) → i < 4096 → (i ≡ h → ⊥) → headAt D i ≡ headAt C i
+  head-old i b d =
+      linked-chain C n key s h (12288 + i) (omega arith)
+      ∙ chain-other C n key s h (12288 + i) (λ e. omega arith) (λ e. omega arith) (λ e. omega arith) (λ e. d (omega arith))
+
+  sign-new : signAt D n ≡ s
+  sign-new = linked-sign C n key s h (r .long) few small
+
+  link-new : linkAt D n ≡ headAt C h
+  link-new = linked-link C n key s h (r .long) few small
+
+  head-new : headAt D h ≡ n + 1
+  head-new = linked-head C n key s h (r .long) few small
+
+  -- each part of the chains, of the nodes before it and of it
+  signs-more : (u : ℕ) → u < suc n → signAt D u ≡ signOf (nodeIn S T u .prices)
+  signs-more u b = go (below-cases b)
+    where
+      go : (u < n) ⊎ (u ≡ n) → signAt D u ≡ signOf (nodeIn S T u .prices)
+      go (inl l) = sign-old u l ∙ r .signs u l
+      go (inr e) = rw e sign-new
+
+  links-more : (u : ℕ) → u < suc n → linkAt D u ≤ u
+  links-more u b = go (below-cases b)
+    where
+      go : (u < n) ⊎ (u ≡ n) → linkAt D u ≤ u
+      go (inl l) = omega (arith, link-old u l, r .links u l)
+      go (inr e) = rw e (omega (arith, link-new, r .heads h small))
+
+  skips-more : (u w : ℕ) → u < suc n → linkAt D u ≤ w → w < u → classOf (nodeIn S T w .spot) ≡ classOf (nodeIn S T u .spot) → ⊥
+  skips-more u w b = go (below-cases b)
+    where
+      go : (u < n) ⊎ (u ≡ n) → linkAt D u ≤ w → w < u → classOf (nodeIn S T w .spot) ≡ classOf (nodeIn S T u .spot) → ⊥
+      go (inl l) = λ a. r .skips u w l (omega (arith, link-old u l))
+      go (inr e) = rw e (λ a. r .last h w small (omega (arith, link-new)))
+
+  linked-more : (u w : ℕ) → u < suc n → linkAt D u ≡ suc w → classOf (nodeIn S T w .spot) ≡ classOf (nodeIn S T u .spot)
+  linked-more u w b = go (below-cases b)
+    where
+      go : (u < n) ⊎ (u ≡ n) → linkAt D u ≡ suc w → classOf (nodeIn S T w .spot) ≡ classOf (nodeIn S T u .spot)
+      go (inl l) = λ a. r .linked u w l (sym (link-old u l) ∙ a)
+      go (inr e) = rw e (λ a. r .headed h w small (sym link-new ∙ a))
+
+  heads-more : (i : ℕ) → i < 4096 → headAt D i ≤ suc n
+  heads-more i b = go (ℕ-discrete i h)
+    where
+      go : Dec (i ≡ h) → headAt D i ≤ suc n
+      go (yes e) = rw e (omega (arith, head-new))
+      go (no d) = omega (arith, head-old i b d, r .heads i b)
+
+  last-more : (i w : ℕ) → i < 4096 → headAt D i ≤ w → w < suc n → classOf (nodeIn S T w .spot) ≡ i → ⊥
+  last-more i w b a k c = go (ℕ-discrete i h)
+    where
+      other : (i ≡ h → ⊥) → (w < n) ⊎ (w ≡ n) → ⊥
+      other d (inl l) = r .last i w b (omega (arith, head-old i b d)) l c
+      other d (inr e) = d (sym c ∙ ap (λ (u : ℕ). classOf (nodeIn S T u .spot)) e)
+
+      go : Dec (i ≡ h) → ⊥
+      go (yes e) = let a′ = rw e at a in omega (arith, head-new)
+      go (no d) = other d (below-cases k)
+
+  headed-more : (i w : ℕ) → i < 4096 → headAt D i ≡ suc w → classOf (nodeIn S T w .spot) ≡ i
+  headed-more i w b a = go (ℕ-discrete i h)
+    where
+      go : Dec (i ≡ h) → classOf (nodeIn S T w .spot) ≡ i
+      go (yes e) =
+          let a′ = rw e at a in
+          let q : w ≡ n = omega (arith, head-new) in
+          ap (λ (u : ℕ). classOf (nodeIn S T u .spot)) q ∙ sym e
+      go (no d) = r .headed i w b (sym (head-old i b d) ∙ a)
+
+  chained-link : Chained S T (linkedTo C n key (signOf (nodeIn S T n .prices)) (classOf (nodeIn S T n .spot))) (suc n)
+  chained-link = record {
+    long = linked-length C n key s h ∙ r .long;
+    signs = signs-more;
+    links = links-more;
+    skips = skips-more;
+    linked = linked-more;
+    heads = heads-more;
+    last = last-more;
+    headed = headed-more;
+    blocks = blocked-link C n key s h (r .long) few small (r .blocks);
+  }
+
+-- node n, of centre state c and prices P, is linked; the table's nodes before it are the same
+pub chained-more : (S : ℕ) (T T′ C : List ℕ) (n key : ℕ) (c : Centre) (P : List ℕ) → n < 4096 → ((u : ℕ) → u < n → nodeIn S T′ u ≡ nodeIn S T u)
+    → nodeIn S T′ n .spot ≡ c → nodeIn S T′ n .prices ≡ P → Chained S T C n → Chained S T′ (linkedTo C n key (signOf P) (classOf c)) (suc n)
+chained-more S T T′ C n key c P few same p q r = rw (← p, ← q) (chained-link S T′ C n key few (chained-same S T T′ C n same r))
+
+-- ---- walks along a chain
+
+module _ (S : ℕ) (T C : List ℕ) (n : ℕ) (m : Node) (r : Chained S T C n) where
+  -- a walk begins at the head of the class
+  pub walk-start : Walked S T n m (headAt C (classOf (m .spot)))
+  walk-start = record {
+    low = r .heads (classOf (m .spot)) (class-lt (m .spot));
+    none = λ w a k. other-class (nodeIn S T w) m (r .last (classOf (m .spot)) w (class-lt (m .spot)) a k);
+    class = λ w e. r .headed (classOf (m .spot)) w (class-lt (m .spot)) e;
+  }
+
+  -- node u does not dominate: the walk goes on at its link
+  pub walk-more : (u : ℕ) → Walked S T n m (suc u) → dominates (nodeIn S T u) m ≡ false → Walked S T n m (linkAt C u)
+  walk-more u k d = record {
+    low = omega (arith, k .low, r .links u (k .low));
+    none = λ w a b. passed w a b (decLt w u);
+    class = λ w e. r .linked u w (k .low) e ∙ k .class u refl;
+  }
+    where
+      later : (w : ℕ) → w < n → u ≤ w → Dec (w ≡ u) → dominates (nodeIn S T w) m ≡ false
+      later w b l (yes e) = rw e d
+      later w b l (no f) = k .none w (omega arith) b
+
+      passed : (w : ℕ) → linkAt C u ≤ w → w < n → Dec (w < u) → dominates (nodeIn S T w) m ≡ false
+      passed w a b (yes l) = other-class (nodeIn S T w) m (λ e. r .skips u w (k .low) a l (e ∙ sym (k .class u refl)))
+      passed w a b (no f) = later w b (omega arith) (ℕ-discrete w u)
+
+-- the chain ends: no node dominates
+pub walk-end : (S : ℕ) (T : List ℕ) (n : ℕ) (m : Node) → Walked S T n m 0 → any n (λ u. dominates (nodeIn S T u) m) ≡ false
+walk-end S T n m k = go (test-cases (any n (λ u. dominates (nodeIn S T u) m)))
+  where
+    go : (any n (λ u. dominates (nodeIn S T u) m) ≡ true) ⊎ (any n (λ u. dominates (nodeIn S T u) m) ≡ false)
+        → any n (λ u. dominates (nodeIn S T u) m) ≡ false
+    go (inl e) = let w = any-out n (λ u. dominates (nodeIn S T u) m) e in absurd (true≢false (sym (w .1 .1) ∙ k .none (w .0) (omega arith) (w .1 .0)))
+    go (inr e) = e
