@@ -2,8 +2,9 @@
 use layer::MARK;
 use layer::add_price;
 use layer::begin_layer;
+use layer::first_conditions;
 use layer::first_layer;
-use layer::is_met;
+use layer::met_by;
 use layer::pairs_of;
 use layer::settle_layer;
 use nodes::choose;
@@ -21,21 +22,25 @@ use task::Centre;
 use task::Task;
 use words::copy_words;
 ghost use mathlib.Core.Path.{_≡_};
+ghost use mathlib.Core.Bool.{true};
+ghost use mathlib.Core.List.{_++_};
 ghost use Prim.Native.Nat.{ℕ, _+_, _*_, _≤_, _<_};
-ghost use lib.ListN.{length, getD, take};
+ghost use lib.ListN.{length, getD, take, drop};
 ghost use Rattle.task.specs.declared.Task.{Task};
 ghost use Rattle.task.specs.Factors.{allStates};
 ghost use Rattle.task.specs.Valid.{Valid};
-ghost use Rattle.layer.specs.Board.{Sound};
+ghost use Rattle.layer.specs.Board.{Sound, beginOn};
+ghost use Rattle.layer.specs.First.{Firsts};
 ghost use Rattle.layer.specs.Lent.{boardOf};
 ghost use Rattle.tables.specs.Tables.{Tabled, Goals};
 ghost use Rattle.search.specs.Explore.{start, expand, explored};
 ghost use Rattle.search.specs.Explore.Laws.{Base};
-ghost use Rattle.nodes.specs.Chain.{Chained};
+ghost use Rattle.nodes.specs.Chain.{Chained, signOf};
 ghost use Rattle.nodes.specs.Row.{nodeWith};
-ghost use Rattle.nodes.specs.Scan.{Cut, goalCostBy};
+ghost use Rattle.nodes.specs.Scan.{Cut, keyBy, goalCostBy};
 ghost use Rattle.explore.specs.Held.{searchOf, Cached, Suits, Room, expandedOf, stoppedOf, Kept, Offered, Moved};
 ghost use Rattle.explore.specs.Held.Rounds.{Ahead, Rounded};
+ghost use Rattle.explore.specs.Still.{Stays, Still};
 
 // The search beside its table: nodes kept, expansions begun, one more than best's node (0 for none), best's goal cost (the mark for none).
 pub struct Run {
@@ -49,6 +54,12 @@ pub struct Run {
 pub struct Turned {
     pub full: bool,
     pub run: Run,
+}
+
+// The key and the signature of a layer's begin.
+pub struct Begun {
+    pub key: u64,
+    pub sign: u64,
 }
 
 // Why a search stops.
@@ -67,6 +78,48 @@ pub struct Stop {
 pub enum Round {
     Stops(Stop),
     Goes(Run),
+}
+
+// Whether an action whose moves of a leaf begin at `at` leaves each of the leaf's states as it is.
+fn is_still_leaf(moves: &[u16], at: usize, states: usize) -> bool
+    requires { ⌜ at + states ≤ length (now moves) ⌝ }
+    ensures { λ r. ⌜ (r ≡ true → (x : ℕ) → x < states → getD (now (moves .entry)) (at + x) 0 ≡ x + 1) ⌝ }
+{
+    for x in 0..states {
+        if moves[at + x] as usize != x + 1 {
+            return false;
+        }
+    }
+    true
+}
+
+// 1 if an action whose moves begin at `from` leaves each state of each leaf as it is, else 0.
+fn is_still(leaves: usize, bases: &[usize], moves: &[u16], from: usize) -> u8
+    requires { ⌜ Cut leaves (now bases) (length (now moves)) × (from + getD (now bases) leaves 0 ≤ length (now moves)) ⌝ }
+    ensures { λ r. ⌜ ((r ≡ 0 → ⊥) → Stays leaves (now (bases .entry)) (now (moves .entry)) from) ⌝ }
+{
+    for i in 0..leaves {
+        let at = bases[i];
+        let to = bases[i + 1];
+        if !is_still_leaf(moves, from + at, to - at) {
+            return 0;
+        }
+    }
+    1
+}
+
+// The actions that leave each state of each leaf as it is: 1 for those, 0 for the others.
+fn still_actions(leaves: usize, actions: usize, bases: &[usize], moves: &[u16]) -> [u8; 256]
+    requires { ⌜ Cut leaves (now bases) 1024 × (actions ≤ 255) × (actions * getD (now bases) leaves 0 ≤ length (now moves)) ⌝ }
+    ensures { λ r. ⌜ Still leaves actions (now (bases .entry)) (now (moves .entry)) r ⌝ }
+{
+    let row = bases[leaves];
+    let mut still = [0u8; 256];
+    for a in 0..actions {
+        let stays = is_still(leaves, bases, moves, a * row);
+        still[a] = stays;
+    }
+    still
 }
 
 // A node under the next number: its row, its scan words (key, signature, links), and the new best.
@@ -88,7 +141,7 @@ fn keep(
 ) -> Run
     requires { ⌜ Cut leaves (now bases) (length (now prices)) × Cut leaves (now bases) (length (now goals)) ⌝ }
     requires { ⌜ (getD (now bases) leaves 0 ≤ 1024) × (run .count < 4096) × ((run .count + 1) * (40 + getD (now bases) leaves 0) ≤ length (now table))
-        × (length (now scan) ≡ 16448) ⌝ }
+        × (length (now scan) ≡ 20544) ⌝ }
     ensures { λ r. ⌜ Kept (getD (now (bases .entry)) leaves 0) (now (table .entry)) (now (scan .entry)) run
         (nodeWith spot paid (take (getD (now (bases .entry)) leaves 0) (now (prices .entry))) parent action) key
         (goalCostBy leaves (now (bases .entry)) (now (goals .entry)) factors goal spot paid (now (prices .entry)))
@@ -145,6 +198,8 @@ fn offer(
     paid: u64,
     parent: usize,
     action: usize,
+    key: u64,
+    sign: u64,
     begin: &mut [u64],
     table: &mut [u64],
     scan: &mut [u64],
@@ -152,6 +207,7 @@ fn offer(
 ) -> Turned
     requires { ⌜ Sound (boardOf leaves actions (now bases) (now moves) (now costs) (now kinds) factors (now conditions)) ⌝ }
     requires { ⌜ Cut leaves (now bases) (length (now begin)) × Cut leaves (now bases) (length (now goals)) ⌝ }
+    requires { ⌜ (key ≡ keyBy leaves (now bases) paid (now begin)) × (sign ≡ signOf (take (getD (now bases) leaves 0) (now begin))) ⌝ }
     requires { ⌜ Room (getD (now bases) leaves 0) nodes (now table) (now scan) run ⌝ }
     ensures { λ r. ⌜ Offered (boardOf leaves actions (now (bases .entry)) (now (moves .entry)) (now (costs .entry)) (now (kinds .entry)) factors
         (now (conditions .entry))) (now (goals .entry)) goal nodes (now (table .entry)) (now (scan .entry)) run spot paid (now (begin .entry)) parent action
@@ -159,11 +215,21 @@ fn offer(
 {
     let states = bases[leaves];
     let count = run.count;
-    let key = key_of(leaves, bases, paid, &begin[..]);
     if key >= run.best_cost {
         return Turned { full: false, run };
     }
-    if is_dominated(table, states, count, scan, spot, paid, &begin[..]) {
+    let class = class_of(spot);
+    if is_dominated(
+        table,
+        states,
+        count,
+        scan,
+        class,
+        sign,
+        spot,
+        paid,
+        &begin[..],
+    ) {
         return Turned { full: false, run };
     }
     if count >= nodes {
@@ -203,9 +269,9 @@ fn offer(
     }
 }
 
-// Action a at node u, whose parts are given: a centre action whose centre conditions hold has its layer's begin offered. Where it does not apply, the
-// begin's key is the mark.
-fn turn(
+// The begin of the layer behind centre action a, at the front of `next`, with its key and signature. Where the action moves no leaf state it is the
+// old layer; `low` is the key that this would have, `sign` its signature.
+fn begin_of(
     leaves: usize,
     actions: usize,
     bases: &[usize],
@@ -214,34 +280,28 @@ fn turn(
     kinds: &[u8],
     factors: [u8; 32],
     conditions: &[u8],
-    effects: &[u8],
-    goals: &[u16],
-    goal: [u8; 32],
-    nodes: usize,
-    spot: Centre,
-    paid: u64,
-    old: &[u64],
-    u: usize,
+    still: &[u8],
     a: usize,
+    old: &[u64],
+    low: u64,
+    sign: u64,
+    spent: u64,
     next: &mut [u64],
-    table: &mut [u64],
-    scan: &mut [u64],
-    run: Run,
-) -> Turned
+) -> Begun
     requires { ⌜ Sound (boardOf leaves actions (now bases) (now moves) (now costs) (now kinds) factors (now conditions)) ⌝ }
-    requires { ⌜ (length (now effects) ≡ 8192) × (length (now goals) ≡ 1024) × (length (now old) ≡ 1024) × (length (now next) ≡ 1024) × (u < run .count) × (a < actions) ⌝ }
-    requires { ⌜ Room (getD (now bases) leaves 0) nodes (now table) (now scan) run ⌝ }
-    ensures { λ r. ⌜ Moved (boardOf leaves actions (now (bases .entry)) (now (moves .entry)) (now (costs .entry)) (now (kinds .entry)) factors
-        (now (conditions .entry))) (now (effects .entry)) (now (goals .entry)) goal nodes spot paid (now (old .entry)) u a
-        (now (table .entry)) (now (scan .entry)) run (now (table .exit)) (now (scan .exit)) r ⌝ }
+    requires { ⌜ Still leaves actions (now bases) (now moves) (now still) ⌝ }
+    requires { ⌜ (a < actions) × (getD (now bases) leaves 0 ≤ length (now old)) × (getD (now bases) leaves 0 ≤ length (now next)) ⌝ }
+    requires { ⌜ (low ≡ keyBy leaves (now bases) spent (now old)) × (sign ≡ signOf (take (getD (now bases) leaves 0) (now old))) ⌝ }
+    ensures { λ r. ⌜ (now (next .exit) ≡ beginOn (boardOf leaves actions (now (bases .entry)) (now (moves .entry)) (now (costs .entry)) (now (kinds .entry))
+        factors (now (conditions .entry))) a (now (old .entry)) ++ drop (getD (now (bases .entry)) leaves 0) (now (next .entry)))
+        × (r .key ≡ keyBy leaves (now (bases .entry)) spent (now (next .exit)))
+        × (r .sign ≡ signOf (take (getD (now (bases .entry)) leaves 0) (now (next .exit)))) ⌝ }
 {
-    if kinds[a] != 0 {
-        return Turned { full: false, run };
+    let states = bases[leaves];
+    if still[a] != 0 {
+        copy_words(old, next, states);
+        return Begun { key: low, sign };
     }
-    if !is_met(factors, conditions, spot, a) {
-        return Turned { full: false, run };
-    }
-    let behind = spot.after(factors, pairs_of(effects, a));
     begin_layer(
         leaves,
         actions,
@@ -255,7 +315,83 @@ fn turn(
         old,
         next,
     );
-    let spent = add_price(paid, costs[a] as u64);
+    let key = key_of(leaves, bases, spent, &next[..]);
+    let made = sign_of(&next[..states]);
+    Begun { key, sign: made }
+}
+
+// Action a at node u, whose parts, key and signature are given: a centre action whose centre conditions hold has its layer's begin offered. No leaf's
+// least price falls over it, so nothing is made where the key and the action's cost are not below best. Where it does not apply, the begin's key is
+// the mark.
+fn turn(
+    leaves: usize,
+    actions: usize,
+    bases: &[usize],
+    moves: &[u16],
+    costs: &[u16],
+    kinds: &[u8],
+    factors: [u8; 32],
+    conditions: &[u8],
+    still: &[u8],
+    firsts: &[u8],
+    values: &[u8],
+    effects: &[u8],
+    goals: &[u16],
+    goal: [u8; 32],
+    nodes: usize,
+    spot: Centre,
+    paid: u64,
+    key: u64,
+    sign: u64,
+    old: &[u64],
+    u: usize,
+    a: usize,
+    next: &mut [u64],
+    table: &mut [u64],
+    scan: &mut [u64],
+    run: Run,
+) -> Turned
+    requires { ⌜ Sound (boardOf leaves actions (now bases) (now moves) (now costs) (now kinds) factors (now conditions)) ⌝ }
+    requires { ⌜ Still leaves actions (now bases) (now moves) (now still)
+        × Firsts (boardOf leaves actions (now bases) (now moves) (now costs) (now kinds) factors (now conditions)) (now firsts)
+        × (now values ≡ spot .values) × (length (now values) ≡ 32) ⌝ }
+    requires { ⌜ (length (now effects) ≡ 8192) × (length (now goals) ≡ 1024) × (length (now old) ≡ 1024) × (length (now next) ≡ 1024) × (u < run .count) × (a < actions) ⌝ }
+    requires { ⌜ (key ≡ keyBy leaves (now bases) paid (now old)) × (sign ≡ signOf (take (getD (now bases) leaves 0) (now old))) ⌝ }
+    requires { ⌜ Room (getD (now bases) leaves 0) nodes (now table) (now scan) run ⌝ }
+    ensures { λ r. ⌜ Moved (boardOf leaves actions (now (bases .entry)) (now (moves .entry)) (now (costs .entry)) (now (kinds .entry)) factors
+        (now (conditions .entry))) (now (effects .entry)) (now (goals .entry)) goal nodes spot paid (now (old .entry)) u a
+        (now (table .entry)) (now (scan .entry)) run (now (table .exit)) (now (scan .exit)) r ⌝ }
+{
+    if kinds[a] != 0 {
+        return Turned { full: false, run };
+    }
+    let cost = costs[a] as u64;
+    let low = add_price(key, cost);
+    if low >= run.best_cost {
+        return Turned { full: false, run };
+    }
+    if !met_by(firsts, values, factors, conditions, spot, a) {
+        return Turned { full: false, run };
+    }
+    let behind = spot.after(factors, pairs_of(effects, a));
+    let spent = add_price(paid, cost);
+    let begun = begin_of(
+        leaves,
+        actions,
+        bases,
+        moves,
+        costs,
+        kinds,
+        factors,
+        conditions,
+        still,
+        a,
+        old,
+        low,
+        sign,
+        spent,
+        next,
+    );
     offer(
         leaves,
         actions,
@@ -272,6 +408,8 @@ fn turn(
         spent,
         u,
         a,
+        begun.key,
+        begun.sign,
         next,
         table,
         scan,
@@ -279,7 +417,7 @@ fn turn(
     )
 }
 
-// All actions of node u, by rising number.
+// All actions of node u, by rising number; `old` and `next` are room to work in.
 fn expand(
     leaves: usize,
     actions: usize,
@@ -289,6 +427,8 @@ fn expand(
     kinds: &[u8],
     factors: [u8; 32],
     conditions: &[u8],
+    still: &[u8],
+    firsts: &[u8],
     effects: &[u8],
     goals: &[u16],
     goal: [u8; 32],
@@ -296,11 +436,16 @@ fn expand(
     u: usize,
     table: &mut [u64],
     scan: &mut [u64],
+    old: &mut [u64],
+    next: &mut [u64],
     run: Run,
 ) -> Turned
     requires { ⌜ Sound (boardOf leaves actions (now bases) (now moves) (now costs) (now kinds) factors (now conditions)) ⌝ }
+    requires { ⌜ Still leaves actions (now bases) (now moves) (now still)
+        × Firsts (boardOf leaves actions (now bases) (now moves) (now costs) (now kinds) factors (now conditions)) (now firsts) ⌝ }
     requires { ⌜ (length (now effects) ≡ 8192) × (length (now goals) ≡ 1024) × (u < run .count) ⌝ }
     requires { ⌜ Room (getD (now bases) leaves 0) nodes (now table) (now scan) run ⌝ }
+    requires { ⌜ (length (now old) ≡ 1024) × (length (now next) ≡ 1024) ⌝ }
     ensures grown { λ r. ⌜ (run .count ≤ r .run .count) × (r .run .count ≤ nodes) × (r .run .begun ≡ run .begun)
         × Chained (getD (now (bases .entry)) leaves 0) (now (table .exit)) (now (scan .exit)) (r .run .count) ⌝ }
     ensures expanded { λ r. ⌜ ((t : Task) → Suits t (boardOf leaves actions (now (bases .entry)) (now (moves .entry)) (now (costs .entry)) (now (kinds .entry)) factors
@@ -316,10 +461,11 @@ fn expand(
     let at = u * wide;
     let end = at + wide;
     let spot = read_spot(&table[at..end]);
+    let values = spot.values;
     let paid = table[at + 32];
-    let mut old = [MARK; 1024];
-    copy_words(&table[at + 40..end], &mut old, states);
-    let mut next = [MARK; 1024];
+    copy_words(&table[at + 40..end], old, states);
+    let key = key_of(leaves, bases, paid, &old[..]);
+    let sign = scan[4096 + u];
     let mut going = run;
     for a in 0..actions {
         let r = turn(
@@ -331,16 +477,21 @@ fn expand(
             kinds,
             factors,
             conditions,
+            still,
+            firsts,
+            &values,
             effects,
             goals,
             goal,
             nodes,
             spot,
             paid,
-            &old,
+            key,
+            sign,
+            &old[..],
             u,
             a,
-            &mut next,
+            next,
             table,
             scan,
             going,
@@ -370,7 +521,7 @@ fn start(
 ) -> Run
     requires { ⌜ Valid task ⌝ }
     requires { ⌜ Tabled task (now bases) (now moves) (now costs) (now kinds) (now starts) × Goals task (now goals) ⌝ }
-    requires { ⌜ (40 + allStates task ≤ length (now table)) × (length (now scan) ≡ 16448)
+    requires { ⌜ (40 + allStates task ≤ length (now table)) × (length (now scan) ≡ 20544)
         × ((h : ℕ) → h < 4096 → getD (now scan) (12288 + h) 0 ≡ 0) ⌝ }
     ensures { λ r. ⌜ (searchOf (allStates task) (now (table .exit)) (now (scan .exit)) r ≡ start task)
         × Cached task (allStates task) (now (table .exit)) (now (scan .exit)) r
@@ -423,7 +574,7 @@ fn start(
     )
 }
 
-// One round: the least key is chosen, and where the budget is not used up its node is expanded.
+// One round: the least key is chosen, and where the budget is not used up its node is expanded, with `old` and `next` as room to work in.
 fn next_round(
     leaves: usize,
     actions: usize,
@@ -433,6 +584,8 @@ fn next_round(
     kinds: &[u8],
     factors: [u8; 32],
     conditions: &[u8],
+    still: &[u8],
+    firsts: &[u8],
     effects: &[u8],
     goals: &[u16],
     goal: [u8; 32],
@@ -440,11 +593,16 @@ fn next_round(
     budget: u32,
     table: &mut [u64],
     scan: &mut [u64],
+    old: &mut [u64],
+    next: &mut [u64],
     run: Run,
 ) -> Round
     requires { ⌜ Sound (boardOf leaves actions (now bases) (now moves) (now costs) (now kinds) factors (now conditions)) ⌝ }
+    requires { ⌜ Still leaves actions (now bases) (now moves) (now still)
+        × Firsts (boardOf leaves actions (now bases) (now moves) (now costs) (now kinds) factors (now conditions)) (now firsts) ⌝ }
     requires { ⌜ (length (now effects) ≡ 8192) × (length (now goals) ≡ 1024) × (run .begun ≤ 4096) ⌝ }
     requires { ⌜ Room (getD (now bases) leaves 0) nodes (now table) (now scan) run ⌝ }
+    requires { ⌜ (length (now old) ≡ 1024) × (length (now next) ≡ 1024) ⌝ }
     ensures { λ r. ⌜ ((t : Task) → Suits t (boardOf leaves actions (now (bases .entry)) (now (moves .entry)) (now (costs .entry)) (now (kinds .entry)) factors
         (now (conditions .entry))) (now (effects .entry)) (now (goals .entry)) goal
         → Ahead t nodes budget (allStates t) (now (table .entry)) (now (scan .entry)) run
@@ -480,6 +638,8 @@ fn next_round(
         kinds,
         factors,
         conditions,
+        still,
+        firsts,
         effects,
         goals,
         goal,
@@ -487,16 +647,18 @@ fn next_round(
         u,
         table,
         scan,
+        old,
+        next,
         begun,
     );
-    let next = r.run;
+    let after = r.run;
     if r.full {
         return Round::Stops(Stop {
             why: Why::TableFull,
-            run: next,
+            run: after,
         });
     }
-    Round::Goes(next)
+    Round::Goes(after)
 }
 
 // The whole exploration of a task that the reader accepted.
@@ -515,7 +677,7 @@ pub fn explore(
 ) -> Stop
     requires { ⌜ Valid task ⌝ }
     requires { ⌜ Tabled task (now bases) (now moves) (now costs) (now kinds) (now starts) × Goals task (now goals) ⌝ }
-    requires { ⌜ (1 ≤ nodes) × (nodes ≤ 4096) × ((nodes + 1) * (40 + allStates task) ≤ length (now table)) × (length (now scan) ≡ 16448)
+    requires { ⌜ (1 ≤ nodes) × (nodes ≤ 4096) × ((nodes + 1) * (40 + allStates task) ≤ length (now table)) × (length (now scan) ≡ 20544)
         × ((h : ℕ) → h < 4096 → getD (now scan) (12288 + h) 0 ≡ 0) ⌝ }
     ensures { λ r. ⌜ (stoppedOf (allStates task) (now (table .exit)) (now (scan .exit)) r ≡ explored task nodes budget)
         × Cached task (allStates task) (now (table .exit)) (now (scan .exit)) (r .run) ⌝ }
@@ -526,7 +688,11 @@ pub fn explore(
     let goal = task.goal;
     let conditions = task.conditions;
     let effects = task.effects;
+    let still = still_actions(leaves, actions, bases, moves);
+    let firsts = first_conditions(factors, &conditions, actions);
     let mut run = start(task, bases, moves, costs, kinds, starts, goals, table, scan);
+    let mut old = [MARK; 1024];
+    let mut next = [MARK; 1024];
     loop {
         let round = next_round(
             leaves,
@@ -537,6 +703,8 @@ pub fn explore(
             kinds,
             factors,
             &conditions,
+            &still,
+            &firsts,
             &effects,
             goals,
             goal,
@@ -544,11 +712,13 @@ pub fn explore(
             budget,
             table,
             scan,
+            &mut old,
+            &mut next,
             run,
         );
         match round {
             Round::Stops(stop) => return stop,
-            Round::Goes(next) => run = next,
+            Round::Goes(after) => run = after,
         }
     }
 }

@@ -1,6 +1,7 @@
 -- Layers: the prices of all leaves after a centre path. Follows "Prices and layers" and Definition 2 of document 001.
 pub mod Leaf
 pub mod Laws
+pub mod Front
 use mathlib.Core.Path.{_≡_}
 use mathlib.Core.Bool.{Bool, true, false, cond, not, _&&_}
 use mathlib.Core.List.{List, [], _∷_, _++_}

@@ -3,3 +3,4 @@ pub mod Pass
 pub mod Layer
 pub mod Board
 pub mod Lent
+pub mod First

@@ -15,6 +15,7 @@ ghost use Rattle.layer.specs.Pass.{pass};
 ghost use Rattle.layer.specs.Layer.{mark};
 ghost use Rattle.layer.specs.Board.{Sound, metOn, enabledOn, settleOn, firstOn, beginOn, settledOn, nextOn, appliesOn};
 ghost use Rattle.layer.specs.Lent.{Lent, Front, boardOf, testsOf, firstLeafOn, costBy, moveBy};
+ghost use Rattle.layer.specs.First.{First, Firsts, asksOf};
 
 // The price of a state that cannot be reached.
 pub const MARK: u64 = 18446744073709551615;
@@ -275,6 +276,56 @@ pub fn is_met(factors: [u8; 32], conditions: &[u8], centre: Centre, action: usiz
         );
     }
     holds
+}
+
+// The first centre variable that the conditions of an action name, 32 where there is none.
+fn first_condition(factors: [u8; 32], conditions: &[u8], action: usize) -> u8
+    requires { ⌜ action * 32 + 32 ≤ length (now conditions) ⌝ }
+    ensures { λ r. ⌜ First factors (now (conditions .entry)) action r ⌝ }
+{
+    for v in 0..32 {
+        if factors[v] == 0 {
+            if conditions[action * 32 + v] != FREE {
+                return v as u8;
+            }
+        }
+    }
+    32
+}
+
+// For each action the first centre variable that its conditions name, 32 where there is none.
+pub fn first_conditions(factors: [u8; 32], conditions: &[u8], actions: usize) -> [u8; 256]
+    requires { ⌜ (actions ≤ 255) × (length (now conditions) ≡ 8192) ⌝ }
+    ensures { λ r. ⌜ Firsts (asksOf actions factors (now (conditions .entry))) r ⌝ }
+{
+    let mut firsts = [32u8; 256];
+    for a in 0..actions {
+        firsts[a] = first_condition(factors, conditions, a);
+    }
+    firsts
+}
+
+// Whether the centre conditions of an action hold, where one of them is tested first: most actions fail there. `values` are the centre's, lent so
+// that no copy is made for each action.
+pub fn met_by(
+    firsts: &[u8],
+    values: &[u8],
+    factors: [u8; 32],
+    conditions: &[u8],
+    centre: Centre,
+    action: usize,
+) -> bool
+    requires { ⌜ (action < length (now firsts)) × (action * 32 + 32 ≤ length (now conditions))
+        × First factors (now conditions) action (getD (now firsts) action 0) × (now values ≡ centre .values) × (length (now values) ≡ 32) ⌝ }
+    ensures { λ r. ⌜ r ≡ metOn (testsOf [] factors (now (conditions .entry))) centre action ⌝ }
+{
+    let v = firsts[action] as usize;
+    if v < 32 {
+        if conditions[action * 32 + v] != values[v] {
+            return false;
+        }
+    }
+    is_met(factors, conditions, centre, action)
 }
 
 // Whether an action is a leaf action of the leaf behind i leaves, and its centre conditions hold.

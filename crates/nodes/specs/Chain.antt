@@ -1,15 +1,18 @@
--- The scan words: 16,448 words in four parts of 4,096 and one of 64. Open keys stand at u, signatures at 4096 + u, links at 8192 + u, heads at
--- 12288 + h, block words at 16384 + b.
+-- The scan words: 20,544 words in four parts of 4,096, one of 64 and one more of 4,096. Open keys stand at u, signatures at 4096 + u, links at
+-- 8192 + u, heads at 12288 + h, block words at 16384 + b, recent words at 16448 + k.
 -- Nodes are chained by the class of their centre state. A link or a head is one more than a node's number, 0 for none: the link of a node is the
 -- last node before it of the same class, the head of a class is the last node of that class.
+-- A recent word is one more than the number of a node that dominated, to be tried first. It may be any number: nothing else goes by it.
 pub mod Laws
+pub mod Walk
 use mathlib.Core.Path.{_≡_}
-use mathlib.Core.Bool.{cond, false}
+use mathlib.Core.Bool.{cond, true, false}
 use mathlib.Core.List.{List}
 use Prim.Native.Nat.{ℕ, zero, suc, _+_, _*_, _/_, _%_, _^_, _≤_, _<_, min}
 use lib.Bits.{bitOr}
 use lib.Dec.{ltb}
 use lib.ListN.{length, getD, set}
+use Rattle.loops.specs.Count.{any}
 use Rattle.task.specs.declared.Centre.{Centre}
 use Rattle.layer.specs.Layer.{mark}
 use Rattle.search.specs.Node.{Node, dominates}
@@ -28,14 +31,18 @@ linkAt C u = getD C (8192 + u) 0
 abbrev pub headAt : List ℕ → ℕ → ℕ
 headAt C h = getD C (12288 + h) 0
 
--- the class by the first values of a centre state
-unfoldable pub classTo : List ℕ → ℕ → ℕ
-classTo xs zero = 0
-classTo xs (suc v) = (classTo xs v * 1637 + getD xs v 0) % 4096
+-- the class by n values of a centre state, from value b on
+unfoldable pub classTo : List ℕ → ℕ → ℕ → ℕ
+classTo xs b zero = 0
+classTo xs b (suc n) = (classTo xs b n * 1637 + getD xs (b + n) 0) % 4096
 
--- the class of a centre state; any function of its values below 4,096 is right, only speed depends on it
+-- the class of a centre state, from those of its four quarters; any function of its values below 4,096 is right, only speed depends on it
 unfoldable pub classOf : Centre → ℕ
-classOf c = classTo (c .values) 32
+classOf c = (classTo (c .values) 0 8 * 673 + classTo (c .values) 8 8 * 3521 + classTo (c .values) 16 8 * 3297 + classTo (c .values) 24 8) % 4096
+
+-- the place of the recent word of a class h and a signature s; any number below 4,096 is right, only speed depends on it
+unfoldable pub slotOf : ℕ → ℕ → ℕ
+slotOf h s = (h * 5 + s % 4093) % 4096
 
 -- the signature of the first n prices: bit k % 64 is set where state k is reachable
 unfoldable pub signTo : List ℕ → ℕ → ℕ
@@ -56,7 +63,7 @@ linkedTo C n key s h = set (chainedTo C n key s h) (16384 + n / 64) (min (blockA
 
 -- the first n nodes of table T are chained in C, and the block words are those of their open keys
 pub record Chained (S : ℕ) (T C : List ℕ) (n : ℕ) : Type 0 where
-  pub long : length C ≡ 16448
+  pub long : length C ≡ 20544
   pub signs : (u : ℕ) → u < n → signAt C u ≡ signOf (nodeIn S T u .prices)
   pub links : (u : ℕ) → u < n → linkAt C u ≤ u
   pub skips : (u w : ℕ) → u < n → linkAt C u ≤ w → w < u → classOf (nodeIn S T w .spot) ≡ classOf (nodeIn S T u .spot) → ⊥
@@ -65,6 +72,17 @@ pub record Chained (S : ℕ) (T C : List ℕ) (n : ℕ) : Type 0 where
   pub last : (h w : ℕ) → h < 4096 → headAt C h ≤ w → w < n → classOf (nodeIn S T w .spot) ≡ h → ⊥
   pub headed : (h w : ℕ) → h < 4096 → headAt C h ≡ suc w → classOf (nodeIn S T w .spot) ≡ h
   pub blocks : Blocked C n
+
+-- the scan words D are those of C but for recent words
+pub record Recalled (C D : List ℕ) : Type 0 where
+  pub long : length D ≡ length C
+  pub same : (i : ℕ) → i < 16448 → getD D i 0 ≡ getD C i 0
+
+-- r is one more than the number of one of the n nodes, which dominates m; it is 0 only where none does
+pub record Dominator (S : ℕ) (T : List ℕ) (n : ℕ) (m : Node) (r : ℕ) : Type 0 where
+  pub inside : r ≤ n
+  pub found : (u : ℕ) → r ≡ suc u → dominates (nodeIn S T u) m ≡ true
+  pub none : r ≡ 0 → any n (λ u. dominates (nodeIn S T u) m) ≡ false
 
 -- a walk along the chain of node m has come to `to`, one more than the next node: no node of the n from there on dominates m
 pub record Walked (S : ℕ) (T : List ℕ) (n : ℕ) (m : Node) (to : ℕ) : Type 0 where

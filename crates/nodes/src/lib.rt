@@ -15,7 +15,7 @@ ghost use Rattle.search.specs.Node.{leastOf, dominates};
 ghost use Rattle.nodes.specs.Row.{spotOf, nodeOf, nodeIn, nodeWith};
 ghost use Rattle.nodes.specs.Scan.{Cut, goalsBy, keyBy, goalSumBy, goalCostBy, chooseBy};
 ghost use Rattle.nodes.specs.Block.{blockEnd, Blocked, freshTo, retiredTo};
-ghost use Rattle.nodes.specs.Chain.{classOf, signOf, linkedTo, Chained};
+ghost use Rattle.nodes.specs.Chain.{classOf, slotOf, signOf, linkedTo, Chained, Recalled, Dominator};
 
 // ---- prices
 
@@ -143,16 +143,22 @@ pub fn write_row(
 
 // ---- chains
 
-// The class of a centre state.
+// The class of a centre state, by four quarters of its values side by side.
 pub fn class_of(spot: Centre) -> usize
     ensures { λ r. ⌜ r ≡ classOf spot ⌝ }
 {
     let values = spot.values;
-    let mut class = 0;
-    for v in 0..32 {
-        class = (class * 1637 + values[v] as usize) % 4096;
+    let mut first = 0;
+    let mut second = 0;
+    let mut third = 0;
+    let mut fourth = 0;
+    for v in 0..8 {
+        first = (first * 1637 + values[v] as usize) % 4096;
+        second = (second * 1637 + values[8 + v] as usize) % 4096;
+        third = (third * 1637 + values[16 + v] as usize) % 4096;
+        fourth = (fourth * 1637 + values[24 + v] as usize) % 4096;
     }
-    class
+    (first * 673 + second * 3521 + third * 3297 + fourth) % 4096
 }
 
 // The signature of the prices: a bit for each reachable state, the same for every 64th.
@@ -180,7 +186,7 @@ fn lesser(a: u64, b: u64) -> u64
 
 // A node into the scan words: its key, its signature, the node itself as the last of its class, and its block's word no higher than its key.
 pub fn link(scan: &mut [u64], node: usize, key: u64, sign: u64, class: usize)
-    requires { ⌜ (length (now scan) ≡ 16448) × (node < 4096) × (class < 4096) ⌝ }
+    requires { ⌜ (length (now scan) ≡ 20544) × (node < 4096) × (class < 4096) ⌝ }
     ensures { λ _. ⌜ now (scan .exit) ≡ linkedTo (now (scan .entry)) node key sign class ⌝ }
 {
     let head = scan[12288 + class];
@@ -197,7 +203,7 @@ pub fn link(scan: &mut [u64], node: usize, key: u64, sign: u64, class: usize)
 
 // The words of all blocks to the mark.
 pub fn fresh(scan: &mut [u64])
-    requires { ⌜ length (now scan) ≡ 16448 ⌝ }
+    requires { ⌜ length (now scan) ≡ 20544 ⌝ }
     ensures { λ _. ⌜ now (scan .exit) ≡ freshTo (now (scan .entry)) 64 ⌝ }
 {
     for b in 0..64 {
@@ -215,7 +221,7 @@ fn block_end(block: usize, count: usize) -> usize
 
 // The mark as the open key of a node, and its block's word again the least of the block.
 pub fn retire(scan: &mut [u64], node: usize, count: usize)
-    requires { ⌜ (length (now scan) ≡ 16448) × (count ≤ 4096) × (node < count) ⌝ }
+    requires { ⌜ (length (now scan) ≡ 20544) × (count ≤ 4096) × (node < count) ⌝ }
     ensures { λ _. ⌜ now (scan .exit) ≡ retiredTo (now (scan .entry)) node count ⌝ }
 {
     let block = node / 64;
@@ -258,7 +264,25 @@ fn dominates_row(row: &[u64], states: usize, spot: Centre, paid: u64, prices: &[
     same_spot(row, spot)
 }
 
-// Whether node `u` dominates the node with these parts; `theirs` is its signature, `sign` that of the other's prices.
+// Whether node `u` dominates the node with these parts.
+fn dominates_at(
+    table: &[u64],
+    states: usize,
+    u: usize,
+    spot: Centre,
+    paid: u64,
+    prices: &[u64],
+) -> bool
+    requires { ⌜ (u * (40 + states) + (40 + states) ≤ length (now table)) × (states ≤ length (now prices)) ⌝ }
+    ensures { λ r. ⌜ r ≡ dominates (nodeIn states (now (table .entry)) u) (nodeWith spot paid (take states (now (prices .entry))) 0 0) ⌝ }
+{
+    let wide = 40 + states;
+    let from = u * wide;
+    let end = from + wide;
+    dominates_row(&table[from..end], states, spot, paid, prices)
+}
+
+// The same, by the signatures first; `theirs` is that of node `u`, `sign` that of the other's prices.
 fn dominates_node(
     table: &[u64],
     states: usize,
@@ -276,37 +300,94 @@ fn dominates_node(
     if sign | theirs != theirs {
         return false;
     }
-    let wide = 40 + states;
-    let from = u * wide;
-    let end = from + wide;
-    dominates_row(&table[from..end], states, spot, paid, prices)
+    dominates_at(table, states, u, spot, paid, prices)
 }
 
-// Whether one of the first `count` nodes dominates the node with these parts: those of its class are tried, the last first.
-pub fn is_dominated(
+// One more than the number of a node that dominates the node with these parts, 0 for none: those of its class are tried, the last first.
+fn walk(
     table: &[u64],
     states: usize,
     count: usize,
     scan: &[u64],
+    class: usize,
+    sign: u64,
     spot: Centre,
     paid: u64,
     prices: &[u64],
-) -> bool
+) -> usize
     requires { ⌜ (states ≤ 1024) × (count ≤ 4096) × (count * (40 + states) ≤ length (now table)) × (states ≤ length (now prices)) × Chained states (now table) (now scan) count ⌝ }
-    ensures { λ r. ⌜ r ≡ any count (λ u. dominates (nodeIn states (now (table .entry)) u) (nodeWith spot paid (take states (now (prices .entry))) 0 0)) ⌝ }
+    requires { ⌜ (class ≡ classOf spot) × (sign ≡ signOf (take states (now prices))) ⌝ }
+    ensures { λ r. ⌜ Dominator states (now (table .entry)) count (nodeWith spot paid (take states (now (prices .entry))) 0 0) r ⌝ }
 {
-    let sign = sign_of(&prices[..states]);
-    let class = class_of(spot);
     let mut to = scan[12288 + class] as usize;
     while to > 0 {
         let u = to - 1;
         let theirs = scan[4096 + u];
         if dominates_node(table, states, u, theirs, sign, spot, paid, prices) {
-            return true;
+            return to;
         }
         to = scan[8192 + u] as usize;
     }
-    false
+    0
+}
+
+// The place of the recent word of a class and a signature.
+fn slot_of(class: usize, sign: u64) -> usize
+    requires { ⌜ class < 4096 ⌝ }
+    ensures { λ r. ⌜ r ≡ slotOf class sign ⌝ }
+{
+    (class * 5 + (sign % 4093) as usize) % 4096
+}
+
+// The same as `walk`, but the node of the recent word is tried before.
+pub fn dominator(
+    table: &[u64],
+    states: usize,
+    count: usize,
+    scan: &[u64],
+    class: usize,
+    sign: u64,
+    spot: Centre,
+    paid: u64,
+    prices: &[u64],
+) -> usize
+    requires { ⌜ (states ≤ 1024) × (count ≤ 4096) × (count * (40 + states) ≤ length (now table)) × (states ≤ length (now prices)) × Chained states (now table) (now scan) count ⌝ }
+    requires { ⌜ (class ≡ classOf spot) × (sign ≡ signOf (take states (now prices))) ⌝ }
+    ensures { λ r. ⌜ Dominator states (now (table .entry)) count (nodeWith spot paid (take states (now (prices .entry))) 0 0) r ⌝ }
+{
+    let recent = scan[16448 + slot_of(class, sign)] as usize;
+    if recent > 0 {
+        if recent <= count {
+            if dominates_at(table, states, recent - 1, spot, paid, prices) {
+                return recent;
+            }
+        }
+    }
+    walk(table, states, count, scan, class, sign, spot, paid, prices)
+}
+
+// Whether one of the first `count` nodes dominates the node with these parts. The one that is found becomes the recent word of the class and the signature.
+pub fn is_dominated(
+    table: &[u64],
+    states: usize,
+    count: usize,
+    scan: &mut [u64],
+    class: usize,
+    sign: u64,
+    spot: Centre,
+    paid: u64,
+    prices: &[u64],
+) -> bool
+    requires { ⌜ (states ≤ 1024) × (count ≤ 4096) × (count * (40 + states) ≤ length (now table)) × (states ≤ length (now prices)) × Chained states (now table) (now scan) count ⌝ }
+    requires { ⌜ (class ≡ classOf spot) × (sign ≡ signOf (take states (now prices))) ⌝ }
+    ensures { λ r. ⌜ (r ≡ any count (λ u. dominates (nodeIn states (now (table .entry)) u) (nodeWith spot paid (take states (now (prices .entry))) 0 0))) × Recalled (now (scan .entry)) (now (scan .exit)) ⌝ }
+{
+    let found = dominator(table, states, count, scan, class, sign, spot, paid, prices);
+    if found == 0 {
+        return false;
+    }
+    scan[16448 + slot_of(class, sign)] = found as u64;
+    true
 }
 
 // ---- the choice
@@ -329,7 +410,7 @@ fn pick(keys: &[u64], count: usize, bound: u64) -> usize
 
 // One more than the node with the least key below the bound, the lowest on ties; 0 for none. The block is picked by its word, the node in the block.
 pub fn choose(scan: &[u64], count: usize, bound: u64) -> usize
-    requires { ⌜ (length (now scan) ≡ 16448) × (count ≤ 4096) × (bound ≤ mark) × Blocked (now scan) count ⌝ }
+    requires { ⌜ (length (now scan) ≡ 20544) × (count ≤ 4096) × (bound ≤ mark) × Blocked (now scan) count ⌝ }
     ensures { λ r. ⌜ r ≡ chooseBy bound (now (scan .entry)) count ⌝ }
 {
     let picked = pick(&scan[16384..16448], (count + 63) / 64, bound);

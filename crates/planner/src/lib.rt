@@ -17,7 +17,7 @@ use whole::Verdict;
 use words::zero_words;
 ghost use mathlib.Core.Path.{_≡_};
 ghost use mathlib.Core.List.{[]};
-ghost use Prim.Native.Nat.{_≤_};
+ghost use Prim.Native.Nat.{_*_, _≤_};
 ghost use lib.ListN.{length};
 ghost use Rattle.task.specs.Factors.{allStates};
 ghost use Rattle.task.specs.Valid.{Valid};
@@ -167,7 +167,56 @@ fn answer_of(
     }
 }
 
-// The tables of the task, the search, and its answer; `table` has just the words that the nodes need.
+// The tables of the task, the search, and its answer; `moves` is lent for what each action makes of each leaf state.
+fn search_with(
+    task: Task,
+    bases: [usize; 9],
+    nodes: usize,
+    budget: u32,
+    moves: &mut [u16],
+    plan: &mut [u8],
+    table: &mut [u64],
+) -> PlanAnswer
+    requires { ⌜ Valid task ⌝ }
+    requires { ⌜ Bases task bases × (1 ≤ nodes) × (nodes ≤ 4096) × (tableWords task nodes ≤ length (now table))
+        × (task .actions * allStates task ≤ length (now moves)) ⌝ }
+    ensures { λ r. ⌜ _≡_ {A = Outcome} (record { answer = r; plan = now (plan .exit); words = [] })
+        (atStop task (explored task nodes budget .reason) (explored task nodes budget .search) (now (plan .entry)) []) ⌝ }
+{
+    fill_moves(task, bases, moves);
+    let costs = action_costs(task);
+    let kinds = action_kinds(task);
+    let starts = leaf_starts(task);
+    let goals = leaf_goals(task, bases);
+    let mut scan = [0u64; 20544];
+    let stop = explore(
+        task,
+        &bases,
+        moves,
+        &costs,
+        &kinds,
+        &starts,
+        &goals,
+        nodes,
+        budget,
+        table,
+        &mut scan,
+    );
+    answer_of(
+        task,
+        &bases,
+        moves,
+        &costs,
+        &kinds,
+        &starts,
+        &goals,
+        table,
+        stop,
+        plan,
+    )
+}
+
+// The search with room for the moves: less of it to fill where the task has few.
 fn search_tables(
     task: Task,
     bases: [usize; 9],
@@ -181,38 +230,14 @@ fn search_tables(
     ensures { λ r. ⌜ _≡_ {A = Outcome} (record { answer = r; plan = now (plan .exit); words = [] })
         (atStop task (explored task nodes budget .reason) (explored task nodes budget .search) (now (plan .entry)) []) ⌝ }
 {
+    let leaves = task.leaves as usize;
+    let actions = task.actions as usize;
+    if actions * bases[leaves] <= 16384 {
+        let mut few = [0u16; 16384];
+        return search_with(task, bases, nodes, budget, &mut few, plan, table);
+    }
     let mut moves = [0u16; 261120];
-    fill_moves(task, bases, &mut moves);
-    let costs = action_costs(task);
-    let kinds = action_kinds(task);
-    let starts = leaf_starts(task);
-    let goals = leaf_goals(task, bases);
-    let mut scan = [0u64; 16448];
-    let stop = explore(
-        task,
-        &bases,
-        &moves,
-        &costs,
-        &kinds,
-        &starts,
-        &goals,
-        nodes,
-        budget,
-        table,
-        &mut scan,
-    );
-    answer_of(
-        task,
-        &bases,
-        &moves,
-        &costs,
-        &kinds,
-        &starts,
-        &goals,
-        table,
-        stop,
-        plan,
-    )
+    search_with(task, bases, nodes, budget, &mut moves, plan, table)
 }
 
 // The search, and its words zeroed behind it.

@@ -1,6 +1,6 @@
 -- The goal states by the table of goal states are the task's, and what the plan's buffer holds in the end. Assumes nothing.
-use mathlib.Core.Path.{_≡_, refl, sym, ap, _∙_}
-use mathlib.Core.Bool.{Bool, true, false, cond, not}
+use mathlib.Core.Path.{_≡_, sym, ap, _∙_}
+use mathlib.Core.Bool.{true, not}
 use mathlib.Core.List.{List, _++_, reverse}
 use Prim.Native.Nat.{ℕ, suc, _≤_, _<_}
 use native.Mathlib.Omega.{arith}
@@ -13,26 +13,23 @@ use Rattle.task.specs.declared.Task.{Task}
 use Rattle.task.specs.Meaning.{goal}
 use Rattle.task.specs.Factors.{states, valuesOf, meetsIn}
 use Rattle.layer.specs.Layer.{mark, base, leafPart}
+use Rattle.layer.specs.Layer.Front.{cond-not}
 use Rattle.layer.specs.Board.{Board}
 use Rattle.layer.specs.Board.Laws.{part-on}
 use Rattle.tables.specs.Tables.{Goals}
 use Rattle.search.specs.Node.{goalPrices, isGoal}
+use Rattle.search.specs.Node.Laws.{isGoal-out}
 use Rattle.search.specs.Explore.{Search, nodeAt}
 use Rattle.search.specs.Plan.{goalState, planOf}
 use Rattle.search.specs.Plan.Backwards.{planBack, planBack-ext, plan-back}
 use Rattle.search.specs.Plan.Laid.{laid, laid-none, laid-all}
-use Rattle.search.specs.Plan.Reaches.{goalState-is, isGoal-out}
+use Rattle.search.specs.Plan.Reaches.{goalState-is}
 use Rattle.nodes.specs.Scan.{partBy, goalsBy}
 use Rattle.plans.specs.Walk.{nodeOn, goalOn, written}
 use Rattle.plans.specs.Fit.{Grounds, searchOn, prices-on, prices-length}
 use Rattle.plans.specs.Steps.{Priced}
 
 -- ---- goal states
-
--- a test turned round
-cond-not : (b : Bool) (x y : ℕ) → cond (not b) x y ≡ cond b y x
-cond-not true x y = refl
-cond-not false x y = refl
 
 module _ (t : Task) (b : Board) (starts T : List ℕ) (count : ℕ) (g : Grounds t b starts T count) (goals : List ℕ) (is : Goals t goals)
     (u : ℕ) (h : u < count) where
@@ -56,17 +53,17 @@ module _ (t : Task) (b : Board) (starts T : List ℕ) (count : ℕ) (g : Grounds
 -- in a goal node each leaf's goal state has a price below the mark
 pub goal-priced : (t : Task) (s : Search) (u : ℕ) → isGoal t (nodeAt t s u) ≡ true → Priced t s u (λ i. goalState t s i u)
 goal-priced t s u e i m =
-    let low = isGoal-out t s u e .1 i m in
+    let low = isGoal-out t (nodeAt t s u) e .1 i m .0 in
     omega (arith, goalState-is t s u i low .1)
 
 -- ---- the buffer
 
 -- a plan that fits is written, one that does not is not
-written-fits : (p plan : List ℕ) → length p ≤ length plan → written p plan ≡ p ++ drop (length p) plan
+pub written-fits : (p plan : List ℕ) → length p ≤ length plan → written p plan ≡ p ++ drop (length p) plan
 unfolding written
 written-fits p plan h = rw (written, le-leb (length p) (length plan) h)
 
-written-not : (p plan : List ℕ) → length plan < length p → written p plan ≡ plan
+pub written-not : (p plan : List ℕ) → length plan < length p → written p plan ≡ plan
 unfolding written
 written-not p plan h = rw (written, lt-leb (length p) (length plan) h)
 

@@ -1,9 +1,9 @@
 -- Laws of sequences: one behind the other, one more action, values inside their sizes along a sequence, and the cost by centre and leaf actions.
 -- Assumes nothing.
-use mathlib.Core.Path.{_≡_, refl, _∙_}
+use mathlib.Core.Path.{_≡_, refl}
 use mathlib.Core.Logic.{_⊎_, inl, inr}
 use mathlib.Core.Bool.{Bool, true, false, cond}
-use mathlib.Core.List.{List, [], _∷_, _++_, append-nil}
+use mathlib.Core.List.{List, [], _∷_, _++_}
 use Prim.Native.Nat.{ℕ, suc, _+_, _<_}
 use native.Mathlib.Omega.{arith}
 use lib.Dec.{ltb}
@@ -36,24 +36,6 @@ module _ (t : Task) where
       let u = runs-head s a xs p in
       runs-cons s a (xs ++ ys) (u .0) (runs-join (outcome t a s) xs ys (u .1) q)
 
-  -- two sequences that run one behind the other: each runs
-  pub runs-part : (s : State) (xs ys : List ℕ) → runs t s (xs ++ ys) ≡ true → (runs t s xs ≡ true) × (runs t (final t s xs) ys ≡ true)
-  unfolding runs final
-  runs-part s [] ys p = (refl, p)
-  runs-part s (a ∷ xs) ys p =
-      let u = runs-head s a (xs ++ ys) p in
-      let w = runs-part (outcome t a s) xs ys (u .1) in
-      (runs-cons s a xs (u .0) (w .0), w .1)
-
-  -- a sequence that runs, and an action that applies behind it
-  pub runs-snoc : (s : State) (xs : List ℕ) (a : ℕ) → runs t s xs ≡ true → applies t a (final t s xs) ≡ true → runs t s (xs ++ (a ∷ [])) ≡ true
-  unfolding runs
-  runs-snoc s xs a p q = runs-join s xs (a ∷ []) p (runs-cons (final t s xs) a [] q refl)
-
-  -- and back
-  pub runs-last : (s : State) (xs : List ℕ) (a : ℕ) → runs t s (xs ++ (a ∷ [])) ≡ true → (runs t s xs ≡ true) × (applies t a (final t s xs) ≡ true)
-  runs-last s xs a p = let u = runs-part s xs (a ∷ []) p in (u .0, runs-head (final t s xs) a [] (u .1) .0)
-
   -- ---- final
 
   -- where two sequences end, one behind the other
@@ -61,11 +43,6 @@ module _ (t : Task) where
   unfolding final
   final-append s [] ys = refl
   final-append s (a ∷ xs) ys = final-append (outcome t a s) xs ys
-
-  -- where a sequence ends with one more action
-  pub final-snoc : (s : State) (xs : List ℕ) (a : ℕ) → final t s (xs ++ (a ∷ [])) ≡ outcome t a (final t s xs)
-  unfolding final
-  final-snoc s xs a = final-append s xs (a ∷ [])
 
   -- ---- costOf
 
@@ -103,16 +80,6 @@ module _ (t : Task) where
       go true = refl
       go false = refl
 
-  -- one more centre action
-  pub centreActions-snoc-centre : (xs : List ℕ) (a : ℕ) → centreAction t a ≡ true → centreActions t (xs ++ (a ∷ [])) ≡ centreActions t xs ++ (a ∷ [])
-  unfolding centreActions
-  centreActions-snoc-centre xs a e = centreActions-append xs (a ∷ []) ∙ rw e
-
-  -- one more leaf action
-  pub centreActions-snoc-leaf : (xs : List ℕ) (a : ℕ) → centreAction t a ≡ false → centreActions t (xs ++ (a ∷ [])) ≡ centreActions t xs
-  unfolding centreActions
-  centreActions-snoc-leaf xs a e = centreActions-append xs (a ∷ []) ∙ rw (e, append-nil)
-
   -- ---- leafCost
 
   -- a centre action in front
@@ -135,16 +102,6 @@ module _ (t : Task) where
           → cond b (leafCost t (xs ++ ys)) (cost t a + leafCost t (xs ++ ys)) ≡ cond b (leafCost t xs) (cost t a + leafCost t xs) + leafCost t ys
       go true e = e
       go false e = omega arith
-
-  -- one more centre action
-  pub leafCost-snoc-centre : (xs : List ℕ) (a : ℕ) → centreAction t a ≡ true → leafCost t (xs ++ (a ∷ [])) ≡ leafCost t xs
-  unfolding leafCost
-  leafCost-snoc-centre xs a e = omega (arith, leafCost-append xs (a ∷ []), leafCost-centre a [] e)
-
-  -- one more leaf action
-  pub leafCost-snoc-leaf : (xs : List ℕ) (a : ℕ) → centreAction t a ≡ false → leafCost t (xs ++ (a ∷ [])) ≡ leafCost t xs + cost t a
-  unfolding leafCost
-  leafCost-snoc-leaf xs a e = omega (arith, leafCost-append xs (a ∷ []), leafCost-leaf a [] e)
 
   -- ---- costOf, by centre and leaf actions
 

@@ -22,7 +22,7 @@ use Rattle.layer.specs.Settle.Steps.{price-in}
 use Rattle.layer.specs.Settle.Walks.{Capped, Below}
 use Rattle.layer.specs.Layer.{mark, settleLeaf, LeafWalk, passLeaf, passes, base, leafPart, joined, nextPrices, appliesTo, nextCentre}
 use Rattle.layer.specs.Layer.Leaf.{leaf-length, leaf-below, leaf-floor, leaf-real, leaf-walk-in, passLeaf-length, passLeaf-cap, passLeaf-from, passes-in}
-use Rattle.layer.specs.Layer.Laws.{sum-part, base-fits, part-length, joined-length, part-joined, joined-cap, next-length, part-next}
+use Rattle.layer.specs.Layer.Laws.{sum-part, base-fits, part-length, joined-length, part-joined, next-length, part-next}
 use Rattle.layer.specs.Board.{Board, Fits, beginOn, settledOn}
 use Rattle.layer.specs.Board.Laws.{joined-ext, joined-on, part-on, settle-on, pass-on}
 use Rattle.price.specs.Path.{Layer}
@@ -60,11 +60,6 @@ module _ (t : Task) (a : ℕ) (P : List ℕ) where
   pub part-begin : (i : ℕ) → i < t .leaves → leafPart t i (beginPrices t a P) ≡ passLeaf t (suc i) a (leafPart t i P)
   unfolding beginPrices
   part-begin = part-joined t _ begin-fits
-
-  -- no price is above the mark
-  pub begin-cap : Capped mark (beginPrices t a P)
-  unfolding beginPrices
-  begin-cap = joined-cap mark (t .leaves) _ (λ i l. passLeaf-cap t (suc i) a (leafPart t i P))
 
 -- ---- parts
 

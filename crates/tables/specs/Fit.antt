@@ -5,7 +5,7 @@ use mathlib.Core.Logic.{_⊎_, inl, inr}
 use mathlib.Core.List.{List}
 use Prim.Native.Nat.{ℕ, zero, suc, _+_, _-_, _*_, _≤_, _<_}
 use native.Mathlib.Numerals.{add-one}
-use native.Mathlib.Nat.{zero-add}
+use native.Mathlib.Nat.{zero-add, mul-le-mul-right}
 use native.Mathlib.Omega.{arith}
 use native.Mathlib.Decide.{ℕ-discrete}
 use lib.Dec.{eqb}
@@ -17,11 +17,12 @@ use Rattle.task.specs.declared.Task.{Task}
 use Rattle.task.specs.Meaning.{free, met, size, factor, goal, condition, effect}
 use Rattle.task.specs.Factors.{starPairs, centreAction, leafAction, states, allStates, valuesOf, holdsIn, meetsIn, gate, to}
 use Rattle.task.specs.Valid.{Valid}
-use Rattle.task.specs.Star.{leaf-not-centre, leaf-one, to-in}
+use Rattle.task.specs.Star.{leaf-not-centre, leaf-one, to-in, number-lt}
 use Rattle.layer.specs.Layer.{base}
-use Rattle.layer.specs.Board.{Board, Sound, Fits}
+use Rattle.layer.specs.Board.{Board, Sound, Fits, statesOn}
+use Rattle.layer.specs.Board.Laws.{states-on}
 use Rattle.tables.specs.Moves.{Small, toWith}
-use Rattle.tables.specs.Tables.{entriesFrom, startOf, Row, KindIs, Bases, Costs, Kinds, Moves, Goals}
+use Rattle.tables.specs.Tables.{entriesFrom, startOf, Row, KindIs, Bases, Starts, Costs, Kinds, Moves, Goals}
 
 -- ---- kinds
 
@@ -136,20 +137,27 @@ base-more : (t : Task) (i : ℕ) → base t (i + 1) ≡ base t i + states t (suc
 unfolding base
 base-more t i = sum-more i _
 
--- before the first leaf, and behind the last
+-- before the first leaf
 base-none : (t : Task) → base t 0 ≡ 0
 unfolding base sum
 base-none t = refl
 
-base-all : (t : Task) → base t (t .leaves) ≡ allStates t
+-- S by the table of bases
+pub row-of : (t : Task) (bases : List ℕ) → Bases t bases → getD bases (t .leaves) 0 ≡ allStates t
 unfolding base allStates
-base-all t = refl
+row-of t bases s = s .is (t .leaves) (omega arith)
+
+-- each leaf's initial state is one of its states
+pub start-in : (t : Task) → Valid t → (b : Board) → Fits t b → (starts : List ℕ) → Starts t starts → (i : ℕ) → i < b .leaves → getD starts i 0 < statesOn b i
+start-in t ok b f starts s i l =
+    let m : i < t .leaves = omega (arith, f .leaves-is) in
+    omega (arith, s .is i m, number-lt t (suc i) (ok .fields .initial-inside), states-on t b f i m)
+
+-- the moves of the largest task
+pub moves-fit : (t : Task) → Valid t → t .actions * allStates t ≤ 261120
+moves-fit t ok = omega (arith, mul-le-mul-right (allStates t) (ok .fields .few-actions), ok .whole .few-all-states)
 
 module _ (t : Task) (ok : Valid t) (bases moves costs kinds : List ℕ) (isb : Bases t bases) where
-  -- S by the tables
-  row-is : getD bases (t .leaves) 0 ≡ allStates t
-  row-is = isb .is (t .leaves) (omega arith) ∙ base-all t
-
   -- a leaf's states by the tables
   states-is : (i : ℕ) → i < t .leaves → getD bases (i + 1) 0 - getD bases i 0 ≡ states t (suc i)
   states-is i l = rw (isb .is (i + 1) (omega arith), isb .is i (omega arith), base-more t i) (omega arith)
@@ -157,7 +165,7 @@ module _ (t : Task) (ok : Valid t) (bases moves costs kinds : List ℕ) (isb : B
   -- an entry of the moves
   move-is : Moves t moves → (i a x : ℕ) → i < t .leaves → a < t .actions → x < states t (suc i)
       → getD moves (a * getD bases (t .leaves) 0 + (getD bases i 0 + x)) 0 ≡ to t (suc i) a x
-  move-is ism i a x l la m = rw (row-is, isb .is i (omega arith)) (ism i a x l la m)
+  move-is ism i a x l la m = rw (row-of t bases isb, isb .is i (omega arith)) (ism i a x l la m)
 
   -- what an action makes of a leaf state is at most the count of states
   to-few : (i a x : ℕ) → a < t .actions → (y : ℕ) → to t (suc i) a x ≡ y → y ≤ states t (suc i)
@@ -190,8 +198,8 @@ module _ (t : Task) (ok : Valid t) (bases moves costs kinds : List ℕ) (isb : B
         bases-first = isb .is 0 (omega arith) ∙ base-none t;
         bases-rise = λ i l. omega (arith, isb .is (i + 1) (omega arith), isb .is i (omega arith), base-more t i);
         few-states = λ i l. rw (states-is i l) (ok .whole .few-states i l);
-        few-all = rw row-is (ok .whole .few-all-states);
-        moves-long = rw row-is long;
+        few-all = rw (row-of t bases isb) (ok .whole .few-all-states);
+        moves-long = rw (row-of t bases isb) long;
         moves-in = λ i a x l la m.
             let m′ : x < states t (suc i) = rw (states-is i l) at m in
             rw (states-is i l, move-is ism i a x l la m′) (to-few i a x la _ refl);

@@ -10,7 +10,8 @@ use lib.ListN.{length, getD}
 use Rattle.layer.specs.Settle.Walks.{Ranged}
 use Rattle.layer.specs.Layer.{mark}
 use Rattle.layer.specs.Lent.{costBy, moveBy}
-use Rattle.search.specs.Plan.Depths.{list-getD, depth0}
+use Rattle.search.specs.Node.Laws.{list-entry}
+use Rattle.search.specs.Plan.Depths.{depth0}
 use Rattle.search.specs.Plan.Laid.{laid}
 use Rattle.wayback.specs.Steps.{tightBy, rowsOf, depthsBy, backBy, wayBy, tableDepths, tableBack, Walkable, Tabled}
 use Rattle.wayback.specs.Sources.{Sourced, depths-length, depths-below, depths-bound, depths-ext, depths-sourced, back-ext}
@@ -54,7 +55,7 @@ module _ (moves : List ℕ) (row at : ℕ) (costs acts : List ℕ) (m : ℕ) (B 
       → Walked (tableBack moves row at costs acts m B P y) total p plan (record { state = y; place = p }) plan
   unfolding wayBy backBy laid
   back-kept total p plan e =
-      let kept : getD (depth0 B P) y mark ≡ 0 = list-getD (length P) _ y mark (w .inside) ∙ e in
+      let kept : getD (depth0 B P) y mark ≡ 0 = list-entry (length P) _ y mark (w .inside) ∙ e in
       let none : getD (tableDepths moves row at costs acts m B P) y mark ≡ 0 = omega (arith, depths-below (tightBy moves row at costs acts P) m B P y) in
       rw (none, backBy) (record { state = refl; place = omega arith; plan = refl })
 

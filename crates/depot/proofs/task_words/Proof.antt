@@ -3,7 +3,7 @@ use Prim.Native.Nat.{_+_, _*_}
 use mathlib.Core.Path.{_≡_}
 use native.Mathlib.Omega.{arith}
 use lib.ListN.{getD}
-use Rattle.pricer.specs.Pricer.Laws.{row-of}
+use Rattle.tables.specs.Fit.{row-of}
 use Rattle.planner.specs.Planner.{tableWords}
 use Rattle.planner.specs.Planner.Answers.{words-is, words-few}
 use Rattle.depot.specs.Depot.Laws.{words-none, words-many, words-some}

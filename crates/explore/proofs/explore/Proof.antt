@@ -9,21 +9,24 @@ use borrow.Author.Needs.{needs}
 use Rattle.task.specs.Factors.{allStates}
 use Rattle.layer.specs.Board.{Board, Sound}
 use Rattle.layer.specs.Board.Laws.{row-on}
+use Rattle.layer.specs.First.{firsts-part}
 use Rattle.layer.specs.Lent.{boardOf}
 use Rattle.explore.specs.declared.Round.the-variants.{Goes}
 use Rattle.explore.specs.Held.{Suits, Room}
+use Rattle.explore.specs.Held.Laws.{cut}
 use Rattle.explore.specs.Held.Start.{tables-suit}
 use Rattle.explore.specs.Held.Rounds.{Ahead, AheadBy, Rounded, ahead-start, ahead-begun, ahead-count}
 use Rattle.explore.proofs.explore.Statement.{statement}
 use Rattle.explore.proofs.explore.Tie as tie
 
 abbrev Inv-loop : tie.InvT-loop
-Inv-loop bases moves costs kinds starts goals nodes budget table₀ scan₀ leaves actions factors goal conditions effects run₀ table scan run =
-    (length table ≡ length table₀) × (length scan ≡ 16448)
+Inv-loop bases moves costs kinds starts goals nodes budget table₀ scan₀ leaves actions factors goal conditions effects still firsts run₀ old₀ next₀ table scan run old next =
+    (length table ≡ length table₀) × (length scan ≡ 20544)
     × AheadBy (boardOf leaves actions bases moves costs kinds factors conditions) effects goals goal nodes budget table₀ scan₀ run₀ table scan run
+    × (length old ≡ 1024) × (length next ≡ 1024)
 
 abbrev μ-loop : tie.MeasureT-loop
-μ-loop bases moves costs kinds starts goals nodes budget table₀ scan₀ leaves actions factors goal conditions effects run₀ table scan run = suc nodes - run .begun
+μ-loop bases moves costs kinds starts goals nodes budget table₀ scan₀ leaves actions factors goal conditions effects still firsts run₀ old₀ next₀ table scan run old next = suc nodes - run .begun
 
 -- the Board of the task
 abbrev board : tie.Start Inv-loop μ-loop → Board
@@ -44,7 +47,7 @@ fit s =
 
 -- the start, seen from the loop
 abbrev first : tie.At-loop Inv-loop μ-loop → tie.Start Inv-loop μ-loop
-first l = l .before .before .before .before .before .before .before .before .before .before .before .before .before .before .before .before .before .before .before .before .before .before
+first l = l .before .before .before .before .before .before .before .before .before .before .before .before .before .before .before .before .before .before .before .before .before .before .before .before .before
 
 -- before each round the rest of the task's search is ahead
 ahead : (l : tie.At-loop Inv-loop μ-loop) → let a = first l .args in
@@ -90,67 +93,96 @@ cast-leaves c = search needs
 cast-actions : tie.Need-cast-actions Inv-loop μ-loop
 cast-actions c = search needs
 
+still-actions-requires : tie.Need-still-actions-requires Inv-loop μ-loop
+still-actions-requires c κs =
+    let s = c .before .before .before .before .before .before .before .before .before .before .before .before .before .before in
+    let sound = fit s .1 in
+    (cut {n = 1024} sound (sound .few-all), sound .few-actions, sound .moves-long)
+
+slice-aggregate-first-conditions : tie.Need-slice-aggregate-first-conditions Inv-loop μ-loop
+slice-aggregate-first-conditions c = sym (lists (c .before .before .before .before .before .before .before .before .before .before .before .before .before .before .before .before) .1)
+
+first-conditions-requires : tie.Need-first-conditions-requires Inv-loop μ-loop
+first-conditions-requires c κs =
+    let s = c .before .before .before .before .before .before .before .before .before .before .before .before .before .before .before .before in
+    (fit s .1 .few-actions, lists s .1)
+
 start-requires : tie.Need-start-requires Inv-loop μ-loop
 start-requires c κs =
-    let s = c .before .before .before .before .before .before .before .before .before .before .before .before .before .before .before .before in
+    let s = c .before .before .before .before .before .before .before .before .before .before .before .before .before .before .before .before .before .before .before in
     let row = mul-le-mul-right {m = 1} {n = s .args .nodes + 1} (40 + allStates (s .args .task)) (omega arith) in
     (s .pre .0, (s .pre .1 .0, (omega (arith, row, s .pre .1 .1 .2), s .pre .1 .1 .3, s .pre .1 .1 .4)))
 
 loop-holds : tie.Need-loop-holds Inv-loop μ-loop
 loop-holds c =
-    let s = c .before .before .before .before .before .before .before .before .before .before .before .before .before .before .before .before .before .before .before .before .before in
+    let s = c .before .before .before .before .before .before .before .before .before .before .before .before .before .before .before .before .before .before .before .before .before .before .before .before in
     let kept : length (c .before .before .before .before .start .last .1 .1 .1 .1 .1 .1 .1 .1 .0) ≡ length (now (s .args .scan)) = c .before .before .before .before .start .kept .1 .1 .1 .1 .1 .1 .1 .1 .0 in
-    (refl, kept ∙ s .pre .1 .1 .3, λ t f a. a)
+    (refl, kept ∙ s .pre .1 .1 .3, (λ t f a. a), search needs, search needs)
 
 slice-aggregate-next-round : tie.Need-slice-aggregate-next-round Inv-loop μ-loop
 slice-aggregate-next-round c = sym (lists (first (c .before)) .1)
 
 slice-aggregate-next-round-2 : tie.Need-slice-aggregate-next-round-2 Inv-loop μ-loop
-slice-aggregate-next-round-2 c = sym (lists (first (c .before .before)) .2)
+slice-aggregate-next-round-2 c = sym (c .before .before .before .before .before .before .before .before .before .before .before .before .still-actions .ensures .long)
+
+slice-aggregate-next-round-3 : tie.Need-slice-aggregate-next-round-3 Inv-loop μ-loop
+slice-aggregate-next-round-3 c = sym (c .before .before .before .before .before .before .before .before .before .before .before .first-conditions .ensures .long)
+
+slice-aggregate-next-round-4 : tie.Need-slice-aggregate-next-round-4 Inv-loop μ-loop
+slice-aggregate-next-round-4 c = sym (lists (first (c .before .before .before .before)) .2)
+
+slice-aggregate-next-round-5 : tie.Need-slice-aggregate-next-round-5 Inv-loop μ-loop
+slice-aggregate-next-round-5 c = sym (c .before .before .before .before .before .before .before .loop .inv .3)
+
+slice-aggregate-next-round-6 : tie.Need-slice-aggregate-next-round-6 Inv-loop μ-loop
+slice-aggregate-next-round-6 c = sym (c .before .before .before .before .before .before .before .before .loop .inv .4)
 
 next-round-requires : tie.Need-next-round-requires Inv-loop μ-loop
 next-round-requires c κs =
-    let l = c .before .before .before .before in
+    let l = c .before .before .before .before .before .before .before .before in
     let s = first l in
-    (fit s .1, ((lists s .2, s .pre .1 .0 .1 .long, omega (arith, few l, s .pre .1 .1 .1)), room l))
+    let asked = firsts-part (board s) (c .before .before .before .before .before .before .before .before .before .before .before .before .before .before .before .before .first-conditions .result) (c .before .before .before .before .before .before .before .before .before .before .before .before .before .before .before .before .first-conditions .ensures) in
+    (fit s .1, ((c .before .before .before .before .before .before .before .before .before .before .before .before .before .before .before .before .before .before .still-actions .ensures, asked), ((lists s .2, s .pre .1 .0 .1 .long, omega (arith, few l, s .pre .1 .1 .1)), (room l, (l .loop .inv .3, l .loop .inv .4)))))
 
 enum-known-round : tie.Need-enum-known-round Inv-loop μ-loop
 enum-known-round c = search needs
 
 same-length : tie.Need-same-length Inv-loop μ-loop
 same-length c =
-    let kept : length (c .before .before .before .before .before .before .before .next-round .last .1 .1 .1 .1 .1 .1 .1 .1 .1 .1 .1 .1 .1 .0) ≡ length (c .before .before .before .before .before .before .before .before .before .before .before .before .loop .table) = c .before .before .before .before .before .before .before .next-round .kept .1 .1 .1 .1 .1 .1 .1 .1 .1 .1 .1 .1 .1 .0 in
-    kept ∙ long (c .before .before .before .before .before .before .before .before .before .before .before .before)
+    let kept : length (c .before .before .before .before .before .before .before .before .before .next-round .last .1 .1 .1 .1 .1 .1 .1 .1 .1 .1 .1 .1 .1 .1 .1 .0) ≡ length (c .before .before .before .before .before .before .before .before .before .before .before .before .before .before .before .before .before .before .loop .table) = c .before .before .before .before .before .before .before .before .before .next-round .kept .1 .1 .1 .1 .1 .1 .1 .1 .1 .1 .1 .1 .1 .1 .1 .0 in
+    kept ∙ long (c .before .before .before .before .before .before .before .before .before .before .before .before .before .before .before .before .before .before)
 
 same-length-2 : tie.Need-same-length-2 Inv-loop μ-loop
 same-length-2 c =
-    let kept : length (c .before .before .before .before .before .before .before .next-round .last .1 .1 .1 .1 .1 .1 .1 .1 .1 .1 .1 .1 .1 .1 .0) ≡ length (c .before .before .before .before .before .before .before .before .before .before .before .before .loop .scan) = c .before .before .before .before .before .before .before .next-round .kept .1 .1 .1 .1 .1 .1 .1 .1 .1 .1 .1 .1 .1 .1 .0 in
-    kept ∙ c .before .before .before .before .before .before .before .before .before .before .before .before .loop .inv .1 ∙ sym (first (c .before .before .before .before .before .before .before .before .before .before .before .before) .pre .1 .1 .3)
+    let kept : length (c .before .before .before .before .before .before .before .before .before .next-round .last .1 .1 .1 .1 .1 .1 .1 .1 .1 .1 .1 .1 .1 .1 .1 .1 .0) ≡ length (c .before .before .before .before .before .before .before .before .before .before .before .before .before .before .before .before .before .before .loop .scan) = c .before .before .before .before .before .before .before .before .before .next-round .kept .1 .1 .1 .1 .1 .1 .1 .1 .1 .1 .1 .1 .1 .1 .1 .1 .0 in
+    kept ∙ c .before .before .before .before .before .before .before .before .before .before .before .before .before .before .before .before .before .before .loop .inv .1 ∙ sym (first (c .before .before .before .before .before .before .before .before .before .before .before .before .before .before .before .before .before .before) .pre .1 .1 .3)
 
 returns : tie.Need-returns Inv-loop μ-loop
 returns c =
-    let l = c .before .before .before .before .before .before .before .before .before .before .before .before in
+    let l = c .before .before .before .before .before .before .before .before .before .before .before .before .before .before .before .before .before .before in
     let s = first l in
-    rw (c .before .round .given .1) at (c .before .before .before .before .before .before .before .next-round .ensures (s .args .task) (fit s .0) (ahead l))
+    rw (c .before .round .given .1) at (c .before .before .before .before .before .before .before .before .before .next-round .ensures (s .args .task) (fit s .0) (ahead l))
 
 enum-known-round-2 : tie.Need-enum-known-round-2 Inv-loop μ-loop
 enum-known-round-2 c = search needs
 
 loop-less : tie.Need-loop-less Inv-loop μ-loop
 loop-less c =
-    let l = c .before .before .before .before .before .before .before .before .before .before .before .before in
+    let l = c .before .before .before .before .before .before .before .before .before .before .before .before .before .before .before .before .before .before in
     let s = first l in
-    let told : Rounded (s .args .task) (s .args .nodes) (s .args .budget) (l .loop .run .begun) (allStates (s .args .task)) (c .before .before .before .before .before .before .before .next-round .last .1 .1 .1 .1 .1 .1 .1 .1 .1 .1 .1 .1 .1 .0) (c .before .before .before .before .before .before .before .next-round .last .1 .1 .1 .1 .1 .1 .1 .1 .1 .1 .1 .1 .1 .1 .0) (Goes (c .before .round2 .given .0 .0)) =
-    rw (c .before .round2 .given .1) at (c .before .before .before .before .before .before .before .next-round .ensures (s .args .task) (fit s .0) (ahead l)) in
+    let told : Rounded (s .args .task) (s .args .nodes) (s .args .budget) (l .loop .run .begun) (allStates (s .args .task)) (c .before .before .before .before .before .before .before .before .before .next-round .last .1 .1 .1 .1 .1 .1 .1 .1 .1 .1 .1 .1 .1 .1 .1 .0) (c .before .before .before .before .before .before .before .before .before .next-round .last .1 .1 .1 .1 .1 .1 .1 .1 .1 .1 .1 .1 .1 .1 .1 .1 .0) (Goes (c .before .round2 .given .0 .0)) =
+    rw (c .before .round2 .given .1) at (c .before .before .before .before .before .before .before .before .before .next-round .ensures (s .args .task) (fit s .0) (ahead l)) in
     omega (arith, told .1, few l)
 
 loop-again : tie.Need-loop-again Inv-loop μ-loop
 loop-again c =
-    let l = c .before .before .before .before .before .before .before .before .before .before .before .before in
-    let n = c .before .before .before .before .before .before .before .next-round in
-    let table-kept : length (n .last .1 .1 .1 .1 .1 .1 .1 .1 .1 .1 .1 .1 .1 .0) ≡ length (l .loop .table) = n .kept .1 .1 .1 .1 .1 .1 .1 .1 .1 .1 .1 .1 .1 .0 in
-    let scan-kept : length (n .last .1 .1 .1 .1 .1 .1 .1 .1 .1 .1 .1 .1 .1 .1 .0) ≡ length (l .loop .scan) = n .kept .1 .1 .1 .1 .1 .1 .1 .1 .1 .1 .1 .1 .1 .1 .0 in
-    (table-kept ∙ l .loop .inv .0, scan-kept ∙ l .loop .inv .1, λ t f a. (rw (c .before .round2 .given .1) at (n .ensures t f (l .loop .inv .2 t f a))) .0)
+    let l = c .before .before .before .before .before .before .before .before .before .before .before .before .before .before .before .before .before .before in
+    let n = c .before .before .before .before .before .before .before .before .before .next-round in
+    let table-kept : length (n .last .1 .1 .1 .1 .1 .1 .1 .1 .1 .1 .1 .1 .1 .1 .1 .0) ≡ length (l .loop .table) = n .kept .1 .1 .1 .1 .1 .1 .1 .1 .1 .1 .1 .1 .1 .1 .1 .0 in
+    let scan-kept : length (n .last .1 .1 .1 .1 .1 .1 .1 .1 .1 .1 .1 .1 .1 .1 .1 .1 .0) ≡ length (l .loop .scan) = n .kept .1 .1 .1 .1 .1 .1 .1 .1 .1 .1 .1 .1 .1 .1 .1 .1 .0 in
+    let old-kept : length (n .last .1 .1 .1 .1 .1 .1 .1 .1 .1 .1 .1 .1 .1 .1 .1 .1 .1 .0) ≡ length (l .loop .old) = n .kept .1 .1 .1 .1 .1 .1 .1 .1 .1 .1 .1 .1 .1 .1 .1 .1 .1 .0 in
+    let next-kept : length (n .last .1 .1 .1 .1 .1 .1 .1 .1 .1 .1 .1 .1 .1 .1 .1 .1 .1 .1 .0) ≡ length (l .loop .next) = n .kept .1 .1 .1 .1 .1 .1 .1 .1 .1 .1 .1 .1 .1 .1 .1 .1 .1 .1 .0 in
+    (table-kept ∙ l .loop .inv .0, scan-kept ∙ l .loop .inv .1, (λ t f a. (rw (c .before .round2 .given .1) at (n .ensures t f (l .loop .inv .2 t f a))) .0), old-kept ∙ l .loop .inv .3, next-kept ∙ l .loop .inv .4)
 
 pub explore-spec : {M : Type 1} → statement M
 explore-spec =
@@ -160,10 +192,17 @@ explore-spec =
     μ-loop
     cast-leaves
     cast-actions
+    still-actions-requires
+    slice-aggregate-first-conditions
+    first-conditions-requires
     start-requires
     loop-holds
     slice-aggregate-next-round
     slice-aggregate-next-round-2
+    slice-aggregate-next-round-3
+    slice-aggregate-next-round-4
+    slice-aggregate-next-round-5
+    slice-aggregate-next-round-6
     next-round-requires
     enum-known-round
     same-length

@@ -24,24 +24,24 @@ board s =
     boardOf (a .leaves) (a .actions) (now (a .bases)) (now (a .moves)) (now (a .costs)) (now (a .kinds)) (a .factors) (now (a .conditions))
 
 -- a node is chosen: one of those kept
-picked : (c : tie.Else1) → let a = c .before .before .before .before .before .before .before .before .before .before .before .before .args in
+picked : (c : tie.Else1) → let a = c .before .before .before .before .before .before .before .before .before .before .before .before .before .before .before .before .args in
     (chooseBy (a .run .«best_cost») (now (a .scan)) (a .run .count) ≡ suc (c .before .choose .result - 1)) × (c .before .choose .result - 1 < a .run .count)
 picked c =
-    let a = c .before .before .before .before .before .before .before .before .before .before .before .before .args in
+    let a = c .before .before .before .before .before .before .before .before .before .before .before .before .before .before .before .before .args in
     let e : c .before .choose .result ≡ suc (c .before .choose .result - 1) = omega (arith, c .if1 .left) in
     (sym (c .before .choose .ensures) ∙ e, omega (arith, choice-in (a .run .«best_cost») (now (a .scan)) (a .run .count), c .before .choose .ensures))
 
 -- there is an open key for each node
 long : (s : tie.Start) → s .args .run .count ≤ length (now (s .args .scan))
-long s = omega (arith, s .pre .1 .1 .scan-long, s .pre .1 .1 .count-few, s .pre .1 .1 .few-nodes)
+long s = omega (arith, s .pre .1 .1 .1 .0 .scan-long, s .pre .1 .1 .1 .0 .count-few, s .pre .1 .1 .1 .0 .few-nodes)
 
 -- there are no more nodes than scan words of each part
 few : (s : tie.Start) → s .args .run .count ≤ 4096
-few s = omega (arith, s .pre .1 .1 .count-few, s .pre .1 .1 .few-nodes)
+few s = omega (arith, s .pre .1 .1 .1 .0 .count-few, s .pre .1 .1 .1 .0 .few-nodes)
 
 -- where the chosen node was retired: the function's start, the node, and the scan words then
 abbrev entry : tie.After-retire → tie.Start
-entry r = r .before .before .before .before .before .before .before .before .before .before .before .before .before .before .before .before
+entry r = r .before .before .before .before .before .before .before .before .before .before .before .before .before .before .before .before .before .before .before .before
 
 abbrev node : tie.After-retire → ℕ
 node r = r .before .before .before .before .before .choose .result - 1
@@ -59,7 +59,7 @@ keyed : (r : tie.After-retire) (v : ℕ) → v < entry r .args .run .count
 keyed r =
     let s = entry r in
     let a = s .args in
-    retired-keyed (rowOn (board s)) (a .nodes) (now (a .table)) (now (a .scan)) (words r) (a .run) (node r) (s .pre .1 .1)
+    retired-keyed (rowOn (board s)) (a .nodes) (now (a .table)) (now (a .scan)) (words r) (a .run) (node r) (s .pre .1 .1 .1 .0)
     (picked (r .before .before .before .before) .1) (r .retire .ensures)
 
 -- there is room for the expansion
@@ -68,87 +68,99 @@ room : (r : tie.After-retire) → let a = entry r .args in
 room r =
     let s = entry r in
     let a = s .args in
-    retired-room (rowOn (board s)) (a .nodes) (now (a .table)) (now (a .scan)) (words r) (a .run) (node r) (s .pre .1 .1)
+    retired-room (rowOn (board s)) (a .nodes) (now (a .table)) (now (a .scan)) (words r) (a .run) (node r) (s .pre .1 .1 .1 .0)
     (picked (r .before .before .before .before) .1) (r .retire .ensures)
 
 choose-requires : tie.Need-choose-requires
 choose-requires c κs =
-    let s = c .before .before .before .before .before .before .before .before .before .before in
-    (s .pre .1 .1 .scan-long, few s, omega (arith, s .good .1 .1 .1 .1 .1 .1 .1 .1 .1 .1 .1 .1 .1 .1 .1 .0), s .pre .1 .1 .chained .blocks)
+    let s = c .before .before .before .before .before .before .before .before .before .before .before .before .before .before in
+    (s .pre .1 .1 .1 .0 .scan-long, few s, omega (arith, s .good .1 .1 .1 .1 .1 .1 .1 .1 .1 .1 .1 .1 .1 .1 .1 .1 .1 .1 .1 .0), s .pre .1 .1 .1 .0 .chained .blocks)
 
 same-length : tie.Need-same-length
 same-length c = search needs
 
 returns : tie.Need-returns
 returns c =
-    let s = c .before .before .before .before .before .before .before .before .before .before .before .before in
-    λ t f a. ahead-finished t (f .valid) (s .args .nodes) (s .pre .1 .1 .few-nodes) (s .args .budget) (allStates t) (now (s .args .table)) (now (s .args .scan)) (s .args .run) a (sym (c .before .choose .ensures) ∙ c .if1 .taken)
+    let s = c .before .before .before .before .before .before .before .before .before .before .before .before .before .before .before .before in
+    λ t f a. ahead-finished t (f .valid) (s .args .nodes) (s .pre .1 .1 .1 .0 .few-nodes) (s .args .budget) (allStates t) (now (s .args .table)) (now (s .args .scan)) (s .args .run) a (sym (c .before .choose .ensures) ∙ c .if1 .taken)
 
 same-length-2 : tie.Need-same-length-2
 same-length-2 c = search needs
 
 returns-2 : tie.Need-returns-2
 returns-2 c =
-    let s = c .before .before .before .before .before .before .before .before .before .before .before .before .before .before in
-    λ t f a. ahead-spent t (f .valid) (s .args .nodes) (s .pre .1 .1 .few-nodes) (s .args .budget) (allStates t) (now (s .args .table)) (now (s .args .scan)) (s .args .run) a (c .before .before .before .choose .result - 1) (picked (c .before .before) .0) (c .if2 .taken)
+    let s = c .before .before .before .before .before .before .before .before .before .before .before .before .before .before .before .before .before .before in
+    λ t f a. ahead-spent t (f .valid) (s .args .nodes) (s .pre .1 .1 .1 .0 .few-nodes) (s .args .budget) (allStates t) (now (s .args .table)) (now (s .args .scan)) (s .args .run) a (c .before .before .before .choose .result - 1) (picked (c .before .before) .0) (c .if2 .taken)
 
 sub-u : tie.Need-sub-u
 sub-u c = search needs
 
 retire-requires : tie.Need-retire-requires
 retire-requires c κs =
-    let s = c .before .before .before .before .before .before .before .before .before .before .before .before .before .before .before in
-    (s .pre .1 .1 .scan-long, few s, picked (c .before .before .before) .1)
+    let s = c .before .before .before .before .before .before .before .before .before .before .before .before .before .before .before .before .before .before .before in
+    (s .pre .1 .1 .1 .0 .scan-long, few s, picked (c .before .before .before) .1)
 
-add-t32 : tie.Need-add-t32
-add-t32 c = search needs
+add-t36 : tie.Need-add-t36
+add-t36 c = omega (arith, entry (c .before .before .before) .pre .1 .1 .0 .2)
 
 expand-requires : tie.Need-expand-requires
 expand-requires c κs =
-    let r = c .before .before .before .before .before in
+    let r = c .before .before .before .before .before .before .before in
     let s = entry r in
-    (s .pre .0, ((s .pre .1 .0 .0, s .pre .1 .0 .1, picked (r .before .before .before .before) .1), room r))
+    (s .pre .0, (s .pre .1 .0, ((s .pre .1 .1 .0 .0, s .pre .1 .1 .0 .1, picked (r .before .before .before .before) .1), (room r, s .pre .1 .1 .1 .1))))
 
 same-length-3 : tie.Need-same-length-3
 same-length-3 c = search needs
 
 same-length-4 : tie.Need-same-length-4
 same-length-4 c =
-    let r = c .before .before .before .before .before .before .before .before .before .before .before .before in
-    let w = c .before .before .before .before .before .before .expand in
-    let kept : length (w .last .1 .1 .1 .1 .1 .1 .1 .1 .1 .1 .1 .1 .1 .1 .0) ≡ length (words r) = w .kept .1 .1 .1 .1 .1 .1 .1 .1 .1 .1 .1 .1 .1 .1 .0 in
+    let r = c .before .before .before .before .before .before .before .before .before .before .before .before .before .before .before .before .before .before in
+    let w = c .before .before .before .before .before .before .before .before .before .before .expand in
+    let kept : length (w .last .1 .1 .1 .1 .1 .1 .1 .1 .1 .1 .1 .1 .1 .1 .1 .1 .0) ≡ length (words r) = w .kept .1 .1 .1 .1 .1 .1 .1 .1 .1 .1 .1 .1 .1 .1 .1 .1 .0 in
     kept ∙ words-long r
-
-returns-3 : tie.Need-returns-3
-returns-3 c =
-    let r = c .before .before .before .before .before .before .before .before .before .before .before .before in
-    let s = entry r in
-    let a = s .args in
-    let w = c .before .before .before .before .before .before .expand in
-    λ t f h. ahead-full t (f .valid) (a .nodes) (s .pre .1 .1 .few-nodes) (a .budget) (allStates t) (now (a .table)) (now (a .scan)) (a .run) h (node r)
-    (picked (r .before .before .before .before) .0) (long s) (r .before .before .if2 .left) (words r) (keyed r)
-    (w .result) (w .last .1 .1 .1 .1 .1 .1 .1 .1 .1 .1 .1 .1 .1 .0) (w .last .1 .1 .1 .1 .1 .1 .1 .1 .1 .1 .1 .1 .1 .1 .0) (w .ensures .1 t f) (c .if3 .taken)
 
 same-length-5 : tie.Need-same-length-5
 same-length-5 c = search needs
 
 same-length-6 : tie.Need-same-length-6
-same-length-6 c =
-    let r = c .before .before .before .before .before .before .before .before .before .before .before .before in
-    let w = c .before .before .before .before .before .before .expand in
-    let kept : length (w .last .1 .1 .1 .1 .1 .1 .1 .1 .1 .1 .1 .1 .1 .1 .0) ≡ length (words r) = w .kept .1 .1 .1 .1 .1 .1 .1 .1 .1 .1 .1 .1 .1 .1 .0 in
+same-length-6 c = search needs
+
+returns-3 : tie.Need-returns-3
+returns-3 c =
+    let r = c .before .before .before .before .before .before .before .before .before .before .before .before .before .before .before .before .before .before in
+    let s = entry r in
+    let a = s .args in
+    let w = c .before .before .before .before .before .before .before .before .before .before .expand in
+    λ t f h. ahead-full t (f .valid) (a .nodes) (s .pre .1 .1 .1 .0 .few-nodes) (a .budget) (allStates t) (now (a .table)) (now (a .scan)) (a .run) h (node r)
+    (picked (r .before .before .before .before) .0) (long s) (r .before .before .if2 .left) (words r) (keyed r)
+    (w .result) (w .last .1 .1 .1 .1 .1 .1 .1 .1 .1 .1 .1 .1 .1 .1 .1 .0) (w .last .1 .1 .1 .1 .1 .1 .1 .1 .1 .1 .1 .1 .1 .1 .1 .1 .0) (w .ensures .1 t f) (c .if3 .taken)
+
+same-length-7 : tie.Need-same-length-7
+same-length-7 c = search needs
+
+same-length-8 : tie.Need-same-length-8
+same-length-8 c =
+    let r = c .before .before .before .before .before .before .before .before .before .before .before .before .before .before .before .before .before .before in
+    let w = c .before .before .before .before .before .before .before .before .before .before .expand in
+    let kept : length (w .last .1 .1 .1 .1 .1 .1 .1 .1 .1 .1 .1 .1 .1 .1 .1 .1 .0) ≡ length (words r) = w .kept .1 .1 .1 .1 .1 .1 .1 .1 .1 .1 .1 .1 .1 .1 .1 .1 .0 in
     kept ∙ words-long r
+
+same-length-9 : tie.Need-same-length-9
+same-length-9 c = search needs
+
+same-length-10 : tie.Need-same-length-10
+same-length-10 c = search needs
 
 returns-4 : tie.Need-returns-4
 returns-4 c =
-    let r = c .before .before .before .before .before .before .before .before .before .before .before .before in
+    let r = c .before .before .before .before .before .before .before .before .before .before .before .before .before .before .before .before .before .before in
     let s = entry r in
     let a = s .args in
-    let w = c .before .before .before .before .before .before .expand in
+    let w = c .before .before .before .before .before .before .before .before .before .before .expand in
     λ t f h. (
-      ahead-on t (f .valid) (a .nodes) (s .pre .1 .1 .few-nodes) (a .budget) (allStates t) (now (a .table)) (now (a .scan)) (a .run) h (node r)
+      ahead-on t (f .valid) (a .nodes) (s .pre .1 .1 .1 .0 .few-nodes) (a .budget) (allStates t) (now (a .table)) (now (a .scan)) (a .run) h (node r)
           (picked (r .before .before .before .before) .0) (long s) (r .before .before .if2 .left) (words r) (keyed r)
-          (w .result) (w .last .1 .1 .1 .1 .1 .1 .1 .1 .1 .1 .1 .1 .1 .0) (w .last .1 .1 .1 .1 .1 .1 .1 .1 .1 .1 .1 .1 .1 .1 .0) (w .ensures .1 t f) (c .if3 .left) (w .ensures .0 .2) (rw (row-on t (board s) (f .fits)) at (w .ensures .0 .3)),
+          (w .result) (w .last .1 .1 .1 .1 .1 .1 .1 .1 .1 .1 .1 .1 .1 .1 .1 .0) (w .last .1 .1 .1 .1 .1 .1 .1 .1 .1 .1 .1 .1 .1 .1 .1 .1 .0) (w .ensures .1 t f) (c .if3 .left) (w .ensures .0 .2) (rw (row-on t (board s) (f .fits)) at (w .ensures .0 .3)),
       w .ensures .0 .2,
     )
 
@@ -163,11 +175,15 @@ next-round-spec =
     returns-2
     sub-u
     retire-requires
-    add-t32
+    add-t36
     expand-requires
     same-length-3
     same-length-4
-    returns-3
     same-length-5
     same-length-6
+    returns-3
+    same-length-7
+    same-length-8
+    same-length-9
+    same-length-10
     returns-4)

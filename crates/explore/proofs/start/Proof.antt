@@ -11,9 +11,10 @@ use Rattle.layer.specs.Layer.{mark}
 use Rattle.layer.specs.Board.{Board, Sound}
 use Rattle.layer.specs.Board.Laws.{row-on}
 use Rattle.layer.specs.Lent.{boardOf}
+use Rattle.tables.specs.Fit.{start-in}
 use Rattle.nodes.specs.Scan.{Cut}
 use Rattle.explore.specs.Held.{Suits}
-use Rattle.explore.specs.Held.Start.{sound-cut, tables-suit, start-in, start-is}
+use Rattle.explore.specs.Held.Start.{sound-cut, tables-suit, start-is}
 use Rattle.explore.proofs.start.Statement.{statement}
 use Rattle.explore.proofs.start.Tie as tie
 
@@ -35,7 +36,7 @@ fit s =
     (s .pre .1 .0 .0) (s .pre .1 .0 .1) (lists s .0) (lists s .1)
 
 -- there are as many scan words after the block words are set
-wide : (f : tie.After-fresh) → length (f .fresh .last .0) ≡ 16448
+wide : (f : tie.After-fresh) → length (f .fresh .last .0) ≡ 20544
 wide f =
     let s = f .before .before .before .before .before .before .before .before .before .before in
     let kept : length (f .fresh .last .0) ≡ length (now (s .args .scan)) = f .fresh .kept .0 in

@@ -2,16 +2,16 @@
 -- Assumes nothing.
 use mathlib.Core.Path.{_≡_, refl, sym, ap, _∙_}
 use mathlib.Core.Logic.{_⊎_, inl, inr}
-use mathlib.Core.Bool.{Bool, true, false, cond, not, true≢false}
+use mathlib.Core.Bool.{Bool, true, false, cond, true≢false}
 use mathlib.Core.List.{List, [], _∷_, _++_}
 use Prim.Native.Nat.{ℕ, zero, suc, _+_, _-_, _*_, _≤_, _<_, min}
 use native.Mathlib.Nat.{not-suc-le-zero, mul-le-mul-right}
 use native.Mathlib.Numerals.{add-one}
-use native.Mathlib.Decide.{decLt}
+use native.Mathlib.Decide.{decLt, ℕ-discrete}
 use native.Mathlib.Omega.{arith}
 use borrow.Author.Tests.{ltb-true, lt-ltb, le-ltb, ne-eqb}
 use lib.Dec.{ltb, eqb}
-use lib.ListN.{length, getD, take, drop, length-take, length-drop}
+use lib.ListN.{length, getD, set, take, drop, length-take, length-drop}
 use lib.Seq.{take-at, take-take, drop-drop, getD-take, getD-drop, getD-set-same, getD-set-other}
 use Rattle.loops.specs.Count.{any, sum, list}
 use Rattle.loops.specs.Count.Laws.{below-cases, and-in, all-in, any-ext, sum-ext, sum-more, list-ext}
@@ -23,14 +23,15 @@ use Rattle.task.specs.Centre.{centreMeets}
 use Rattle.task.specs.Valid.{Valid}
 use Rattle.layer.specs.Layer.{mark, base, leafPart}
 use Rattle.layer.specs.Layer.Laws.{base-fits, part-length}
+use Rattle.layer.specs.Layer.Front.{part-take, cond-not}
 use Rattle.layer.specs.Board.{Board, Sound, rowOn}
 use Rattle.search.specs.Node.{Node, firstNode, leastOf, key, goalPrices, isGoal, goalCost, dominates}
 use Rattle.search.specs.Made.{Made, made-sound}
 use Rattle.search.specs.Small.{made-key, made-goal}
 use Rattle.search.specs.Explore.{nodeAt, belowBest, bestWith, keep}
 use Rattle.search.specs.Explore.Laws.{Base}
-use Rattle.nodes.specs.Chain.{signOf, classOf, linkedTo}
-use Rattle.nodes.specs.Chain.Laws.{linked-key, chained-more}
+use Rattle.nodes.specs.Chain.{signOf, classOf, linkedTo, Recalled}
+use Rattle.nodes.specs.Chain.Laws.{linked-key, chained-recalled, chained-more}
 use Rattle.nodes.specs.Row.{spotOf, nodeOf, nodeIn, nodesIn}
 use Rattle.nodes.specs.Row.Laws.{row-lent, row-kept, row-written, nodesIn-length, nodesIn-at}
 use Rattle.nodes.specs.Scan.{Cut, partBy, goalsBy, keyBy, goalSumBy, goalCostBy}
@@ -38,13 +39,6 @@ use Rattle.explore.specs.declared.Run.{Run}
 use Rattle.explore.specs.Held.{searchOf, Cached, Scans, Room, Has, keptRun, Kept}
 
 -- ---- rows
-
--- a part within the front of a list
-pub part-take : (n m k : ℕ) (l : List ℕ) → m + n ≤ k → take n (drop m (take k l)) ≡ take n (drop m l)
-part-take n zero k l h = take-take n k l (omega arith)
-part-take n (suc m) zero l h = absurd (omega arith)
-part-take n (suc m) (suc k) [] h = refl
-part-take n (suc m) (suc k) (x ∷ l) h = part-take n m k l (omega arith)
 
 -- the nodes of a table depend on its rows' nodes
 nodesIn-same : (S n : ℕ) (T T′ : List ℕ) → ((u : ℕ) → u < n → nodeIn S T′ u ≡ nodeIn S T u) → nodesIn S T′ n ≡ nodesIn S T n
@@ -122,11 +116,6 @@ module _ (t : Task) (nodes S : ℕ) (T O : List ℕ) (r : Run) (b : Base t nodes
           omega (arith, held .some u e, made-goal t ok u (nodeIn S T u) (omega (arith, b .room, kept-length S T O r)) m g)
 
 -- ---- keys and goal costs
-
--- a test turned round
-cond-not : (b : Bool) (x y : ℕ) → cond (not b) x y ≡ cond b y x
-cond-not true x y = refl
-cond-not false x y = refl
 
 -- no term is more than the sum
 sum-term : (n i : ℕ) (f : ℕ → ℕ) → i < n → f i ≤ sum n f
@@ -274,6 +263,33 @@ module _ (S : ℕ) (T O : List ℕ) (r : Run) (n : Node) (opens cost : ℕ) (Q r
 -- 1 once the node's expansion has begun
 abbrev flag : List ℕ → ℕ → ℕ
 flag O u = cond (eqb (getD O u 0) mark) 1 0
+
+-- the scan words O′ are those of O but for recent words
+module _ (S : ℕ) (T O O′ : List ℕ) (r : Run) (few : r .count ≤ 4096) (k : Recalled O O′) where
+  -- the search is the same
+  pub search-recalled : searchOf S T O′ r ≡ searchOf S T O r
+  unfolding searchOf
+  search-recalled = rw (list-ext (r .count) (flag O′) (flag O) (λ u l. rw (k .same u (omega arith))))
+
+  -- its open keys and its best cost are those of its nodes still
+  pub cached-recalled : (t : Task) → Cached t S T O r → Cached t S T O′ r
+  cached-recalled t c = record { keys = λ u l. rw (k .same u (omega arith)) (c .keys u l); none = c .none; some = c .some }
+
+  -- a node kept behind O′ is kept behind O
+  pub kept-recalled : (n : Node) (opens cost : ℕ) (T″ O″ : List ℕ) (r′ : Run) → r .count < length O
+      → Kept S T O′ r n opens cost T″ O″ r′ → Kept S T O r n opens cost T″ O″ r′
+  kept-recalled n opens cost T″ O″ r′ wide kept =
+      record {
+        old = kept .old;
+        new = kept .new;
+        keyed = λ u l. kept .keyed u l ∙ same u l (ℕ-discrete u (r .count));
+        counted = kept .counted;
+        linked = λ c. kept .linked (chained-recalled S T O O′ (r .count) few k c);
+      }
+    where
+      same : (u : ℕ) → u < 4096 → Dec (u ≡ r .count) → getD (set O′ (r .count) opens) u 0 ≡ getD (set O (r .count) opens) u 0
+      same u l (yes e) = rw (e, getD-set-same O (r .count) opens 0 wide) (getD-set-same O′ (r .count) opens 0 (omega (arith, k .long)))
+      same u l (no d) = rw (getD-set-other O (r .count) u opens 0 d, getD-set-other O′ (r .count) u opens 0 d) (k .same u (omega arith))
 
 module _ (t : Task) (nodes S : ℕ) (T O : List ℕ) (r : Run) (n : Node) (opens cost : ℕ) (T′ O′ : List ℕ) (r′ : Run)
     (b : Base t nodes (searchOf S T O r)) (held : Cached t S T O r) (kept : Kept S T O r n opens cost T′ O′ r′)

@@ -2,7 +2,7 @@
 use mathlib.Core.Path.{_≡_, refl, ap, _∙_}
 use mathlib.Core.Bool.{true}
 use mathlib.Core.List.{List, _++_}
-use Prim.Native.Nat.{ℕ, suc, _+_, _≤_, _<_}
+use Prim.Native.Nat.{ℕ, _+_, _≤_, _<_}
 use native.Mathlib.Omega.{arith}
 use lib.ListN.{length, getD, take}
 use lib.Seq.{take-at}
@@ -13,11 +13,10 @@ use Rattle.task.specs.Meaning.{initial}
 use Rattle.task.specs.Factors.{allStates}
 use Rattle.task.specs.Centre.{centre}
 use Rattle.task.specs.Valid.{Valid}
-use Rattle.task.specs.Star.{number-lt}
 use Rattle.layer.specs.Layer.{mark, firstPrices}
 use Rattle.layer.specs.Layer.Laws.{first-length}
-use Rattle.layer.specs.Board.{Board, rowOn, statesOn, firstOn, Fits, Sound}
-use Rattle.layer.specs.Board.Laws.{states-on, row-on, first-on}
+use Rattle.layer.specs.Board.{Board, rowOn, firstOn, Sound}
+use Rattle.layer.specs.Board.Laws.{row-on, first-on}
 use Rattle.layer.specs.Lent.{boardOf}
 use Rattle.tables.specs.Tables.{Starts, Goals, Tabled}
 use Rattle.tables.specs.Fit.{tables-fit}
@@ -52,13 +51,6 @@ pub tables-suit : (t : Task) → Valid t → (bases moves costs kinds starts goa
 tables-suit t ok bases moves costs kinds starts goals h g f c =
     let w = tables-fit t ok bases moves costs kinds (h .is-bases) (h .is-moves) (h .is-costs) (h .is-kinds) (h .long-moves) f c in
     (record { valid = ok; fits = w .0; effects-is = refl; goals-is = g; goal-is = refl }, w .1)
-
--- each leaf's initial state is one of its states
-pub start-in : (t : Task) → Valid t → (b : Board) → Fits t b → (starts : List ℕ) → Starts t starts → (i : ℕ) → i < b .leaves
-    → getD starts i 0 < statesOn b i
-start-in t ok b f starts s i l =
-    let m : i < t .leaves = omega (arith, f .leaves-is) in
-    omega (arith, s .is i m, number-lt t (suc i) (ok .fields .initial-inside), states-on t b f i m)
 
 -- ---- a search of no nodes
 
@@ -95,7 +87,7 @@ module _ (t : Task) (b : Board) (effects goals goalPairs : List ℕ) (suits : Su
       rw (e, isSpot)
 
   -- node 0 is kept, in the scan words O with all block words at the mark: the search at its start
-  pub start-is : (T O F T′ O′ : List ℕ) (r′ : Run) (opens : ℕ) → length O ≡ 16448 → ((h : ℕ) → h < 4096 → getD O (12288 + h) 0 ≡ 0) → F ≡ freshTo O 64
+  pub start-is : (T O F T′ O′ : List ℕ) (r′ : Run) (opens : ℕ) → length O ≡ 20544 → ((h : ℕ) → h < 4096 → getD O (12288 + h) 0 ≡ 0) → F ≡ freshTo O 64
       → opens ≡ keyBy (b .leaves) (b .bases) 0 P
       → Kept (rowOn b) T F noRun (nodeWith spot 0 (take (rowOn b) P) 0 0) opens
       (goalCostBy (b .leaves) (b .bases) goals (b .factors) goalPairs spot 0 P) T′ O′ r′
@@ -109,7 +101,7 @@ module _ (t : Task) (b : Board) (effects goals goalPairs : List ℕ) (suits : Su
       let isCost = goal-is t (b .leaves) (b .bases) goals (b .factors) goalPairs scans 0 n (omega arith) m P refl in
       let small : key t n < mark = omega (arith, made-key t (suits .valid) 0 n (omega arith) m) in
       let cheap : isGoal t n ≡ true → goalCost t n < mark = λ g. omega (arith, made-goal t (suits .valid) 0 n (omega arith) m g) in
-      let wide : length F ≡ 16448 = ap length isFresh ∙ fresh-length O 64 ∙ long in
+      let wide : length F ≡ 20544 = ap length isFresh ∙ fresh-length O 64 ∙ long in
       let chains : Chained (rowOn b) T F 0 = rw isFresh (chained-fresh (rowOn b) T O long heads) in
       let v = none-base t (rowOn b) T F in
       let held = none-cached t (rowOn b) T F in

@@ -9,14 +9,15 @@ use lib.Dec.{ltb}
 use lib.ListN.{length, getD, take, drop}
 use lib.Seq.{take-at}
 use Rattle.loops.specs.Count.{any, list}
-use Rattle.loops.specs.Count.Laws.{told-true, told-false, list-at, list-ext}
+use Rattle.loops.specs.Count.Laws.{told-true, told-false, list-at}
 use Rattle.task.specs.declared.Task.{Task}
 use Rattle.task.specs.declared.Centre.{Centre}
-use Rattle.task.specs.Meaning.{Partial, factor, condition, effect, cost}
-use Rattle.task.specs.Factors.{states, allStates, centreAction}
+use Rattle.task.specs.Meaning.{factor, condition, effect, cost}
+use Rattle.task.specs.Factors.{allStates, centreAction}
 use Rattle.task.specs.Centre.{centreMeets, centreAfter}
-use Rattle.layer.specs.Layer.{mark, base, leafPart, nextPrices, appliesTo, nextCentre}
-use Rattle.layer.specs.Layer.Laws.{base-fits, next-length}
+use Rattle.layer.specs.Layer.{mark, nextPrices, appliesTo, nextCentre}
+use Rattle.layer.specs.Layer.Laws.{next-length}
+use Rattle.layer.specs.Layer.Front.{part-front, after-list}
 use Rattle.layer.specs.Board.{Board, rowOn, metOn, beginOn, settledOn}
 use Rattle.layer.specs.Board.Laws.{joined-ext, row-on, met-on}
 use Rattle.search.specs.Node.{Node, nextNode, dominates, key, isGoal, goalCost}
@@ -26,20 +27,44 @@ use Rattle.search.specs.Begin.{beginPrices, beginNode, begin-on, settled-next, 
 use Rattle.search.specs.Explore.{Search, nodeAt, belowBest, keep, on, full, offer, turn, through, filled, expand}
 use Rattle.search.specs.Explore.Laws.{Base}
 use Rattle.search.specs.Explore.Turns.{turn-on}
-use Rattle.nodes.specs.Chain.{Chained}
+use Rattle.nodes.specs.Chain.{Chained, Recalled}
+use Rattle.nodes.specs.Chain.Laws.{recalled-none, chained-recalled}
 use Rattle.nodes.specs.Row.{nodeIn, nodeWith}
 use Rattle.nodes.specs.Scan.{keyBy, goalCostBy}
 use Rattle.explore.specs.declared.Run.{Run}
 use Rattle.explore.specs.declared.Turned.{Turned}
+use Rattle.explore.specs.Still.{key-rises}
 use Rattle.explore.specs.Held.{searchOf, Cached, Suits, Scans, Room, Has, Kept, expandedOf, Went, Stands, settledWords, begunNode, settledNode, Alike, Offered, Moved}
-use Rattle.explore.specs.Held.Laws.{part-take, kept-length, node-at, below-is, best-cap, key-any, goal-is, dominated-is, keep-is, keep-cached}
+use Rattle.explore.specs.Held.Laws.{kept-length, node-at, below-is, best-cap, key-any, goal-is, dominated-is, search-recalled, cached-recalled, kept-recalled, keep-is, keep-cached}
 
 -- ---- offer
 
 -- a turn that changes nothing
 went-same : (S nodes : ℕ) (T O : List ℕ) (r : Run) (f : Bool) → r .count ≤ nodes → Went S nodes T O r T O (record { full = f; run = r })
 went-same S nodes T O r f h =
-    record { more = omega arith; room = h; begun-is = refl; chained = λ c. c; table-still = λ _. refl; scan-still = λ _. refl; run-still = λ _. refl }
+    record {
+      more = omega arith;
+      room = h;
+      begun-is = refl;
+      chained = λ c. c;
+      table-still = λ _. refl;
+      scan-still = λ _. recalled-none O;
+      run-still = λ _. refl;
+    }
+
+-- a turn that changes recent words only
+went-recalled : (S nodes : ℕ) (T O O′ : List ℕ) (r : Run) (f : Bool) → nodes ≤ 4096 → r .count ≤ nodes → Recalled O O′
+    → Went S nodes T O r T O′ (record { full = f; run = r })
+went-recalled S nodes T O O′ r f few h k =
+    record {
+      more = omega arith;
+      room = h;
+      begun-is = refl;
+      chained = chained-recalled S T O O′ (r .count) (omega arith) k;
+      table-still = λ _. refl;
+      scan-still = λ _. k;
+      run-still = λ _. refl;
+    }
 
 module _ (b : Board) (goals goalPairs : List ℕ) (nodes : ℕ) (T O : List ℕ) (r : Run) (spot : Centre) (paid : ℕ) (P : List ℕ) (parent action : ℕ)
     (few : nodes ≤ 4096) (room : r .count ≤ nodes) where
@@ -106,7 +131,7 @@ module _ (b : Board) (goals goalPairs : List ℕ) (nodes : ℕ) (T O : List ℕ)
           unfolding offer
           said-kept k = rw (below ∙ lt-ltb _ _ h, sym dominated ∙ d, kept-length S T O r, lt-ltb (r .count) nodes k, offer)
 
-  -- what the code has found: the key, and whether the node is dominated
+  -- what the code has found: the key, whether the node is dominated, and the scan words M with the node found as a recent word
   module _ (opens : ℕ) (isKey : opens ≡ keyBy (b .leaves) (b .bases) paid P) where
     -- the key is not below best: dropped
     pub offered-above : r .«best_cost» ≤ opens → Offered b goals goalPairs nodes T O r spot paid P parent action T O (record { full = false; run = r })
@@ -117,33 +142,45 @@ module _ (b : Board) (goals goalPairs : List ℕ) (nodes : ℕ) (T O : List ℕ)
           dropped = λ t scans v held e. record { said = refl; held = held };
         }
 
-    module _ (h : opens < r .«best_cost») (found : Bool) (isFound : found ≡ beaten) where
+    module _ (h : opens < r .«best_cost») (found : Bool) (isFound : found ≡ beaten) (M : List ℕ) (recalled : Recalled O M) where
+      -- the search with them
+      same-search : searchOf S T M r ≡ search
+      same-search = search-recalled S T O M r (omega arith) recalled
+
       -- a key below best is below the mark
       unblocked : (t : Task) → Scans t (b .leaves) (b .bases) goals (b .factors) goalPairs → Base t nodes search → Cached t S T O r → mark ≤ key t early → ⊥
       unblocked t scans v held e = omega (arith, its-key t scans v held, cap t scans v held)
 
       -- a node kept dominates it: dropped
-      pub offered-dominated : found ≡ true → Offered b goals goalPairs nodes T O r spot paid P parent action T O (record { full = false; run = r })
+      pub offered-dominated : found ≡ true → Offered b goals goalPairs nodes T O r spot paid P parent action T M (record { full = false; run = r })
       offered-dominated d =
           record {
-            went = went-same S nodes T O r false room;
-            offered = λ t scans v held m alike. record { said = said-dominated t scans v held m alike (omega arith) (sym isFound ∙ d); held = held };
+            went = went-recalled S nodes T O M r false few room recalled;
+            offered = λ t scans v held m alike.
+                record {
+                  said = said-dominated t scans v held m alike (omega arith) (sym isFound ∙ d) ∙ ap on (sym same-search);
+                  held = cached-recalled S T O M r (omega arith) recalled t held;
+                };
             dropped = λ t scans v held e. absurd (unblocked t scans v held e);
           }
 
       module _ (d : found ≡ false) where
         -- the table is full
-        pub offered-full : nodes ≤ r .count → Offered b goals goalPairs nodes T O r spot paid P parent action T O (record { full = true; run = r })
+        pub offered-full : nodes ≤ r .count → Offered b goals goalPairs nodes T O r spot paid P parent action T M (record { full = true; run = r })
         offered-full k =
             record {
-              went = went-same S nodes T O r true room;
-              offered = λ t scans v held m alike. record { said = said-full t scans v held m alike (omega arith) (sym isFound ∙ d) k; held = held };
+              went = went-recalled S nodes T O M r true few room recalled;
+              offered = λ t scans v held m alike.
+                  record {
+                    said = said-full t scans v held m alike (omega arith) (sym isFound ∙ d) k;
+                    held = cached-recalled S T O M r (omega arith) recalled t held;
+                  };
               dropped = λ t scans v held e. absurd (unblocked t scans v held e);
             }
 
         -- it is settled and kept
-        pub offered-kept : r .count < nodes → length O ≡ 16448 → (P′ : List ℕ) → P′ ≡ settledWords b spot P → (T′ O′ : List ℕ) (r′ : Run)
-            → Kept S T O r (nodeWith spot paid (take S P′) parent action) opens (goalCostBy (b .leaves) (b .bases) goals (b .factors) goalPairs spot paid P′) T′ O′ r′
+        pub offered-kept : r .count < nodes → length O ≡ 20544 → (P′ : List ℕ) → P′ ≡ settledWords b spot P → (T′ O′ : List ℕ) (r′ : Run)
+            → Kept S T M r (nodeWith spot paid (take S P′) parent action) opens (goalCostBy (b .leaves) (b .bases) goals (b .factors) goalPairs spot paid P′) T′ O′ r′
             → Offered b goals goalPairs nodes T O r spot paid P parent action T′ O′ (record { full = false; run = r′ })
         offered-kept k long P′ isWords T′ O′ r′ given =
             record {
@@ -162,7 +199,7 @@ module _ (b : Board) (goals goalPairs : List ℕ) (nodes : ℕ) (T O : List ℕ)
             }
           where
             kept : Kept S T O r node opens (goalCostBy (b .leaves) (b .bases) goals (b .factors) goalPairs spot paid (settledWords b spot P)) T′ O′ r′
-            kept = rw isWords at given
+            kept = kept-recalled S T O M r (omega arith) recalled node _ _ T′ O′ r′ (omega arith) (rw isWords at given)
 
             stands : (t : Task) → Scans t (b .leaves) (b .bases) goals (b .factors) goalPairs → Base t nodes search → Cached t S T O r → Made t (r .count) node
                 → Alike t S T (r .count) early node → Stands t S T′ O′ (record { full = false; run = r′ }) (offer t nodes search node)
@@ -181,22 +218,10 @@ module _ (b : Board) (goals goalPairs : List ℕ) (nodes : ℕ) (T O : List ℕ)
 
 -- ---- turn
 
--- the centre state behind effects that are listed
-after-list : (fac : ℕ → ℕ) (q : Partial) (c : Centre) → centreAfter fac (λ v. getD (list 32 q) v 0) c ≡ centreAfter fac q c
-unfolding centreAfter
-after-list fac q c = ap {B = Centre} (λ xs. record { values = xs }) (list-ext 32 _ _ (λ v l. rw (list-at 32 q v l)))
-
--- prices with words behind them
-module _ (t : Task) (P : List ℕ) where
-  -- a leaf's prices
-  part-front : (i : ℕ) → i < t .leaves → leafPart t i (take (allStates t) P) ≡ leafPart t i P
-  unfolding leafPart
-  part-front i l = part-take (states t (suc i)) (base t i) (allStates t) P (base-fits t i l)
-
-  -- the begin of the next layer
-  begin-front : (a : ℕ) → beginPrices t a (take (allStates t) P) ≡ beginPrices t a P
-  unfolding beginPrices
-  begin-front a = joined-ext (t .leaves) _ _ (λ i l. rw (part-front i l))
+-- the begin of the next layer, from prices with words behind them
+begin-front : (t : Task) (P : List ℕ) (a : ℕ) → beginPrices t a (take (allStates t) P) ≡ beginPrices t a P
+unfolding beginPrices
+begin-front t P a = joined-ext (t .leaves) _ _ (λ i l. rw (part-front t P i l))
 
 module _ (b : Board) (effects goals goalPairs : List ℕ) where
   -- what offering reads
@@ -241,108 +266,137 @@ module _ (b : Board) (effects goals goalPairs : List ℕ) where
               record { said = rw (no, turn); held = held };
         }
 
-    module _ (k : getD (b .kinds) a 0 ≡ 0) (able : Bool) (isAble : able ≡ metOn b spot a) where
+    module _ (k : getD (b .kinds) a 0 ≡ 0) where
       -- it is one
       centred : (t : Task) → Suits t b effects goals goalPairs → Has (nodeIn (rowOn b) T u) spot paid (take (rowOn b) old) → centreAction t a ≡ true
       centred t suits has = sym (suits .fits .kinds-centre a (known-in t suits has)) ∙ eq-eqb _ _ k
 
-      -- its centre conditions do not hold
-      pub moved-unmet : not able ≡ true → Moved b effects goals goalPairs nodes spot paid old u a T O r T O (record { full = false; run = r })
-      unfolding turn appliesTo
-      moved-unmet h =
+      -- the node's key and the action's cost are not below best
+      pub moved-above : (low : ℕ) → low ≡ min (keyBy (b .leaves) (b .bases) paid old + getD (b .costs) a 0) mark → r .«best_cost» ≤ low
+          → Moved b effects goals goalPairs nodes spot paid old u a T O r T O (record { full = false; run = r })
+      unfolding turn offer
+      moved-above low isLow h =
           record {
             went = went-same (rowOn b) nodes T O r false room;
-            moved = λ t suits v held has. record { said = rw (centred t suits has, met-here t suits has ∙ told-false isAble h, turn); held = held };
+            moved = λ t suits v held has. record { said = said t suits v held has _ refl; held = held };
           }
-
-      -- its centre conditions hold, and its layer's begin was offered
-      module _ (h : not able ≡ false) (pairs next rest : List ℕ) (behind : Centre) (spent : ℕ)
-          (isPairs : pairs ≡ list 32 (λ v. getD effects (a * 32 + v) 0))
-          (isBehind : behind ≡ centreAfter (λ v. getD (b .factors) v 0) (λ v. getD pairs v 0) spot)
-          (isNext : next ≡ beginOn b a old ++ rest)
-          (isCost : spent ≡ min (paid + getD (b .costs) a 0) mark)
-          (T′ O′ : List ℕ) (w : Turned) (o : Offered b goals goalPairs nodes T O r behind spent next u a T′ O′ w) where
-        module _ (t : Task) (suits : Suits t b effects goals goalPairs) (v : Base t nodes here) (held : Cached t (rowOn b) T O r)
-            (has : Has (nodeIn (rowOn b) T u) spot paid (take (rowOn b) old)) where
-          -- node u
-          abbrev n : Node
-          n = nodeAt t here u
-
-          -- each row's node is that of a centre path
-          made-here : (i : ℕ) → i < r .count → Made t i (nodeIn (rowOn b) T i)
-          made-here i l = rw (node-at (rowOn b) T O r t i l) at (v .made i (omega (arith, kept-length (rowOn b) T O r)))
-
-          -- the successor's centre state
-          isSpot : behind ≡ nextCentre t a (n .spot)
-          isSpot = isBehind ∙ rw (isPairs, suits .fits .factors-is, suits .effects-is, node-here t suits has, has .spot-is) (after-list (factor t) (effect t a) spot)
-
-          -- its centre cost, which is small
-          isPaid : spent ≡ n .paid + cost t a
-          isPaid =
-              let low = made-paid t (suits .valid) u (nodeIn (rowOn b) T u) (omega arith) (made-here u inside) in
-              let same : n .paid ≡ paid = ap (λ (x : Node). x .paid) (node-here t suits has) ∙ has .paid-is in
-              let also : nodeIn (rowOn b) T u .paid ≡ paid = has .paid-is in
-              omega (arith, isCost, suits .fits .costs-is a (known-in t suits has), suits .valid .fields .cost-bound a (known-in t suits has))
-
-          -- the begin, with words behind it
-          isWords : next ≡ beginPrices t a (n .prices) ++ rest
-          isWords =
-              let row : rowOn b ≡ allStates t = row-on t b (suits .fits) in
-              let front : beginPrices t a (n .prices) ≡ beginPrices t a old =
-              rw (node-here t suits has, has .prices-is, row) (begin-front t old a) in
-              rw (isNext, begin-on t b (suits .fits) a old (known-in t suits has), front)
-
-          -- the begin alone
-          isBegin : take (rowOn b) next ≡ beginPrices t a (n .prices)
-          isBegin =
-              ap (λ k. take k next) (row-on t b (suits .fits))
-              ∙ ap (take (allStates t)) isWords
-              ∙ take-at (beginPrices t a (n .prices)) rest (allStates t) (begin-length t a (n .prices))
-
-          -- the settled layer
-          isPrices : take (rowOn b) (settledWords b behind next) ≡ nextPrices t behind a (n .prices)
-          isPrices =
-              let s : settledOn b behind next ≡ nextPrices t behind a (n .prices) =
-              ap (settledOn b behind) isWords ∙ settled-next t b (suits .fits) behind a (n .prices) rest in
-              ap (λ k. take k (settledWords b behind next)) (row-on t b (suits .fits))
-              ∙ ap (λ xs. take (allStates t) (xs ++ drop (rowOn b) next)) s
-              ∙ take-at (nextPrices t behind a (n .prices)) (drop (rowOn b) next) (allStates t) (next-length t behind a (n .prices))
-
-          -- settled, it is the search's successor
-          isNode : settledNode b behind spent next u a ≡ nextNode t u n a
-          unfolding nextNode
-          isNode = rw (isPrices, isPaid, isSpot)
-
-          -- not settled, it is the search's begin
-          isEarly : begunNode b behind spent next u a ≡ beginNode t n a (nextNode t u n a .spot) u a
-          unfolding nextNode
-          isEarly = rw (isBegin, isPaid, isSpot)
-
-          -- the begin has the successor's key, and the same nodes dominate it
-          alike : Alike t (rowOn b) T (r .count) (beginNode t n a (nextNode t u n a .spot) u a) (nextNode t u n a)
-          unfolding nextNode
-          alike =
-              record {
-                key-same = sym (key-begin t n a _ u a u);
-                dominated-same = λ i l. sym (dominates-begin t (suits .valid) i (nodeIn (rowOn b) T i) (made-here i l) u n a u a);
-              }
-
-          -- what the search says: of an action that applies, and of another
-          stands : (c : Bool) → appliesTo t (n .spot) (n .prices) a ≡ c → Stands t (rowOn b) T′ O′ w (turn t nodes u a here)
-          unfolding turn
-          stands true e =
+        where
+          said : (t : Task) (suits : Suits t b effects goals goalPairs) → Base t nodes here → Cached t (rowOn b) T O r
+              → (has : Has (nodeIn (rowOn b) T u) spot paid (take (rowOn b) old))
+              → (c : Bool) → appliesTo t (nodeAt t here u .spot) (nodeAt t here u .prices) a ≡ c → turn t nodes u a here ≡ on here
+          said t suits v held has true e =
+              let n : Node = nodeAt t here u in
               let made : Made t (r .count) (nextNode t u n a) =
               made-next t u (r .count) u n a inside (known-in t suits has) (centred t suits has) e (v .made u (omega (arith, kept-length (rowOn b) T O r))) in
-              let out = o .offered t (suits-scans t suits) v held (rw isNode made) (rw (isEarly, isNode) alike) in
-              record { said = rw (centred t suits has, e, turn, ← isNode) (out .said); held = out .held }
-          stands false e =
-              let met : centreMeets (factor t) (condition t a) (n .spot) ≡ true = met-here t suits has ∙ told-true isAble h in
-              let out = o .dropped t (suits-scans t suits) v held (rw isEarly (blocked-begin t n a _ u a met e)) in
-              record { said = rw (centred t suits has, e, turn) (out .said); held = out .held }
+              let small = made-key t (suits .valid) (r .count) (nextNode t u n a) (omega arith) made in
+              let own : keyBy (b .leaves) (b .bases) paid old ≡ min (key t n) mark =
+              rw (node-here t suits has, ← has .paid-is)
+              (key-any t (b .leaves) (b .bases) goals (b .factors) goalPairs (suits-scans t suits) (nodeIn (rowOn b) T u) old (has .prices-is)) in
+              let above : r .«best_cost» ≤ key t (nextNode t u n a) =
+              omega (arith, own, isLow, suits .fits .costs-is a (known-in t suits has), key-rises t n a u) in
+              let below : belowBest t here (key t (nextNode t u n a)) ≡ false =
+              below-is t nodes (rowOn b) T O r v held (key t (nextNode t u n a)) (omega arith) ∙ le-ltb _ _ above in
+              rw (centred t suits has, e, turn, offer, below)
+          said t suits v held has false e = rw (centred t suits has, e, turn)
 
-        -- the turn came out as the search says
-        pub moved-offered : Moved b effects goals goalPairs nodes spot paid old u a T O r T′ O′ w
-        moved-offered = record { went = o .went; moved = λ t suits v held has. stands t suits v held has _ refl }
+      module _ (able : Bool) (isAble : able ≡ metOn b spot a) where
+        -- its centre conditions do not hold
+        pub moved-unmet : not able ≡ true → Moved b effects goals goalPairs nodes spot paid old u a T O r T O (record { full = false; run = r })
+        unfolding turn appliesTo
+        moved-unmet h =
+            record {
+              went = went-same (rowOn b) nodes T O r false room;
+              moved = λ t suits v held has. record { said = rw (centred t suits has, met-here t suits has ∙ told-false isAble h, turn); held = held };
+            }
+
+        -- its centre conditions hold, and its layer's begin was offered
+        module _ (h : not able ≡ false) (pairs next rest : List ℕ) (behind : Centre) (spent : ℕ)
+            (isPairs : pairs ≡ list 32 (λ v. getD effects (a * 32 + v) 0))
+            (isBehind : behind ≡ centreAfter (λ v. getD (b .factors) v 0) (λ v. getD pairs v 0) spot)
+            (isNext : next ≡ beginOn b a old ++ rest)
+            (isCost : spent ≡ min (paid + getD (b .costs) a 0) mark)
+            (T′ O′ : List ℕ) (w : Turned) (o : Offered b goals goalPairs nodes T O r behind spent next u a T′ O′ w) where
+          module _ (t : Task) (suits : Suits t b effects goals goalPairs) (v : Base t nodes here) (held : Cached t (rowOn b) T O r)
+              (has : Has (nodeIn (rowOn b) T u) spot paid (take (rowOn b) old)) where
+            -- node u
+            abbrev n : Node
+            n = nodeAt t here u
+
+            -- each row's node is that of a centre path
+            made-here : (i : ℕ) → i < r .count → Made t i (nodeIn (rowOn b) T i)
+            made-here i l = rw (node-at (rowOn b) T O r t i l) at (v .made i (omega (arith, kept-length (rowOn b) T O r)))
+
+            -- the successor's centre state
+            isSpot : behind ≡ nextCentre t a (n .spot)
+            isSpot = isBehind ∙ rw (isPairs, suits .fits .factors-is, suits .effects-is, node-here t suits has, has .spot-is) (after-list (factor t) (effect t a) spot (list 32 (effect t a)) (list-at 32 (effect t a)))
+
+            -- its centre cost, which is small
+            isPaid : spent ≡ n .paid + cost t a
+            isPaid =
+                let low = made-paid t (suits .valid) u (nodeIn (rowOn b) T u) (omega arith) (made-here u inside) in
+                let same : n .paid ≡ paid = ap (λ (x : Node). x .paid) (node-here t suits has) ∙ has .paid-is in
+                let also : nodeIn (rowOn b) T u .paid ≡ paid = has .paid-is in
+                omega (arith, isCost, suits .fits .costs-is a (known-in t suits has), suits .valid .fields .cost-bound a (known-in t suits has))
+
+            -- the begin, with words behind it
+            isWords : next ≡ beginPrices t a (n .prices) ++ rest
+            isWords =
+                let row : rowOn b ≡ allStates t = row-on t b (suits .fits) in
+                let front : beginPrices t a (n .prices) ≡ beginPrices t a old =
+                rw (node-here t suits has, has .prices-is, row) (begin-front t old a) in
+                rw (isNext, begin-on t b (suits .fits) a old (known-in t suits has), front)
+
+            -- the begin alone
+            isBegin : take (rowOn b) next ≡ beginPrices t a (n .prices)
+            isBegin =
+                ap (λ k. take k next) (row-on t b (suits .fits))
+                ∙ ap (take (allStates t)) isWords
+                ∙ take-at (beginPrices t a (n .prices)) rest (allStates t) (begin-length t a (n .prices))
+
+            -- the settled layer
+            isPrices : take (rowOn b) (settledWords b behind next) ≡ nextPrices t behind a (n .prices)
+            isPrices =
+                let s : settledOn b behind next ≡ nextPrices t behind a (n .prices) =
+                ap (settledOn b behind) isWords ∙ settled-next t b (suits .fits) behind a (n .prices) rest in
+                ap (λ k. take k (settledWords b behind next)) (row-on t b (suits .fits))
+                ∙ ap (λ xs. take (allStates t) (xs ++ drop (rowOn b) next)) s
+                ∙ take-at (nextPrices t behind a (n .prices)) (drop (rowOn b) next) (allStates t) (next-length t behind a (n .prices))
+
+            -- settled, it is the search's successor
+            isNode : settledNode b behind spent next u a ≡ nextNode t u n a
+            unfolding nextNode
+            isNode = rw (isPrices, isPaid, isSpot)
+
+            -- not settled, it is the search's begin
+            isEarly : begunNode b behind spent next u a ≡ beginNode t n a (nextNode t u n a .spot) u a
+            unfolding nextNode
+            isEarly = rw (isBegin, isPaid, isSpot)
+
+            -- the begin has the successor's key, and the same nodes dominate it
+            alike : Alike t (rowOn b) T (r .count) (beginNode t n a (nextNode t u n a .spot) u a) (nextNode t u n a)
+            unfolding nextNode
+            alike =
+                record {
+                  key-same = sym (key-begin t n a _ u a u);
+                  dominated-same = λ i l. sym (dominates-begin t (suits .valid) i (nodeIn (rowOn b) T i) (made-here i l) u n a u a);
+                }
+
+            -- what the search says: of an action that applies, and of another
+            stands : (c : Bool) → appliesTo t (n .spot) (n .prices) a ≡ c → Stands t (rowOn b) T′ O′ w (turn t nodes u a here)
+            unfolding turn
+            stands true e =
+                let made : Made t (r .count) (nextNode t u n a) =
+                made-next t u (r .count) u n a inside (known-in t suits has) (centred t suits has) e (v .made u (omega (arith, kept-length (rowOn b) T O r))) in
+                let out = o .offered t (suits-scans t suits) v held (rw isNode made) (rw (isEarly, isNode) alike) in
+                record { said = rw (centred t suits has, e, turn, ← isNode) (out .said); held = out .held }
+            stands false e =
+                let met : centreMeets (factor t) (condition t a) (n .spot) ≡ true = met-here t suits has ∙ told-true isAble h in
+                let out = o .dropped t (suits-scans t suits) v held (rw isEarly (blocked-begin t n a _ u a met e)) in
+                record { said = rw (centred t suits has, e, turn) (out .said); held = out .held }
+
+          -- the turn came out as the search says
+          pub moved-offered : Moved b effects goals goalPairs nodes spot paid old u a T O r T′ O′ w
+          moved-offered = record { went = o .went; moved = λ t suits v held has. stands t suits v held has _ refl }
 
 -- ---- expand
 
@@ -445,7 +499,8 @@ module _ (b : Board) (effects goals goalPairs : List ℕ) (nodes u : ℕ) (T₀ 
       ended e = (
         before .whole
             ∙ expand-full t nodes u (t .actions) a (searchOf (rowOn b) T O r) one (rw e at (gave .said))
-            ∙ rw (e, m .went .table-still e, m .went .scan-still e, m .went .run-still e),
+            ∙ rw (e, m .went .table-still e, m .went .run-still e)
+            (ap filled (sym (search-recalled (rowOn b) T O O′ r (omega (arith, l .room .count-few, l .room .few-nodes)) (m .went .scan-still e)))),
         gave .held,
       )
 

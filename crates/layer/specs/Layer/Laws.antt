@@ -3,12 +3,11 @@
 use mathlib.Core.Path.{_≡_, refl, _∙_}
 use mathlib.Core.Logic.{_⊎_, inl, inr}
 use mathlib.Core.List.{List, _++_}
-use Prim.Native.Nat.{ℕ, zero, suc, _+_, _-_, _≤_, _<_}
+use Prim.Native.Nat.{ℕ, zero, suc, _+_, _≤_, _<_}
 use native.Mathlib.Nat.{not-suc-le-zero}
-use native.Mathlib.Decide.{decLe}
 use native.Mathlib.Omega.{arith}
-use lib.ListN.{length, getD, take, drop, length-append, length-take, length-drop, List·getD-append}
-use lib.Seq.{take-all, take-append-le, drop-append-le, drop-at, getD-append-add}
+use lib.ListN.{length, take, drop, length-append, length-take, length-drop}
+use lib.Seq.{take-all, take-append-le, drop-append-le, drop-at}
 use Rattle.loops.specs.Count.{sum}
 use Rattle.loops.specs.Count.Laws.{below-cases}
 use Rattle.task.specs.declared.Task.{Task}
@@ -17,9 +16,8 @@ use Rattle.task.specs.Meaning.{initial}
 use Rattle.task.specs.Factors.{states, allStates}
 use Rattle.task.specs.Centre.{centre}
 use Rattle.layer.specs.Settle.Steps.{below-suc}
-use Rattle.layer.specs.Settle.Walks.{Capped}
-use Rattle.layer.specs.Layer.{mark, settleLeaf, startLeaf, passLeaf, base, leafPart, joined, firstPrices, nextPrices}
-use Rattle.layer.specs.Layer.Leaf.{leaf-length, leaf-cap, startLeaf-length, startLeaf-cap, passLeaf-length, passLeaf-cap}
+use Rattle.layer.specs.Layer.{settleLeaf, startLeaf, passLeaf, base, leafPart, joined, firstPrices, nextPrices}
+use Rattle.layer.specs.Layer.Leaf.{leaf-length, startLeaf-length, passLeaf-length}
 
 -- ---- base and leafPart
 
@@ -76,18 +74,6 @@ module _ (t : Task) (f : ℕ → List ℕ) (fits : (j : ℕ) → j < t .leaves �
   unfolding leafPart base
   part-joined i l = joined-part (t .leaves) i f _ fits l
 
--- no price is above M, where none is in the lists
-pub joined-cap : (M n : ℕ) (f : ℕ → List ℕ) → ((j : ℕ) → j < n → Capped M (f j)) → Capped M (joined n f)
-unfolding joined
-joined-cap M zero f h u = omega arith
-joined-cap M (suc n) f h u = of (decLe (suc u) (length (joined n f))) (joined-cap M n f (λ j l. h j (omega arith)) u)
-  where
-    of : Dec (u < length (joined n f)) → getD (joined n f) u M ≤ M → getD (joined n f ++ f n) u M ≤ M
-    of (yes l) r = rw (List·getD-append (joined n f) (f n) M u l) r
-    of (no l) r =
-        let e : u ≡ length (joined n f) + (u - length (joined n f)) = omega arith in
-        rw (e, getD-append-add) (h n (omega arith) (u - length (joined n f)))
-
 -- ---- firstPrices
 
 module _ (t : Task) where
@@ -105,11 +91,6 @@ module _ (t : Task) where
   unfolding firstPrices
   part-first = part-joined t _ first-fits
 
-  -- no price is above the mark
-  pub first-cap : Capped mark (firstPrices t)
-  unfolding firstPrices
-  first-cap = joined-cap mark (t .leaves) _ (λ i l. leaf-cap t (suc i) _ _ (startLeaf-cap t (suc i)))
-
 -- ---- nextPrices
 
 module _ (t : Task) (c : Centre) (a : ℕ) (P : List ℕ) where
@@ -126,8 +107,3 @@ module _ (t : Task) (c : Centre) (a : ℕ) (P : List ℕ) where
   pub part-next : (i : ℕ) → i < t .leaves → leafPart t i (nextPrices t c a P) ≡ settleLeaf t (suc i) c (passLeaf t (suc i) a (leafPart t i P))
   unfolding nextPrices
   part-next = part-joined t _ next-fits
-
-  -- no price is above the mark
-  pub next-cap : Capped mark (nextPrices t c a P)
-  unfolding nextPrices
-  next-cap = joined-cap mark (t .leaves) _ (λ i l. leaf-cap t (suc i) c _ (passLeaf-cap t (suc i) a (leafPart t i P)))

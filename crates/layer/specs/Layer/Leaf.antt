@@ -21,7 +21,7 @@ use Rattle.task.specs.Valid.{Valid}
 use Rattle.task.specs.Star.{number-lt, to-in}
 use Rattle.layer.specs.Settle.Steps.{set-cases, replicate-at}
 use Rattle.layer.specs.Settle.Walks.{Walk, stand, step, Ranged, Capped, Below, Closed}
-use Rattle.layer.specs.Settle.Laws.{settled-length, settled-below, settled-cap, settled-real, settled-bound, settled-floor, settled-closed, settled-mono}
+use Rattle.layer.specs.Settle.Laws.{settled-length, settled-below, settled-real, settled-bound, settled-floor, settled-closed, settled-mono}
 use Rattle.layer.specs.Pass.Laws.{pass-length, pass-cap, pass-hit, pass-from, pass-mono, pass-floor}
 use Rattle.layer.specs.Layer.{mark, enabledTo, enabled, settleLeaf, LeafWalk, startLeaf, passLeaf, passes}
 
@@ -102,11 +102,6 @@ module _ (t : Task) (l : ℕ) (c : Centre) (P : List ℕ) where
   pub leaf-below : Below mark (settleLeaf t l c P) P
   unfolding settleLeaf
   leaf-below = settled-below mark (length (enabled t l c)) _ _ P
-
-  -- no price is above the mark, where none was
-  pub leaf-cap : Capped mark P → Capped mark (settleLeaf t l c P)
-  unfolding settleLeaf
-  leaf-cap = settled-cap mark (length (enabled t l c)) _ _ P
 
   -- where no start price is below b, no price is
   pub leaf-floor : (b : ℕ) → ((u : ℕ) → b ≤ getD P u mark) → (u : ℕ) → b ≤ getD (settleLeaf t l c P) u mark

@@ -5,7 +5,6 @@ use lib.ListN.{take}
 use lib.Seq.{length-take-le}
 use borrow.Author.Needs.{needs}
 use Rattle.nodes.specs.Row.{nodeIn, nodeWith}
-use Rattle.nodes.specs.Row.Laws.{row-lent}
 use Rattle.nodes.specs.Chain.Laws.{other-sign, prices-length}
 use Rattle.nodes.proofs.dominates_node.Statement.{statement}
 use Rattle.nodes.proofs.dominates_node.Tie as tie
@@ -19,46 +18,11 @@ returns c =
     let long = prices-length (a .states) (a .u) (a .table .now) (s .pre .0 .0) ∙ sym (length-take-le (a .states) (a .prices .now) (s .pre .0 .1)) in
     sym (other-sign m (nodeWith (a .spot) (a .paid) P 0 0) long (λ e. c .if1 .taken (ap₂ bitOr (s .pre .1 .1) (s .pre .1 .0) ∙ e ∙ sym (s .pre .1 .0))))
 
-add-wide : tie.Need-add-wide
-add-wide c = search needs
-
-mul-from : tie.Need-mul-from
-mul-from c = search needs
-
-add-end : tie.Need-add-end
-add-end c = search needs
-
-mul-dominates-row : tie.Need-mul-dominates-row
-mul-dominates-row c = search needs
-
-sub-dominates-row : tie.Need-sub-dominates-row
-sub-dominates-row c = search needs
-
-part-dominates-row-start : tie.Need-part-dominates-row-start
-part-dominates-row-start c = search needs
-
-part-dominates-row-end : tie.Need-part-dominates-row-end
-part-dominates-row-end c = search needs
-
-dominates-row-requires : tie.Need-dominates-row-requires
-dominates-row-requires c κs = search needs
+dominates-at-requires : tie.Need-dominates-at-requires
+dominates-at-requires c κs = c .before .before .before .pre .0
 
 returns-2 : tie.Need-returns-2
-returns-2 c =
-    let a = c .before .before .before .before .before .args in
-    rw (row-lent (a .states) (a .u) (a .table .now)) at (c .dominates-row .ensures)
+returns-2 c = c .dominates-at .ensures
 
 pub dominates-node-spec : {M : Type 1} → statement M
-dominates-node-spec =
-    tie.close
-    (tie.spec
-    returns
-    add-wide
-    mul-from
-    add-end
-    mul-dominates-row
-    sub-dominates-row
-    part-dominates-row-start
-    part-dominates-row-end
-    dominates-row-requires
-    returns-2)
+dominates-node-spec = tie.close (tie.spec returns dominates-at-requires returns-2)

@@ -1,157 +1,79 @@
--- `nodes::is_dominated` meets its contract. The invariant: the walk along the chain has come to `to`, and no node from there on dominates.
--- Assumes nothing.
+-- `nodes::is_dominated` meets its contract: where a node is found one dominates, and only a recent word is stored. Assumes nothing.
 use mathlib.Core.Path.{_≡_, sym}
-use Prim.Native.Nat.{ℕ, suc, _-_, _<_}
+use mathlib.Core.Bool.{Bool, false}
+use Prim.Native.Nat.{_+_, _<_}
 use native.Mathlib.Omega.{arith}
 use lib.ListN.{take}
-use lib.Seq.{length-take-le}
 use borrow.Author.Needs.{needs}
-use Rattle.loops.specs.Count.Laws.{told, any-in}
+use Rattle.loops.specs.Count.{any}
 use Rattle.search.specs.Node.{Node, dominates}
 use Rattle.nodes.specs.Row.{nodeIn, nodeWith}
-use Rattle.nodes.specs.Row.Laws.{row-in}
-use Rattle.nodes.specs.Chain.{Walked}
-use Rattle.nodes.specs.Chain.Laws.{class-lt, walk-start, walk-more, walk-end}
+use Rattle.nodes.specs.Chain.Laws.{class-lt, slot-lt, recalled-none, recalled-set}
+use Rattle.nodes.specs.Chain.Walk.{dominator-some}
 use Rattle.nodes.proofs.is_dominated.Statement.{statement}
 use Rattle.nodes.proofs.is_dominated.Tie as tie
 
-abbrev Inv-loop : tie.InvT-loop
-Inv-loop table states count scan spot paid prices sign class to₀ to = Walked states table count (nodeWith spot paid (take states prices) 0 0) to
+dominator-requires : tie.Need-dominator-requires
+dominator-requires c κs = search needs
 
-abbrev μ-loop : tie.MeasureT-loop
-μ-loop table states count scan spot paid prices sign class to₀ to = to
+same-length : tie.Need-same-length
+same-length c = search needs
 
 -- the new node
-abbrev fresh : tie.Start Inv-loop μ-loop → Node
+abbrev fresh : tie.Start → Node
 fresh s = nodeWith (s .args .spot) (s .args .paid) (take (s .args .states) (s .args .prices .now)) 0 0
 
-slice-aggregate-sign-of : tie.Need-slice-aggregate-sign-of Inv-loop μ-loop
-slice-aggregate-sign-of c =
-    let s = c .before .before .before .before in
-    sym (length-take-le (s .args .states) (s .args .prices .now) (s .pre .3))
+-- whether one of the nodes dominates it
+abbrev answer : tie.Start → Bool
+answer s = any (s .args .count) (λ u. dominates (nodeIn (s .args .states) (s .args .table .now) u) (fresh s))
 
-sign-of-requires : tie.Need-sign-of-requires Inv-loop μ-loop
-sign-of-requires c κs = search needs
+-- none does where none is found
+missed : (c : tie.After-dominator) → c .dominator .result ≡ 0 → answer (c .before .before .before .before .before) ≡ false
+missed c = c .dominator .ensures .none
 
-class-of-requires : tie.Need-class-of-requires Inv-loop μ-loop
-class-of-requires c κs = search needs
-
--- the class is below 4,096
-small : (c : tie.After-class-of Inv-loop μ-loop) → c .class-of .result < 4096
-small c = rw (c .class-of .ensures) (class-lt (c .before .before .before .before .before .before .args .spot))
-
-add-to : tie.Need-add-to Inv-loop μ-loop
-add-to c = omega (arith, small c)
-
-mul-to : tie.Need-mul-to Inv-loop μ-loop
-mul-to c = omega (arith, small c)
-
-shared-slice-read-to : tie.Need-shared-slice-read-to Inv-loop μ-loop
-shared-slice-read-to c =
-    let s = c .before .before .before .before .before .before .before in
-    omega (arith, small (c .before), s .pre .4 .long)
-
-loop-holds : tie.Need-loop-holds Inv-loop μ-loop
-loop-holds c =
-    let s = c .before .before .before .before .before .before .before in
-    let a = s .args in
-    rw (c .before .class-of .ensures) (walk-start (a .states) (a .table .now) (a .scan .now) (a .count) (fresh s) (s .pre .4))
-
--- where the function starts
-abbrev start : tie.In-loop Inv-loop μ-loop → tie.Start Inv-loop μ-loop
-start c = c .before .before .before .before .before .before .before .before .before
-
--- the node that the turn is at
-abbrev node : tie.In-loop Inv-loop μ-loop → ℕ
-node c = c .before .loop .to - 1
-
--- the walk has come to it
-walked : (c : tie.In-loop Inv-loop μ-loop) → let a = start c .args in Walked (a .states) (a .table .now) (a .count) (fresh (start c)) (suc (node c))
-walked c = let e : c .before .loop .to ≡ suc (node c) = omega arith in rw e at (c .before .loop .inv)
-
--- it is one of the nodes
-below : (c : tie.In-loop Inv-loop μ-loop) → node c < start c .args .count
-below c = walked c .low
-
-sub-u : tie.Need-sub-u Inv-loop μ-loop
-sub-u c = search needs
-
-add-theirs : tie.Need-add-theirs Inv-loop μ-loop
-add-theirs c = omega (arith, below c, start c .pre .1)
-
-mul-theirs : tie.Need-mul-theirs Inv-loop μ-loop
-mul-theirs c = omega (arith, below c, start c .pre .1)
-
-shared-slice-read-theirs : tie.Need-shared-slice-read-theirs Inv-loop μ-loop
-shared-slice-read-theirs c = let t = c .before in omega (arith, below t, start t .pre .1, start t .pre .4 .long)
-
-dominates-node-requires : tie.Need-dominates-node-requires Inv-loop μ-loop
-dominates-node-requires c κs =
-    let t = c .before in
-    let s = start t in
-    let a = s .args in
-    let room = row-in (a .states) (a .count) (node t) (a .table .now) (below t) (s .pre .2) in
-    ((room, s .pre .3), (s .pre .4 .signs (node t) (below t), t .before .before .before .before .sign-of .ensures))
-
--- what the test of the node tells
-tested : (c : tie.After-dominates-node Inv-loop μ-loop) → let t = c .before .before in let a = start t .args in
-    c .dominates-node .result ≡ dominates (nodeIn (a .states) (a .table .now) (node t)) (fresh (start t))
-tested c = c .dominates-node .ensures
-
-returns : tie.Need-returns Inv-loop μ-loop
+returns : tie.Need-returns
 returns c =
-    let t = c .before .before .before in
-    sym (any-in (start t .args .count) _ (node t) (below t) (told (tested (c .before)) (c .if1 .taken)))
+    let s = c .before .before .before .before .before .before in
+    (sym {a = answer s} (missed (c .before) (c .if1 .taken)), recalled-none (s .args .scan .now))
 
-add-to-2 : tie.Need-add-to-2 Inv-loop μ-loop
-add-to-2 c = let t = c .before .before .before in omega (arith, below t, start t .pre .1)
+slot-of-requires : tie.Need-slot-of-requires
+slot-of-requires c κs = let s = c .before .before .before .before .before .before in rw (s .pre .1 .0) (class-lt (s .args .spot))
 
-mul-to-2 : tie.Need-mul-to-2 Inv-loop μ-loop
-mul-to-2 c = let t = c .before .before .before in omega (arith, below t, start t .pre .1)
+-- the place is below 4,096
+small : (c : tie.After-slot-of) → c .slot-of .result < 4096
+small c = let a = c .before .before .before .before .before .before .before .args in rw (c .slot-of .ensures) (slot-lt (a .class) (a .sign))
 
-shared-slice-read-to-2 : tie.Need-shared-slice-read-to-2 Inv-loop μ-loop
-shared-slice-read-to-2 c = let t = c .before .before .before .before in omega (arith, below t, start t .pre .1, start t .pre .4 .long)
+add-scan : tie.Need-add-scan
+add-scan c = omega (arith, small c)
 
-loop-less : tie.Need-loop-less Inv-loop μ-loop
-loop-less c = let t = c .before .before .before .before in omega (arith, start t .pre .4 .links (node t) (below t), t .loop-test .taken)
+mul-scan : tie.Need-mul-scan
+mul-scan c = omega (arith, small c)
 
-loop-again : tie.Need-loop-again Inv-loop μ-loop
-loop-again c =
-    let e = c .before in
-    let t = e .before .before .before in
-    let s = start t in
-    let a = s .args in
-    walk-more (a .states) (a .table .now) (a .scan .now) (a .count) (fresh s) (s .pre .4) (node t) (walked t) (told (tested (e .before)) (e .if1 .left))
+slice-write-scan : tie.Need-slice-write-scan
+slice-write-scan c = omega (arith, small c, c .before .before .before .before .before .before .before .pre .0 .4 .long)
 
-returns-2 : tie.Need-returns-2 Inv-loop μ-loop
+same-length-2 : tie.Need-same-length-2
+same-length-2 c = search needs
+
+returns-2 : tie.Need-returns-2
 returns-2 c =
-    let l = c .before .loop in
-    let s = c .before .before .before .before .before .before .before .before .before in
-    let e : l .to ≡ 0 = omega arith in
-    sym (walk-end (s .args .states) (s .args .table .now) (s .args .count) (fresh s) (rw e at (l .inv)))
+    let s = c .before .before .before .before .before .before .before in
+    let a = s .args in
+    let d = c .before .before .dominator in (
+      sym (dominator-some (a .states) (a .table .now) (a .count) (fresh s) (d .result) (d .ensures) (c .before .if1 .left)),
+      recalled-set (a .scan .now) (16448 + c .slot-of .result) (d .result) (omega arith),
+    )
 
 pub is-dominated-spec : {M : Type 1} → statement M
 is-dominated-spec =
     tie.close
     (tie.spec
-    Inv-loop
-    μ-loop
-    slice-aggregate-sign-of
-    sign-of-requires
-    class-of-requires
-    add-to
-    mul-to
-    shared-slice-read-to
-    loop-holds
-    sub-u
-    add-theirs
-    mul-theirs
-    shared-slice-read-theirs
-    dominates-node-requires
+    dominator-requires
+    same-length
     returns
-    add-to-2
-    mul-to-2
-    shared-slice-read-to-2
-    loop-less
-    loop-again
+    slot-of-requires
+    add-scan
+    mul-scan
+    slice-write-scan
+    same-length-2
     returns-2)

@@ -146,7 +146,7 @@ pub retired-key : (C : List ℕ) (u n i : ℕ) → i < 16384 → getD (retiredTo
 unfolding retiredTo
 retired-key C u n i b = getD-set-other (set C u mark) (16384 + u / 64) i (leastOf (blockOf (set C u mark) n (u / 64))) 0 (λ e. omega arith)
 
-module _ (C : List ℕ) (u n : ℕ) (long : length C ≡ 16448) (few : n ≤ 4096) (inside : u < n) where
+module _ (C : List ℕ) (u n : ℕ) (long : length C ≡ 20544) (few : n ≤ 4096) (inside : u < n) where
   -- the words with the node's open key stored, and with its block's word too
   abbrev keyed : List ℕ
   keyed = set C u mark
@@ -195,7 +195,7 @@ module _ (C : List ℕ) (u n : ℕ) (long : length C ≡ 16448) (few : n ≤ 409
 
 -- ---- the choice by blocks
 
-module _ (bound : ℕ) (C : List ℕ) (n : ℕ) (long : length C ≡ 16448) (few : n ≤ 4096) (low : bound ≤ mark) (r : Blocked C n) where
+module _ (bound : ℕ) (C : List ℕ) (n : ℕ) (long : length C ≡ 20544) (few : n ≤ 4096) (low : bound ≤ mark) (r : Blocked C n) where
   -- a block word among the block words
   words-at : (b : ℕ) → b < 64 → getD (blockWords C) b 0 ≡ blockAt C b
   words-at b l = rw (getD-take, getD-drop)

@@ -1,8 +1,7 @@
--- Laws of the scan words: signatures of reachable states, the class of a centre state, chains as nodes are linked, and walks along a chain.
--- Assumes nothing.
+-- Laws of the scan words: signatures of reachable states, the class of a centre state, recent words, and chains as nodes are linked. Assumes nothing.
 use mathlib.Core.Path.{_≡_, refl, sym, ap, ap₂, _∙_}
 use mathlib.Core.Logic.{_⊎_, inl, inr}
-use mathlib.Core.Bool.{true, false, true≢false}
+use mathlib.Core.Bool.{true, false}
 use mathlib.Core.List.{List}
 use Prim.Native.Nat.{ℕ, zero, suc, _+_, _*_, _/_, _%_, _^_, _≤_, _<_, min, max}
 use native.Mathlib.Nat.{not-suc-le-zero, one-mul}
@@ -16,8 +15,8 @@ use lib.Dec.{leb, eqb, lit<}
 use lib.Pow.{shl-exact}
 use lib.ListN.{length, getD, set, drop, length-set, length-drop}
 use lib.Seq.{getD-set-same, getD-set-other, length-take-le}
-use Rattle.loops.specs.Count.{all, any}
-use Rattle.loops.specs.Count.Laws.{and-out, all-out, any-out, below-cases, test-cases}
+use Rattle.loops.specs.Count.{all}
+use Rattle.loops.specs.Count.Laws.{and-out, all-out, below-cases, test-cases}
 use Rattle.task.specs.declared.Centre.{Centre}
 use Rattle.task.specs.Centre.{valueIn}
 use Rattle.layer.specs.Layer.{mark}
@@ -26,7 +25,7 @@ use Rattle.nodes.specs.Row.{nodeOf, rowIn, nodeIn}
 use Rattle.nodes.specs.Row.Laws.{row-length}
 use Rattle.nodes.specs.Block.{blockAt, Held, Blocked, freshTo, retiredTo}
 use Rattle.nodes.specs.Block.Laws.{blocked-change, blocked-none, fresh-length, fresh-other, fresh-block, retired-length, retired-key, blocked-retire}
-use Rattle.nodes.specs.Chain.{signAt, linkAt, headAt, classTo, classOf, signTo, signOf, chainedTo, linkedTo, Chained, Walked}
+use Rattle.nodes.specs.Chain.{signAt, linkAt, headAt, classTo, classOf, slotOf, signTo, signOf, chainedTo, linkedTo, Chained, Recalled}
 
 -- ---- bits
 
@@ -100,36 +99,39 @@ sign-within P Q e h = rw e (sign-below P Q (length Q) h)
 -- ---- classes
 
 -- a turn of the loop
-pub class-more : (xs : List ℕ) (v : ℕ) → classTo xs (v + 1) ≡ (classTo xs v * 1637 + getD xs v 0) % 4096
+pub class-more : (xs : List ℕ) (b n : ℕ) → classTo xs b (n + 1) ≡ (classTo xs b n * 1637 + getD xs (b + n) 0) % 4096
 unfolding classTo
-class-more xs v = rw add-one
+class-more xs b n = rw add-one
 
 -- a class is below 4,096
-class-to-lt : (xs : List ℕ) (n : ℕ) → classTo xs n < 4096
-unfolding classTo
-class-to-lt xs zero = omega arith
-class-to-lt xs (suc n) = omega arith
-
 pub class-lt : (c : Centre) → classOf c < 4096
 unfolding classOf
-class-lt c = class-to-lt (c .values) 32
+class-lt c = omega arith
 
 -- the same values have the same class
-class-same : (xs ys : List ℕ) (n : ℕ) → ((v : ℕ) → v < n → getD xs v 0 ≡ getD ys v 0) → classTo xs n ≡ classTo ys n
+class-same : (xs ys : List ℕ) (b n : ℕ) → ((v : ℕ) → v < b + n → getD xs v 0 ≡ getD ys v 0) → classTo xs b n ≡ classTo ys b n
 unfolding classTo
-class-same xs ys zero h = refl
-class-same xs ys (suc n) h =
-    ap₂ (λ (x y : ℕ). (x * 1637 + y) % 4096) (class-same xs ys n (λ v l. h v (omega arith))) (h n (omega arith))
+class-same xs ys b zero h = refl
+class-same xs ys b (suc n) h =
+    ap₂ (λ (x y : ℕ). (x * 1637 + y) % 4096) (class-same xs ys b n (λ v l. h v (omega arith))) (h (b + n) (omega arith))
+
+-- so of two centre states
+class-alike : (c d : Centre) → ((v : ℕ) → v < 32 → valueIn c v ≡ valueIn d v) → classOf c ≡ classOf d
+unfolding classOf
+class-alike c d h =
+    let same : (b : ℕ) → b ≤ 24 → classTo (c .values) b 8 ≡ classTo (d .values) b 8 =
+    λ b l. class-same (c .values) (d .values) b 8 (λ v k. h v (omega arith)) in
+    rw (same 0 (omega arith), same 8 (omega arith), same 16 (omega arith), same 24 (omega arith))
 
 -- ---- dominance
 
 module _ (m n : Node) (e : dominates m n ≡ true) where
   -- a node that dominates has the same class
   pub dominates-class : classOf (m .spot) ≡ classOf (n .spot)
-  unfolding dominates classOf
+  unfolding dominates
   dominates-class =
       let (p, _) = and-out (all 32 (λ v. eqb (valueIn (m .spot) v) (valueIn (n .spot) v))) _ e in
-      class-same (m .spot .values) (n .spot .values) 32 (λ v l. eqb-true _ _ (all-out 32 _ p v l))
+      class-alike (m .spot) (n .spot) (λ v l. eqb-true _ _ (all-out 32 _ p v l))
 
   -- no price of it is higher
   pub dominates-low : (k : ℕ) → k < length (n .prices) → getD (m .prices) k mark ≤ getD (n .prices) k mark
@@ -164,7 +166,7 @@ prices-length S u T h = length-take-le S (drop 40 (rowIn S T u)) (simp length-dr
 -- ---- chains
 
 -- no node
-pub chained-none : (S : ℕ) (T C : List ℕ) → length C ≡ 16448 → ((h : ℕ) → h < 4096 → headAt C h ≡ 0) → ((b : ℕ) → b < 64 → blockAt C b ≡ mark)
+pub chained-none : (S : ℕ) (T C : List ℕ) → length C ≡ 20544 → ((h : ℕ) → h < 4096 → headAt C h ≡ 0) → ((b : ℕ) → b < 64 → blockAt C b ≡ mark)
     → Chained S T C 0
 chained-none S T C l z m = record {
   long = l;
@@ -179,7 +181,7 @@ chained-none S T C l z m = record {
 }
 
 -- no node, after all block words are set to the mark
-pub chained-fresh : (S : ℕ) (T C : List ℕ) → length C ≡ 16448 → ((h : ℕ) → h < 4096 → headAt C h ≡ 0) → Chained S T (freshTo C 64) 0
+pub chained-fresh : (S : ℕ) (T C : List ℕ) → length C ≡ 20544 → ((h : ℕ) → h < 4096 → headAt C h ≡ 0) → Chained S T (freshTo C 64) 0
 chained-fresh S T C l z =
     chained-none S T (freshTo C 64) (fresh-length C 64 ∙ l) (λ h b. fresh-other C 64 (12288 + h) (omega arith) ∙ z h b)
     (λ b k. fresh-block C 64 b (omega arith) k)
@@ -204,6 +206,49 @@ pub chained-retire : (S : ℕ) (T C : List ℕ) (n u : ℕ) → n ≤ 4096 → u
 chained-retire S T C n u few inside r =
     chained-words S T C (retiredTo C u n) n few (retired-length C u n)
     (λ i l h. retired-key C u n i h ∙ getD-set-other C u i mark 0 (λ e. omega arith)) (blocked-retire C u n (r .long) few inside (r .blocks)) r
+
+-- ---- recent words
+
+-- the words as they were
+pub recalled-none : (C : List ℕ) → Recalled C C
+recalled-none C = record { long = refl; same = λ i l. refl }
+
+-- one recent word is stored
+pub recalled-set : (C : List ℕ) (i v : ℕ) → 16448 ≤ i → Recalled C (set C i v)
+recalled-set C i v h = record { long = length-set C i v; same = λ k l. getD-set-other C i k v 0 (λ e. omega arith) }
+
+-- the block words do not go by recent words
+pub blocked-recalled : (C D : List ℕ) (n : ℕ) → n ≤ 4096 → Recalled C D → Blocked C n → Blocked D n
+blocked-recalled C D n few k r = record {
+  lower = λ u l. omega (arith, k .same (16384 + u / 64) (omega arith), k .same u (omega arith), r .lower u l);
+  held = λ b l. go b l (r .held b l);
+}
+  where
+    go : (b : ℕ) → b < 64 → (blockAt C b ≡ mark) ⊎ Held C n b (blockAt C b) → (blockAt D b ≡ mark) ⊎ Held D n b (blockAt D b)
+    go b l (inl e) = inl (k .same (16384 + b) (omega arith) ∙ e)
+    go b l (inr h) =
+        inr (record {
+          node = h .node;
+          inside = h .inside;
+          block = h .block;
+          key = k .same (h .node) (omega (arith, h .inside)) ∙ h .key ∙ sym (k .same (16384 + b) (omega arith));
+        })
+
+-- nor do the chains
+pub chained-recalled : (S : ℕ) (T C D : List ℕ) (n : ℕ) → n ≤ 4096 → Recalled C D → Chained S T C n → Chained S T D n
+chained-recalled S T C D n few k r =
+    chained-words S T C D n few (k .long) (λ i l h. k .same i (omega arith)) (blocked-recalled C D n few k (r .blocks)) r
+
+-- the same where one recent word is stored
+pub chained-recent : (S : ℕ) (T C : List ℕ) (n i v : ℕ) → n ≤ 4096 → 16448 ≤ i → Chained S T C n → Chained S T (set C i v) n
+chained-recent S T C n i v few h = chained-recalled S T C (set C i v) n few (recalled-set C i v h)
+
+-- the place of a recent word is below 4,096
+pub slot-lt : (h s : ℕ) → slotOf h s < 4096
+unfolding slotOf
+slot-lt h s = omega arith
+
+-- ---- another table
 
 -- another table with the same nodes
 pub chained-same : (S : ℕ) (T T′ C : List ℕ) (n : ℕ) → ((u : ℕ) → u < n → nodeIn S T′ u ≡ nodeIn S T u) → Chained S T C n → Chained S T′ C n
@@ -259,7 +304,7 @@ linked-key C n key s h u b =
     ∙ getD-set-other (set (set C n key) (4096 + n) s) (8192 + n) u (headAt C h) 0 (λ e. omega arith)
     ∙ getD-set-other (set C n key) (4096 + n) u s 0 (λ e. omega arith)
 
-module _ (C : List ℕ) (n key s h : ℕ) (long : length C ≡ 16448) (few : n < 4096) (small : h < 4096) where
+module _ (C : List ℕ) (n key s h : ℕ) (long : length C ≡ 20544) (few : n < 4096) (small : h < 4096) where
   -- the node's signature
   linked-sign : signAt (linkedTo C n key s h) n ≡ s
   unfolding chainedTo
@@ -446,39 +491,3 @@ module _ (S : ℕ) (T C : List ℕ) (n key : ℕ) (few : n < 4096) (r : Chained 
 pub chained-more : (S : ℕ) (T T′ C : List ℕ) (n key : ℕ) (c : Centre) (P : List ℕ) → n < 4096 → ((u : ℕ) → u < n → nodeIn S T′ u ≡ nodeIn S T u)
     → nodeIn S T′ n .spot ≡ c → nodeIn S T′ n .prices ≡ P → Chained S T C n → Chained S T′ (linkedTo C n key (signOf P) (classOf c)) (suc n)
 chained-more S T T′ C n key c P few same p q r = rw (← p, ← q) (chained-link S T′ C n key few (chained-same S T T′ C n same r))
-
--- ---- walks along a chain
-
-module _ (S : ℕ) (T C : List ℕ) (n : ℕ) (m : Node) (r : Chained S T C n) where
-  -- a walk begins at the head of the class
-  pub walk-start : Walked S T n m (headAt C (classOf (m .spot)))
-  walk-start = record {
-    low = r .heads (classOf (m .spot)) (class-lt (m .spot));
-    none = λ w a k. other-class (nodeIn S T w) m (r .last (classOf (m .spot)) w (class-lt (m .spot)) a k);
-    class = λ w e. r .headed (classOf (m .spot)) w (class-lt (m .spot)) e;
-  }
-
-  -- node u does not dominate: the walk goes on at its link
-  pub walk-more : (u : ℕ) → Walked S T n m (suc u) → dominates (nodeIn S T u) m ≡ false → Walked S T n m (linkAt C u)
-  walk-more u k d = record {
-    low = omega (arith, k .low, r .links u (k .low));
-    none = λ w a b. passed w a b (decLt w u);
-    class = λ w e. r .linked u w (k .low) e ∙ k .class u refl;
-  }
-    where
-      later : (w : ℕ) → w < n → u ≤ w → Dec (w ≡ u) → dominates (nodeIn S T w) m ≡ false
-      later w b l (yes e) = rw e d
-      later w b l (no f) = k .none w (omega arith) b
-
-      passed : (w : ℕ) → linkAt C u ≤ w → w < n → Dec (w < u) → dominates (nodeIn S T w) m ≡ false
-      passed w a b (yes l) = other-class (nodeIn S T w) m (λ e. r .skips u w (k .low) a l (e ∙ sym (k .class u refl)))
-      passed w a b (no f) = later w b (omega arith) (ℕ-discrete w u)
-
--- the chain ends: no node dominates
-pub walk-end : (S : ℕ) (T : List ℕ) (n : ℕ) (m : Node) → Walked S T n m 0 → any n (λ u. dominates (nodeIn S T u) m) ≡ false
-walk-end S T n m k = go (test-cases (any n (λ u. dominates (nodeIn S T u) m)))
-  where
-    go : (any n (λ u. dominates (nodeIn S T u) m) ≡ true) ⊎ (any n (λ u. dominates (nodeIn S T u) m) ≡ false)
-        → any n (λ u. dominates (nodeIn S T u) m) ≡ false
-    go (inl e) = let w = any-out n (λ u. dominates (nodeIn S T u) m) e in absurd (true≢false (sym (w .1 .1) ∙ k .none (w .0) (omega arith) (w .1 .0)))
-    go (inr e) = e

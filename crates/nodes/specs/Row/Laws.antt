@@ -5,7 +5,6 @@ use mathlib.Core.Bool.{Bool, _&&_}
 use mathlib.Core.List.{List, [], _∷_, _++_, append-assoc}
 use Prim.Native.Nat.{ℕ, zero, suc, _+_, _-_, _*_, _%_, _≤_, _<_}
 use native.Mathlib.Nat.{not-suc-le-zero, suc-mul, mul-le-mul-right}
-use native.Mathlib.Numerals.{add-one}
 use native.Mathlib.Omega.{arith}
 use lib.Dec.{leb, eqb}
 use lib.ListN.{length, getD, set, take, drop, length-append, length-drop, length-set, take-append-drop, List·getD-append}
@@ -158,18 +157,3 @@ nodesIn-at S T (suc n) u d h = go (below-cases h) (nodesIn-at S T n u d)
     go : (u < n) ⊎ (u ≡ n) → (u < n → getD (nodesIn S T n) u d ≡ nodeIn S T u) → getD (nodesIn S T (suc n)) u d ≡ nodeIn S T u
     go (inl l) r = List·getD-append (nodesIn S T n) (nodeIn S T n ∷ []) d u (rw nodesIn-length l) ∙ r l
     go (inr e) r = getD-at (nodesIn S T n) (nodeIn S T n) [] d u (nodesIn-length S T n ∙ sym e) ∙ ap (nodeIn S T) (sym e)
-
--- the same rows have the same nodes
-nodesIn-ext : (S n : ℕ) (T T′ : List ℕ) → ((u : ℕ) → u < n → rowIn S T u ≡ rowIn S T′ u) → nodesIn S T n ≡ nodesIn S T′ n
-unfolding nodesIn
-nodesIn-ext S zero T T′ h = refl
-nodesIn-ext S (suc n) T T′ h =
-    ap₂ {C = List Node} (λ ns row. ns ++ (nodeOf S row ∷ [])) (nodesIn-ext S n T T′ (λ u l. h u (omega arith))) (h n (omega arith))
-
--- one more node: row R is written behind the first v rows
-pub nodesIn-more : (S v : ℕ) (T R X : List ℕ) → v * (40 + S) ≤ length T → length R ≡ 40 + S
-    → nodesIn S (take (v * (40 + S)) T ++ (R ++ X)) (v + 1) ≡ nodesIn S T v ++ (nodeOf S R ∷ [])
-unfolding nodesIn
-nodesIn-more S v T R X l e =
-    rw add-one (
-    ap₂ {C = List Node} (λ ns row. ns ++ (nodeOf S row ∷ [])) (nodesIn-ext S v _ T (λ u h. row-kept S u v T (R ++ X) h l)) (row-written S v T R X l e))

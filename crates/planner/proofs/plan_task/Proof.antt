@@ -6,7 +6,7 @@ use Prim.Native.Nat.{_+_, _*_, _≤_}
 use lib.ListN.{getD}
 use Rattle.task.specs.Factors.{allStates}
 use borrow.Author.Needs.{needs}
-use Rattle.pricer.specs.Pricer.Laws.{row-of}
+use Rattle.tables.specs.Fit.{row-of}
 use Rattle.planner.specs.Planner.{tableWords}
 use Rattle.planner.specs.Planner.Answers.{words-is, words-few, task-none, task-many, task-short, task-searched}
 use Rattle.planner.proofs.plan_task.Statement.{statement}

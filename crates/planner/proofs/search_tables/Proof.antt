@@ -1,113 +1,45 @@
--- `planner::search_tables` meets its contract: the tables are the task's, and what the search stops with is answered. Assumes nothing.
-use mathlib.Core.Path.{_≡_, refl, sym, _∙_}
-use mathlib.Core.List.{[]}
-use Prim.Native.Nat.{_+_}
+-- `planner::search_tables` meets its contract: the moves have room either way. Assumes nothing.
+use mathlib.Core.Path.{_≡_}
+use Prim.Native.Nat.{_*_, _≤_}
 use native.Mathlib.Omega.{arith}
-use denote.Ref.{now}
-use lib.ListN.{length}
+use lib.ListN.{getD}
 use borrow.Author.Needs.{needs}
-use Rattle.layer.specs.Settle.Steps.{replicate-at}
-use Rattle.pricer.specs.Pricer.Laws.{moves-fit}
-use Rattle.tables.specs.Tables.{Tabled}
-use Rattle.planner.specs.Planner.{tableWords}
-use Rattle.planner.specs.Planner.Stops.{Sound, stop-is, stop-sound}
+use Rattle.task.specs.Factors.{allStates}
+use Rattle.tables.specs.Fit.{row-of, moves-fit}
 use Rattle.planner.proofs.search_tables.Statement.{statement}
 use Rattle.planner.proofs.search_tables.Tie as tie
 
--- the tables are the task's
-tabled : (c : tie.After-leaf-goals) → let s = c .before .before .before .before .before .before .before .before .before in
-    Tabled (s .args .task) (s .args .t2) (c .before .before .before .before .before .fill-moves .last .1 .1 .0) (c .before .before .before .action-costs .result) (c .before .before .action-kinds .result) (c .before .leaf-starts .result)
-tabled c =
-    let s = c .before .before .before .before .before .before .before .before .before in
-    let kept : length (c .before .before .before .before .before .fill-moves .last .1 .1 .0) ≡ 261120 = c .before .before .before .before .before .fill-moves .kept .1 .1 .0 in
-    record {
-      is-bases = s .pre .1 .0;
-      is-moves = c .before .before .before .before .before .fill-moves .ensures .0;
-      long-moves = omega (arith, moves-fit (s .args .task) (s .pre .0));
-      is-costs = c .before .before .before .action-costs .ensures;
-      is-kinds = c .before .before .action-kinds .ensures;
-      is-starts = c .before .leaf-starts .ensures;
-    }
+-- S by the bases
+row : (s : tie.Start) → getD (s .args .t2) (s .args .task .leaves) 0 ≡ allStates (s .args .task)
+row s = row-of (s .args .task) (s .args .t2) (s .pre .1 .0)
 
--- what the search stops with is sound
-sound : (c : tie.After-explore) → let s = c .before .before .before .before .before .before .before .before .before .before .before .before .before .before .before .before .before .before in Sound (s .args .task) (c .explore .last .1 .1 .1 .1 .1 .1 .1 .1 .1 .0) (c .explore .result .run)
-sound c =
-    let s = c .before .before .before .before .before .before .before .before .before .before .before .before .before .before .before .before .before .before in
-    let kept : length (c .explore .last .1 .1 .1 .1 .1 .1 .1 .1 .1 .0) ≡ length (now (s .args .table)) = c .explore .kept .1 .1 .1 .1 .1 .1 .1 .1 .1 .0 in
-    stop-sound (s .args .task) (s .args .nodes) (s .args .budget) (c .explore .last .1 .1 .1 .1 .1 .1 .1 .1 .1 .0) (c .explore .last .1 .1 .1 .1 .1 .1 .1 .1 .1 .1 .0) (c .explore .result) (c .explore .ensures .0)
-    (s .pre .1 .1) (s .pre .1 .2) (omega (arith, kept, s .pre .1 .3)) (c .explore .ensures .1 .some)
+-- there are few moves
+small : (s : tie.Start) → s .args .task .actions * getD (s .args .t2) (s .args .task .leaves) 0 ≤ 261120
+small s = rw (row s) (moves-fit (s .args .task) (s .pre .0))
 
-slice-aggregate-fill-moves : tie.Need-slice-aggregate-fill-moves
-slice-aggregate-fill-moves c = search needs
+cast-leaves : tie.Need-cast-leaves
+cast-leaves c = search needs
 
-fill-moves-requires : tie.Need-fill-moves-requires
-fill-moves-requires c κs =
-    let s = c .before .before .before in
-    (s .pre .0, (s .pre .1 .0, moves-fit (s .args .task) (s .pre .0)))
+cast-actions : tie.Need-cast-actions
+cast-actions c = search needs
 
-action-costs-requires : tie.Need-action-costs-requires
-action-costs-requires c κs = search needs
+mul-if1 : tie.Need-mul-if1
+mul-if1 c = search needs
 
-action-kinds-requires : tie.Need-action-kinds-requires
-action-kinds-requires c κs = search needs
+array-read-if1 : tie.Need-array-read-if1
+array-read-if1 c = search needs
 
-leaf-starts-requires : tie.Need-leaf-starts-requires
-leaf-starts-requires c κs = search needs
+mul-if1-2 : tie.Need-mul-if1-2
+mul-if1-2 c = omega (arith, small (c .before .before .before .before))
 
-leaf-goals-requires : tie.Need-leaf-goals-requires
-leaf-goals-requires c κs = search needs
+slice-aggregate-search-with : tie.Need-slice-aggregate-search-with
+slice-aggregate-search-with c = search needs
 
-slice-aggregate-explore : tie.Need-slice-aggregate-explore
-slice-aggregate-explore c = search needs
-
-slice-aggregate-explore-2 : tie.Need-slice-aggregate-explore-2
-slice-aggregate-explore-2 c = search needs
-
-slice-aggregate-explore-3 : tie.Need-slice-aggregate-explore-3
-slice-aggregate-explore-3 c = search needs
-
-slice-aggregate-explore-4 : tie.Need-slice-aggregate-explore-4
-slice-aggregate-explore-4 c = search needs
-
-slice-aggregate-explore-5 : tie.Need-slice-aggregate-explore-5
-slice-aggregate-explore-5 c = search needs
-
-slice-aggregate-explore-6 : tie.Need-slice-aggregate-explore-6
-slice-aggregate-explore-6 c = search needs
-
-slice-aggregate-explore-7 : tie.Need-slice-aggregate-explore-7
-slice-aggregate-explore-7 c = search needs
-
-explore-requires : tie.Need-explore-requires
-unfolding tableWords
-explore-requires c κs =
-    let g = c .before .before .before .before .before .before .before .before in
-    let s = g .before .before .before .before .before .before .before .before .before in
-    (s .pre .0, ((tabled g, g .leaf-goals .ensures), (s .pre .1 .1, s .pre .1 .2, s .pre .1 .3, refl, λ h _. replicate-at 16448 0 (12288 + h))))
-
-slice-aggregate-answer-of : tie.Need-slice-aggregate-answer-of
-slice-aggregate-answer-of c = sym (c .before .before .before .before .before .before .before .before .before .before .before .before .before .before .before .before .before .before .before .before .before .before .pre .1 .0 .long)
-
-slice-aggregate-answer-of-2 : tie.Need-slice-aggregate-answer-of-2
-slice-aggregate-answer-of-2 c = search needs
-
-slice-aggregate-answer-of-3 : tie.Need-slice-aggregate-answer-of-3
-slice-aggregate-answer-of-3 c = search needs
-
-slice-aggregate-answer-of-4 : tie.Need-slice-aggregate-answer-of-4
-slice-aggregate-answer-of-4 c = search needs
-
-slice-aggregate-answer-of-5 : tie.Need-slice-aggregate-answer-of-5
-slice-aggregate-answer-of-5 c = search needs
-
-slice-aggregate-answer-of-6 : tie.Need-slice-aggregate-answer-of-6
-slice-aggregate-answer-of-6 c = search needs
-
-answer-of-requires : tie.Need-answer-of-requires
-answer-of-requires c κs =
-    let g = c .before .before .before .before .before .before .before .before .before .before .before .before .before .before .before .before .before .before .before .before in
-    let s = g .before .before .before .before .before .before .before .before .before in
-    (s .pre .0, ((tabled g, g .leaf-goals .ensures), sound (c .before .before .before .before .before .before .before .before .before .before .before)))
+search-with-requires : tie.Need-search-with-requires
+search-with-requires c κs =
+    let s = c .before .before .before .before .before .before .before .before in
+    let room : s .args .task .actions * allStates (s .args .task) ≤ 16384 = rw (row s) at (c .before .before .before .if1 .taken) in
+    (s .pre .0, (s .pre .1 .0, s .pre .1 .1, s .pre .1 .2, s .pre .1 .3, room))
 
 same-length : tie.Need-same-length
 same-length c = search needs
@@ -116,37 +48,41 @@ same-length-2 : tie.Need-same-length-2
 same-length-2 c = search needs
 
 returns : tie.Need-returns
-returns c =
-    let e = c .before .before .before .before .before .before .before .before .before .before .before .before .before .before in
-    let s = e .before .before .before .before .before .before .before .before .before .before .before .before .before .before .before .before .before .before in
-    c .before .before .answer-of .ensures
-    ∙ stop-is (s .args .task) (s .args .nodes) (s .args .budget) (e .explore .last .1 .1 .1 .1 .1 .1 .1 .1 .1 .0) (e .explore .last .1 .1 .1 .1 .1 .1 .1 .1 .1 .1 .0) (e .explore .result) (e .explore .ensures .0) (now (s .args .plan)) []
+returns c = search needs
+
+slice-aggregate-search-with-2 : tie.Need-slice-aggregate-search-with-2
+slice-aggregate-search-with-2 c = search needs
+
+search-with-requires-2 : tie.Need-search-with-requires-2
+search-with-requires-2 c κs =
+    let s = c .before .before .before .before .before .before .before .before in
+    (s .pre .0, (s .pre .1 .0, s .pre .1 .1, s .pre .1 .2, s .pre .1 .3, moves-fit (s .args .task) (s .pre .0)))
+
+same-length-3 : tie.Need-same-length-3
+same-length-3 c = search needs
+
+same-length-4 : tie.Need-same-length-4
+same-length-4 c = search needs
+
+returns-2 : tie.Need-returns-2
+returns-2 c = search needs
 
 pub search-tables-spec : {M : Type 1} → statement M
 search-tables-spec =
     tie.close
     (tie.spec
-    slice-aggregate-fill-moves
-    fill-moves-requires
-    action-costs-requires
-    action-kinds-requires
-    leaf-starts-requires
-    leaf-goals-requires
-    slice-aggregate-explore
-    slice-aggregate-explore-2
-    slice-aggregate-explore-3
-    slice-aggregate-explore-4
-    slice-aggregate-explore-5
-    slice-aggregate-explore-6
-    slice-aggregate-explore-7
-    explore-requires
-    slice-aggregate-answer-of
-    slice-aggregate-answer-of-2
-    slice-aggregate-answer-of-3
-    slice-aggregate-answer-of-4
-    slice-aggregate-answer-of-5
-    slice-aggregate-answer-of-6
-    answer-of-requires
+    cast-leaves
+    cast-actions
+    mul-if1
+    array-read-if1
+    mul-if1-2
+    slice-aggregate-search-with
+    search-with-requires
     same-length
     same-length-2
-    returns)
+    returns
+    slice-aggregate-search-with-2
+    search-with-requires-2
+    same-length-3
+    same-length-4
+    returns-2)

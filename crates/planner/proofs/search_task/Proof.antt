@@ -6,7 +6,7 @@ use Prim.Native.Nat.{_+_, _*_, _≤_}
 use lib.ListN.{length, getD, take, length-append}
 use lib.Seq.{length-take-le}
 use borrow.Author.Needs.{needs}
-use Rattle.pricer.specs.Pricer.Laws.{row-of}
+use Rattle.tables.specs.Fit.{row-of}
 use Rattle.planner.specs.Planner.{tableWords}
 use Rattle.planner.specs.Planner.Answers.{words-is, words-few, search-is}
 use Rattle.planner.proofs.search_task.Statement.{statement}

@@ -5,7 +5,7 @@ use Prim.Native.Nat.{_+_, _/_}
 use lib.ListN.{getD}
 use borrow.Author.Needs.{needs}
 use Rattle.task.specs.Factors.{allStates}
-use Rattle.pricer.specs.Pricer.Laws.{row-of}
+use Rattle.tables.specs.Fit.{row-of}
 use Rattle.planner.specs.Planner.Answers.{nodes-none, nodes-most, nodes-some}
 use Rattle.planner.proofs.task_nodes.Statement.{statement}
 use Rattle.planner.proofs.task_nodes.Tie as tie

@@ -16,7 +16,7 @@ use Rattle.whole.specs.declared.Verdict.the-variants.{Accepted, Refused as NotA
 use Rattle.record.specs.Record.{readRecord}
 use Rattle.task.specs.Valid.{Valid}
 use Rattle.tables.specs.Tables.{Bases}
-use Rattle.pricer.specs.Pricer.Laws.{row-of}
+use Rattle.tables.specs.Fit.{row-of}
 use Rattle.search.specs.Node.{goalCost}
 use Rattle.search.specs.Explore.{Search, Reason, finished, tableFull, budgetSpent, nodeAt, explored}
 use Rattle.search.specs.Plan.{planOf}

@@ -25,6 +25,7 @@ use Rattle.explore.specs.declared.Stop.{Stop}
 use Rattle.explore.specs.declared.Why.the-variants.{Finished, TableFull as FullTable, BudgetSpent as SpentBudget}
 use Rattle.explore.specs.Held.{searchOf, reasonOf, stoppedOf}
 use Rattle.plans.specs.Walk.{heldIn, written}
+use Rattle.plans.specs.Goal.{written-fits, written-not}
 use Rattle.plans.specs.Kept.{plan-kept, real-kept}
 use Rattle.planner.specs.declared.Counts.{Counts}
 use Rattle.planner.specs.declared.PlanRefusal.the-variants.{TableFull, BudgetSpent, PlanLong}
@@ -110,15 +111,6 @@ module _ (t : Task) (nodes budget : ℕ) (T O : List ℕ) (r : Stop) (e : stoppe
 
 -- ---- the answers of a search that has finished
 
--- a plan that fits is written, and one that does not is not
-written-fits : (p plan : List ℕ) → leb (length p) (length plan) ≡ true → written p plan ≡ p ++ drop (length p) plan
-unfolding written
-written-fits p plan e = rw (e, written)
-
-written-long : (p plan : List ℕ) → leb (length p) (length plan) ≡ false → written p plan ≡ plan
-unfolding written
-written-long p plan e = rw (e, written)
-
 module _ (t : Task) (T : List ℕ) (r : Run) (plan : List ℕ) where
   abbrev held : Search
   held = runIn (allStates t) T r
@@ -152,8 +144,9 @@ module _ (t : Task) (T : List ℕ) (r : Run) (plan : List ℕ) where
     pub finish-long : length plan < n → unwritten (Refused PlanLong counted) plan′ [] ≡ atBest t held (r .best) plan []
     unfolding withPlan
     finish-long l =
-        let e : leb (length (planOf t held (r .best - 1))) (length plan) ≡ false = lt-leb _ _ (rw (isLength, plan-is (r .best - 1)) at l) in
-        rw (counted-is, front ∙ written-long _ plan e) (sym (ap (λ b. atBest t held b plan []) best-suc ∙ rw (e, withPlan)))
+        let h : length plan < length (planOf t held (r .best - 1)) = rw (isLength, plan-is (r .best - 1)) at l in
+        let e : leb (length (planOf t held (r .best - 1))) (length plan) ≡ false = lt-leb _ _ h in
+        rw (counted-is, front ∙ written-not _ plan h) (sym (ap (λ b. atBest t held b plan []) best-suc ∙ rw (e, withPlan)))
 
     -- a plan that has space
     pub finish-solved : n ≤ length plan → (c : ℕ) → c ≡ goalCost t (nodeAt t held (r .best - 1))
@@ -161,8 +154,9 @@ module _ (t : Task) (T : List ℕ) (r : Run) (plan : List ℕ) where
     unfolding withPlan
     finish-solved l c q =
         let k : n ≡ length (planOf t held (r .best - 1)) = isLength ∙ rw (plan-is (r .best - 1)) in
-        let e : leb (length (planOf t held (r .best - 1))) (length plan) ≡ true = le-leb _ _ (rw k at l) in
-        rw (counted-is, front ∙ written-fits _ plan e, q, k) (sym (ap (λ b. atBest t held b plan []) best-suc ∙ rw (e, withPlan)))
+        let h : length (planOf t held (r .best - 1)) ≤ length plan = rw k at l in
+        let e : leb (length (planOf t held (r .best - 1))) (length plan) ≡ true = le-leb _ _ h in
+        rw (counted-is, front ∙ written-fits _ plan h, q, k) (sym (ap (λ b. atBest t held b plan []) best-suc ∙ rw (e, withPlan)))
 
 -- ---- the answers of a search that has stopped
 

@@ -1,20 +1,21 @@
 -- Laws of rows and goal states by tables, as the code reads them. Assumes nothing.
 use mathlib.Core.Path.{_≡_, refl, sym, ap, _∙_}
 use mathlib.Core.Bool.{cond, _&&_}
-use mathlib.Core.List.{List, [], _∷_}
+use mathlib.Core.List.{List}
 use Prim.Native.Nat.{ℕ, zero, suc, _+_, _*_, _≤_, _<_}
 use native.Mathlib.Nat.{not-suc-le-zero}
 use native.Mathlib.Omega.{arith}
 use lib.Dec.{ltb, eqb}
 use lib.ListN.{length, getD, set, take, drop, replicate, length-drop}
-use lib.Seq.{length-take-le, take-take, drop-drop, getD-take, getD-drop}
+use lib.Seq.{length-take-le, drop-drop, getD-take, getD-drop}
 use Rattle.layer.specs.Settle.Turns.{at-any}
 use Rattle.layer.specs.Pass.{pass}
 use Rattle.layer.specs.Layer.{mark}
+use Rattle.layer.specs.Layer.Front.{part-take}
 use Rattle.layer.specs.Board.{Board, Sound, baseOn, rowOn, statesOn, passOn}
 use Rattle.layer.specs.Board.Turns.{base-in, leaf-passed}
+use Rattle.search.specs.Node.Laws.{list-entry}
 use Rattle.search.specs.Plan.{lowest}
-use Rattle.search.specs.Plan.Depths.{list-getD}
 use Rattle.nodes.specs.Row.{spotOf, nodeOf, rowIn, nodeIn}
 use Rattle.nodes.specs.Scan.{goalsBy}
 use Rattle.wayback.specs.declared.Ended.{Ended}
@@ -24,13 +25,6 @@ use Rattle.wayback.specs.Walked.{Walked}
 use Rattle.plans.specs.Walk.{nodeOn, pricesOn, actsOn, beginsOn, backFrom, WalkableFrom, backOn, WalkableOn, overOn, RowIn}
 
 -- ---- rows
-
--- a part within the front of a list
-part-take : (n m k : ℕ) (l : List ℕ) → m + n ≤ k → take n (drop m (take k l)) ≡ take n (drop m l)
-part-take n zero k l h = take-take n k l (omega arith)
-part-take n (suc m) zero l h = absurd (omega arith)
-part-take n (suc m) (suc k) [] h = refl
-part-take n (suc m) (suc k) (x ∷ l) h = part-take n m k l (omega arith)
 
 module _ (S : ℕ) (T : List ℕ) (u : ℕ) where
   -- a word of row u
@@ -151,4 +145,4 @@ over-here b T i u p a z price P e q f g = rw (f, g, e, q)
 pub goal-price : (goals P : List ℕ) (x : ℕ) → x < length P → getD (goalsBy goals P) x mark ≡ cond (eqb (getD goals x 0) 0) mark (getD P x 0)
 unfolding goalsBy
 goal-price goals P x h =
-    list-getD (length P) _ x mark h ∙ ap (cond (eqb (getD goals x 0) 0) mark) (at-any P x mark 0 h)
+    list-entry (length P) _ x mark h ∙ ap (cond (eqb (getD goals x 0) 0) mark) (at-any P x mark 0 h)

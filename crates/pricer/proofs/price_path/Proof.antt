@@ -5,7 +5,8 @@ use denote.Ref.{now}
 use lib.ListN.{length}
 use borrow.Author.Needs.{needs}
 use borrow.Author.Tests.{not-true, not-false}
-use Rattle.pricer.specs.Pricer.Laws.{row-of, end-stuck, end-prices}
+use Rattle.tables.specs.Fit.{row-of}
+use Rattle.pricer.specs.Pricer.Laws.{end-stuck, end-prices}
 use Rattle.pricer.proofs.price_path.Statement.{statement}
 use Rattle.pricer.proofs.price_path.Tie as tie
 

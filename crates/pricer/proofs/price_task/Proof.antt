@@ -4,8 +4,9 @@ use native.Mathlib.Omega.{arith}
 use denote.Ref.{now}
 use borrow.Author.Needs.{needs}
 use borrow.Author.Tests.{not-true, not-false}
+use Rattle.tables.specs.Fit.{row-of}
 use Rattle.pricer.specs.Pricer.{pathFits}
-use Rattle.pricer.specs.Pricer.Laws.{fits-is, fits-centred, row-of, task-wrong, task-short, task-end}
+use Rattle.pricer.specs.Pricer.Laws.{fits-is, fits-centred, task-wrong, task-short, task-end}
 use Rattle.pricer.proofs.price_task.Statement.{statement}
 use Rattle.pricer.proofs.price_task.Tie as tie
 

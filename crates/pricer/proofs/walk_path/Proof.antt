@@ -12,9 +12,9 @@ use Rattle.task.specs.Centre.{centreAfter}
 use Rattle.task.specs.Star.{initial-centre}
 use Rattle.layer.specs.Board.{Board, Fits, Sound}
 use Rattle.layer.specs.Lent.{boardOf}
-use Rattle.tables.specs.Fit.{tables-fit}
+use Rattle.tables.specs.Fit.{start-in, tables-fit}
 use Rattle.price.specs.Path.{firstLayer, walk}
-use Rattle.pricer.specs.Pricer.Laws.{AlongBy, front, start-in, walk-first, walk-end, along-more, along-stuck}
+use Rattle.pricer.specs.Pricer.Laws.{AlongBy, front, walk-first, walk-end, along-more, along-stuck}
 use Rattle.pricer.proofs.walk_path.Statement.{statement}
 use Rattle.pricer.proofs.walk_path.Tie as tie
 
@@ -122,7 +122,7 @@ returns c =
     rw e
     (along-stuck (board s) (t .effects) (now (s .args .path)) (l .before .before .before .before .before .before .after .result) (l .before .before .before .first-layer .last .1 .1 .1 .1 .1 .1 .1 .1 .1 .1 .0) (l .loop .spot) (l .loop .layer) (l .loop .k)
     (c .before .before .before .before .advance .result) (c .before .before .before .before .advance .last .1 .1 .1 .1 .1 .1 .1 .1 .1 .1 .1 .0) (omega (arith, c .before .before .before .before .before .before .before .before .before .loop-test .taken, l .loop .inv .1)) (s .pre .1 .1 .0 (l .loop .k) (omega (arith, c .before .before .before .before .before .before .before .before .before .loop-test .taken, l .loop .inv .1)))
-    (omega (arith, w .1 .few-all, l .loop .inv .2)) (c .before .before .before .before .advance .ensures) (l .loop .inv .3) e t (w .0) refl
+    (c .before .before .before .before .advance .ensures) (l .loop .inv .3) e t (w .0) refl
     ∙ ap (λ m. walk t m (now (s .args .path))) (begins (l .before)))
 
 add-k : tie.Need-add-k Inv-loop μ-loop
@@ -136,14 +136,13 @@ loop-again c =
     let l = c .before .before .before .before .before .before .before .before .before .before .before in
     let s = l .before .before .before .before .before .before .before .before .before .before .before .before .before .before .before .before .before .before .before .before .before in
     let t = s .args .task in
-    let w = fit s in
     let kept : length (c .before .before .before .before .before .advance .last .1 .1 .1 .1 .1 .1 .1 .1 .1 .1 .1 .0) ≡ length (l .loop .layer) = c .before .before .before .before .before .advance .kept .1 .1 .1 .1 .1 .1 .1 .1 .1 .1 .1 .0 in (
       omega (arith, c .before .before .before .before .before .before .before .before .before .before .loop-test .taken, l .loop .inv .1),
       l .loop .inv .1,
       kept ∙ l .loop .inv .2,
       along-more (board s) (t .effects) (now (s .args .path)) (l .before .before .before .before .before .before .after .result) (l .before .before .before .first-layer .last .1 .1 .1 .1 .1 .1 .1 .1 .1 .1 .0) (l .loop .spot) (l .loop .layer) (l .loop .k)
           (c .before .before .before .before .before .advance .result) (c .before .before .before .before .before .advance .last .1 .1 .1 .1 .1 .1 .1 .1 .1 .1 .1 .0) (omega (arith, c .before .before .before .before .before .before .before .before .before .before .loop-test .taken, l .loop .inv .1)) (s .pre .1 .1 .0 (l .loop .k) (omega (arith, c .before .before .before .before .before .before .before .before .before .before .loop-test .taken, l .loop .inv .1)))
-          (omega (arith, w .1 .few-all, l .loop .inv .2)) (c .before .before .before .before .before .advance .ensures) (l .loop .inv .3) (not-false _ (c .before .if1 .left)),
+          (c .before .before .before .before .before .advance .ensures) (l .loop .inv .3) (not-false _ (c .before .if1 .left)),
     )
 
 same-length-2 : tie.Need-same-length-2 Inv-loop μ-loop

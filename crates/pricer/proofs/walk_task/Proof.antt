@@ -3,7 +3,7 @@ use mathlib.Core.Path.{_≡_}
 use native.Mathlib.Omega.{arith}
 use lib.ListN.{length}
 use borrow.Author.Needs.{needs}
-use Rattle.pricer.specs.Pricer.Laws.{moves-fit}
+use Rattle.tables.specs.Fit.{moves-fit}
 use Rattle.pricer.proofs.walk_task.Statement.{statement}
 use Rattle.pricer.proofs.walk_task.Tie as tie
 

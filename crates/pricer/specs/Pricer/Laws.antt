@@ -4,19 +4,18 @@ use mathlib.Core.Bool.{Bool, true, false, _&&_, true≢false}
 use mathlib.Core.List.{List, _∷_, _++_}
 use Prim.Native.Nat.{ℕ, suc, _+_, _*_, _≤_, _<_}
 use native.Mathlib.Numerals.{add-one}
-use native.Mathlib.Nat.{mul-le-mul-right}
 use native.Mathlib.Omega.{arith}
 use lib.Dec.{ltb, leb}
-use lib.ListN.{length, getD, take, drop, length-drop, take-append-drop, drop-of-length-le, List·getD-append}
-use lib.Seq.{length-take-le, take-append-le, drop-append-le, take-at, drop-cons, getD-take, getD-drop}
+use lib.ListN.{length, getD, take, drop, drop-of-length-le, List·getD-append}
+use lib.Seq.{take-at, drop-cons, getD-take, getD-drop}
 use borrow.Author.Tests.{ltb-true, le-ltb, lt-leb, le-leb, leb-true, ne-eqb}
 use Rattle.loops.specs.Count.{all, sum, list}
-use Rattle.loops.specs.Count.Laws.{and-in, and-out, all-out, all-not, all-ext, sum-ext, list-at, list-ext}
+use Rattle.loops.specs.Count.Laws.{and-in, and-out, all-out, all-not, all-ext, sum-ext, list-at}
 use Rattle.task.specs.declared.Task.{Task}
 use Rattle.task.specs.declared.Centre.{Centre}
-use Rattle.task.specs.Meaning.{Partial, initial, factor, condition}
+use Rattle.task.specs.Meaning.{initial}
 use Rattle.task.specs.Factors.{centreAction, number, states, allStates, leafCost}
-use Rattle.task.specs.Centre.{centre, centreMeets, centreAfter}
+use Rattle.task.specs.Centre.{centre, centreAfter}
 use Rattle.task.specs.Valid.{Valid}
 use Rattle.task.specs.Star.{number-lt}
 use Rattle.fields.specs.declared.Refusal.{Refusal}
@@ -26,9 +25,10 @@ use Rattle.record.specs.Record.{readRecord}
 use Rattle.record.specs.Record.Laws.{accepted-valid}
 use Rattle.layer.specs.Layer.{mark, base, leafPart, nextCentre, firstPrices, nextPrices, appliesTo}
 use Rattle.layer.specs.Layer.Laws.{base-fits, first-length, next-length}
-use Rattle.layer.specs.Board.{Board, Fits, rowOn, statesOn, firstOn, nextOn, appliesOn}
-use Rattle.layer.specs.Board.Laws.{joined-ext, states-on, row-on, first-on, next-on, applies-on}
-use Rattle.tables.specs.Tables.{Bases, Starts, Kinds}
+use Rattle.layer.specs.Layer.Front.{next-front, applies-front, after-list}
+use Rattle.layer.specs.Board.{Board, Fits, rowOn, firstOn, nextOn, appliesOn}
+use Rattle.layer.specs.Board.Laws.{row-on, first-on, next-on, applies-on}
+use Rattle.tables.specs.Tables.{Kinds}
 use Rattle.price.specs.Path.{Layer, End, ends, stuck, firstLayer, nextLayer, walk}
 use Rattle.price.specs.Path.Laws.{walk-next}
 use Rattle.price.specs.Prices.{Centred}
@@ -93,40 +93,11 @@ module _ (t : Task) (path : List ℕ) where
       let w = and-out (ltb (getD path k 0) (t .actions)) (centreAction t (getD path k 0)) (all-out (length path) _ (and-out (leb (length path) 4095) _ e .1) k l) in
       (ltb-true _ _ (w .0), w .1)
 
--- ---- prices with words behind them
-
-module _ (t : Task) (P R : List ℕ) (full : length P ≡ allStates t) where
-  -- a leaf's prices
-  part-front : (i : ℕ) → i < t .leaves → leafPart t i (P ++ R) ≡ leafPart t i P
-  unfolding leafPart
-  part-front i l =
-      let f = base-fits t i l in
-      rw (
-        drop-append-le (base t i) P R (omega arith),
-        take-append-le (states t (suc i)) (drop (base t i) P) R (simp length-drop (omega arith)),
-      )
-
-  -- the next layer
-  next-front : (c : Centre) (a : ℕ) → nextPrices t c a (P ++ R) ≡ nextPrices t c a P
-  unfolding nextPrices
-  next-front c a = joined-ext (t .leaves) _ _ (λ i l. rw (part-front i l))
-
-  -- whether an action applies
-  applies-front : (c : Centre) (a : ℕ) → appliesTo t c (P ++ R) a ≡ appliesTo t c P a
-  unfolding appliesTo
-  applies-front c a = ap (λ b. centreMeets (factor t) (condition t a) c && b) (all-ext (t .leaves) _ _ (λ i l. rw (part-front i l)))
-
 -- ---- the walk
 
 -- the layer of these prices
 abbrev pub front : Task → Centre → List ℕ → Layer
 front t spot P = record { spot = spot; prices = take (allStates t) P }
-
--- the centre state behind effects that are listed
-pub after-list : (fac : ℕ → ℕ) (q : Partial) (c : Centre)
-    (qs : List ℕ) → ((v : ℕ) → v < 32 → getD qs v 0 ≡ q v) → centreAfter fac (λ v. getD qs v 0) c ≡ centreAfter fac q c
-unfolding centreAfter
-after-list fac q c qs h = ap {B = Centre} (λ xs. record { values = xs }) (list-ext 32 _ _ (λ v l. rw (h v l)))
 
 module _ (t : Task) (b : Board) (f : Fits t b) where
   -- the first layer
@@ -136,22 +107,11 @@ module _ (t : Task) (b : Board) (f : Fits t b) where
       let e′ : new ≡ firstPrices t ++ rest = e ∙ rw c (ap (λ xs. xs ++ rest) (first-on t b f starts s)) in
       rw (c, e′, take-at (firstPrices t) rest (allStates t) (first-length t))
 
-  module _ (spot : Centre) (a : ℕ) (old : List ℕ) (w : Walked) (new : List ℕ) (known : a < t .actions) (long : allStates t ≤ length old)
+  module _ (spot : Centre) (a : ℕ) (old : List ℕ) (w : Walked) (new : List ℕ) (known : a < t .actions)
       (effects : List ℕ) (is : t .effects ≡ effects) (s : Stepped b effects spot a old w new) where
-    -- the prices at the front, and the words behind them
-    whole : take (allStates t) old ++ drop (allStates t) old ≡ old
-    whole = take-append-drop (allStates t) old
-
-    full : length (take (allStates t) old) ≡ allStates t
-    full = length-take-le (allStates t) old long
-
     -- whether the action applies to the layer
     applied-is : w .ends ≡ appliesTo t spot (take (allStates t) old) a
-    applied-is =
-        s .applied
-        ∙ applies-on t b f spot old a known
-        ∙ ap (λ xs. appliesTo t spot xs a) (sym whole)
-        ∙ applies-front t (take (allStates t) old) (drop (allStates t) old) full spot a
+    applied-is = s .applied ∙ applies-on t b f spot old a known ∙ sym (applies-front t old spot a)
 
     -- the layer behind it
     prices-is : w .ends ≡ true → take (allStates t) new ≡ nextPrices t (w .spot) a (take (allStates t) old)
@@ -162,7 +122,7 @@ module _ (t : Task) (b : Board) (f : Fits t b) where
         let r = row-on t b f in
         let h : take (allStates t) new ≡ nextPrices t (w .spot) a old =
         rw (q, r, n, take-at (nextPrices t (w .spot) a old) rest (allStates t) m, take-at (nextPrices t (w .spot) a old) (drop (allStates t) old) (allStates t) m) in
-        h ∙ ap (nextPrices t (w .spot) a) (sym whole) ∙ next-front t (take (allStates t) old) (drop (allStates t) old) full (w .spot) a
+        h ∙ sym (next-front t old (w .spot) a)
 
     spot-is : w .ends ≡ true → w .spot ≡ nextCentre t a spot
     spot-is e = rw (f .factors-is, ← is) at (s .behind e)
@@ -209,14 +169,13 @@ abbrev pub AlongBy : Board → List ℕ → List ℕ → Centre → List ℕ →
 AlongBy b effects path first₀ P₀ spot P k = (t : Task) → Fits t b → t .effects ≡ effects → walk t (front t spot P) (drop k path) ≡ walk t (front t first₀ P₀) path
 
 module _ (b : Board) (effects path : List ℕ) (spot₀ : Centre) (P₀ : List ℕ) (spot : Centre) (P : List ℕ) (k : ℕ) (w : Walked) (Q : List ℕ)
-    (l : k < length path) (known : getD path k 0 < b .actions) (long : rowOn b ≤ length P) (s : Stepped b effects spot (getD path k 0) P w Q)
+    (l : k < length path) (known : getD path k 0 < b .actions) (s : Stepped b effects spot (getD path k 0) P w Q)
     (h : AlongBy b effects path spot₀ P₀ spot P k) where
   -- the entry applies
   pub along-more : w .ends ≡ true → AlongBy b effects path spot₀ P₀ (w .spot) Q (k + 1)
   along-more e t f q =
       let known′ : getD path k 0 < t .actions = omega (arith, f .actions-is) in
-      let long′ : allStates t ≤ length P = omega (arith, row-on t b f) in
-      sym (turn-on t b f spot (getD path k 0) P w Q known′ long′ effects q s e (drop (k + 1) path))
+      sym (turn-on t b f spot (getD path k 0) P w Q known′ effects q s e (drop (k + 1) path))
       ∙ ap (walk t (front t spot P)) (sym (path-more path k l))
       ∙ h t f q
 
@@ -224,25 +183,9 @@ module _ (b : Board) (effects path : List ℕ) (spot₀ : Centre) (P₀ : List �
   pub along-stuck : w .ends ≡ false → (t : Task) → Fits t b → t .effects ≡ effects → stuck ≡ walk t (front t spot₀ P₀) path
   along-stuck e t f q =
       let known′ : getD path k 0 < t .actions = omega (arith, f .actions-is) in
-      let long′ : allStates t ≤ length P = omega (arith, row-on t b f) in
-      sym (turn-off t b f spot (getD path k 0) P w Q known′ long′ effects q s e (drop (k + 1) path))
+      sym (turn-off t b f spot (getD path k 0) P w Q known′ effects q s e (drop (k + 1) path))
       ∙ ap (walk t (front t spot P)) (sym (path-more path k l))
       ∙ h t f q
-
--- ---- the tables
-
--- each leaf's initial state is one of its states
-pub start-in : (t : Task) (ok : Valid t) (b : Board) → Fits t b → (starts : List ℕ) → Starts t starts → (i : ℕ) → i < t .leaves → getD starts i 0 < statesOn b i
-start-in t ok b f starts s i l = omega (arith, s .is i l, number-lt t (suc i) (ok .fields .initial-inside), states-on t b f i l)
-
--- S by the table of bases
-pub row-of : (t : Task) (bases : List ℕ) → Bases t bases → getD bases (t .leaves) 0 ≡ allStates t
-unfolding base allStates
-row-of t bases s = s .is (t .leaves) (omega arith)
-
--- the moves of the largest task
-pub moves-fit : (t : Task) → Valid t → t .actions * allStates t ≤ 261120
-moves-fit t ok = omega (arith, mul-le-mul-right (allStates t) (ok .fields .few-actions), ok .whole .few-all-states)
 
 -- ---- the answers, step by step
 

@@ -1,19 +1,17 @@
 -- Laws of depths: every state with a price has one, a state of depth 0 has the price that it began with, and a state of another depth has a
 -- source of depth one less at the right price. Assumes nothing.
-use mathlib.Core.Path.{_≡_, refl, sym, ap, _∙_}
+use mathlib.Core.Path.{_≡_, refl, _∙_}
 use mathlib.Core.Logic.{_⊎_, inl, inr}
 use mathlib.Core.Bool.{Bool, true, false, cond, _&&_}
-use mathlib.Core.List.{List, [], _∷_, _++_}
+use mathlib.Core.List.{List}
 use Prim.Native.Nat.{ℕ, zero, suc, _+_, _≤_, _<_}
-use native.Mathlib.Nat.{not-suc-le-zero}
 use native.Mathlib.Decide.{decLt}
 use native.Mathlib.Omega.{arith}
 use lib.Dec.{ltb, eqb}
-use lib.ListN.{length, getD, List·getD-append, List·getD-eq-default}
-use lib.Seq.{getD-at}
+use lib.ListN.{length, getD, List·getD-eq-default}
 use borrow.Author.Tests.{ltb-true, lt-ltb, eqb-true, eq-eqb}
 use Rattle.loops.specs.Count.{list}
-use Rattle.loops.specs.Count.Laws.{and-in, and-out, below-cases, list-length}
+use Rattle.loops.specs.Count.Laws.{and-in, and-out, list-length}
 use Rattle.task.specs.declared.Task.{Task}
 use Rattle.task.specs.declared.Centre.{Centre}
 use Rattle.task.specs.Meaning.{cost}
@@ -25,17 +23,8 @@ use Rattle.layer.specs.Settle.Walks.{Walk, stand, step, Ranged, Capped, Closed}
 use Rattle.layer.specs.Settle.Laws.{settled-below, settled-real, settled-bound, settled-closed, settled-least, walk-in}
 use Rattle.layer.specs.Layer.{LeafWalk, mark, enabled, settleLeaf}
 use Rattle.layer.specs.Layer.Leaf.{enabled-at, enabled-find, leaf-length, leaf-real, leaf-walk-in, leaf-closed, leaf-least}
+use Rattle.search.specs.Node.Laws.{list-entry}
 use Rattle.search.specs.Plan.{tight, tightTo, depths}
-
--- an entry of a list by its places, whatever the default
-pub list-getD : (n : ℕ) (f : ℕ → ℕ) (k d : ℕ) → k < n → getD (list n f) k d ≡ f k
-unfolding list
-list-getD zero f k d l = absurd (not-suc-le-zero l)
-list-getD (suc n) f k d l = go (below-cases l) (list-getD n f k d)
-  where
-    go : (k < n) ⊎ (k ≡ n) → (k < n → getD (list n f) k d ≡ f k) → getD (list n f ++ (f n ∷ [])) k d ≡ f k
-    go (inl l′) r = let h : k < length (list n f) = rw list-length l′ in List·getD-append (list n f) (f n ∷ []) d k h ∙ r l′
-    go (inr q) r = getD-at (list n f) (f n) [] d k (list-length n f ∙ sym q) ∙ ap f (sym q)
 
 -- ---- tight
 
@@ -80,7 +69,7 @@ module _ (B P : List ℕ) where
   -- a state that has kept its price
   depth0-in : (x : ℕ) → getD P x mark < mark → getD B x mark ≡ getD P x mark → getD (depth0 B P) x mark ≡ 0
   depth0-in x h e =
-      list-getD (length P) _ x mark (price-in mark P x h) ∙ rw (lt-ltb (getD P x mark) mark h, eq-eqb (getD B x mark) (getD P x mark) e)
+      list-entry (length P) _ x mark (price-in mark P x h) ∙ rw (lt-ltb (getD P x mark) mark h, eq-eqb (getD B x mark) (getD P x mark) e)
 
   -- a state is at depth 0 and has kept its price, or it is at the mark
   depth0-cases : (x : ℕ)
@@ -95,7 +84,7 @@ module _ (B P : List ℕ) where
       test false e f = inr f
 
       go : Dec (x < length P) → ((getD (depth0 B P) x mark ≡ 0) × (getD P x mark < mark) × (getD B x mark ≡ getD P x mark)) ⊎ (getD (depth0 B P) x mark ≡ mark)
-      go (yes h) = test _ refl (list-getD (length P) _ x mark h)
+      go (yes h) = test _ refl (list-entry (length P) _ x mark h)
       go (no h) = inr (List·getD-eq-default (depth0 B P) mark (rw list-length (omega arith)))
 
   -- what is not at the mark has kept its price

@@ -1,6 +1,6 @@
 -- A list written from its end into a lent buffer, action by action: the buffer then begins with the list. Assumes nothing.
 use mathlib.Core.Path.{_≡_, refl, ap, _∙_}
-use mathlib.Core.Bool.{Bool, true, false, cond}
+use mathlib.Core.Bool.{cond}
 use mathlib.Core.List.{List, [], _∷_, _++_, reverse, reverseAux, reverse-append, reverseAux-eq}
 use Prim.Native.Nat.{ℕ, suc, _+_, _-_, _≤_, _<_}
 use native.Mathlib.Omega.{arith}
@@ -30,15 +30,6 @@ pub put-out : (total p x : ℕ) (plan : List ℕ) → total ≤ p → put total 
 unfolding put
 put-out total p x plan h = rw (le-ltb p total h)
 
--- the buffer's length stays
-pub put-length : (total p x : ℕ) (plan : List ℕ) → length (put total p x plan) ≡ length plan
-unfolding put
-put-length total p x plan = go (ltb p total)
-  where
-    go : (b : Bool) → length (cond b (set plan (total - (p + 1)) x) plan) ≡ length plan
-    go true = length-set plan (total - (p + 1)) x
-    go false = refl
-
 -- ---- a list of actions
 
 -- of a plan without actions nothing is written
@@ -54,12 +45,6 @@ laid-append total p [] ys plan = let e : p ≡ p + 0 = omega arith in ap (λ (k 
 laid-append total p (x ∷ xs) ys plan =
     let e : p + 1 + length xs ≡ p + suc (length xs) = omega arith in
     laid-append total (p + 1) xs ys (put total p x plan) ∙ ap (λ (k : ℕ). laid total k ys (laid total (p + 1) xs (put total p x plan))) e
-
--- the buffer's length stays
-pub laid-length : (total p : ℕ) (xs plan : List ℕ) → length (laid total p xs plan) ≡ length plan
-unfolding laid
-laid-length total p [] plan = refl
-laid-length total p (x ∷ xs) plan = laid-length total (p + 1) xs (put total p x plan) ∙ put-length total p x plan
 
 -- what is set at a place is the first from there on
 drop-set : (plan : List ℕ) (n x : ℕ) → n < length plan → drop n (set plan n x) ≡ x ∷ drop (suc n) plan

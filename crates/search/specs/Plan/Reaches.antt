@@ -1,59 +1,34 @@
 -- The plan of a goal node reaches the goal, and costs the node's goal cost. Assumes nothing.
 use mathlib.Core.Path.{_≡_, refl, sym, ap, _∙_}
-use mathlib.Core.Bool.{Bool, true, false, cond}
-use mathlib.Core.List.{List, [], _∷_}
-use Prim.Native.Nat.{ℕ, suc, _≤_, _<_, min}
-use native.Mathlib.Decide.{decLe}
+use mathlib.Core.Bool.{true}
+use mathlib.Core.List.{List, []}
+use Prim.Native.Nat.{ℕ, suc, _<_}
 use native.Mathlib.Omega.{arith}
 use lib.Dec.{eqb}
 use lib.ListN.{length, getD}
-use borrow.Author.Tests.{ltb-true, eqb-true, eq-eqb}
+use borrow.Author.Tests.{eqb-true, eq-eqb}
 use Rattle.loops.specs.Count.{sum}
-use Rattle.loops.specs.Count.Laws.{and-in, and-out, all-out, sum-ext, list-length}
+use Rattle.loops.specs.Count.Laws.{and-in, sum-ext, list-length}
 use Rattle.task.specs.declared.Task.{Task}
-use Rattle.task.specs.Meaning.{initial, goal, factor, final, reaches, costOf}
+use Rattle.task.specs.Meaning.{initial, goal, final, reaches, costOf}
 use Rattle.task.specs.Factors.{number, states, valuesOf, meetsIn}
-use Rattle.task.specs.Centre.{centre, centreMeets}
+use Rattle.task.specs.Centre.{centre}
 use Rattle.task.specs.Valid.{Valid}
 use Rattle.task.specs.Star.{goal-joins}
-use Rattle.layer.specs.Layer.{mark, leafPart}
+use Rattle.layer.specs.Layer.{mark}
 use Rattle.price.specs.Sequences.{final-inside, costOf-split}
 use Rattle.price.specs.Ways.{centreAlong, stagedCost}
 use Rattle.price.specs.Ways.Split.{split}
 use Rattle.price.specs.Ways.Weave.{Woven, weave-runs}
 use Rattle.search.specs.Node.{Node, leastOf, goalPrices, isGoal, goalCost}
+use Rattle.search.specs.Node.Laws.{leastOf-in, goalPrices-out, isGoal-out}
 use Rattle.search.specs.Explore.{Search, nodeAt}
 use Rattle.search.specs.Plan.{stages, pathTo, goalState, planOf}
 use Rattle.search.specs.Plan.Lowest.{lowest-is}
-use Rattle.search.specs.Plan.Depths.{list-getD}
 use Rattle.search.specs.Plan.Real.{Real}
 use Rattle.search.specs.Plan.Stages.{priceIn, path-reached, Walked, stages-walked}
 
--- ---- the least price
-
--- a least price below the mark is a price of the list
-leastOf-at : (xs : List ℕ) → leastOf xs < mark → (k : ℕ) × (k < length xs) × (getD xs k mark ≡ leastOf xs)
-unfolding leastOf
-leastOf-at [] h = absurd (omega arith)
-leastOf-at (x ∷ xs) h = go (decLe x (leastOf xs)) (leastOf-at xs)
-  where
-    go : Dec (x ≤ leastOf xs) → (leastOf xs < mark → (k : ℕ) × (k < length xs) × (getD xs k mark ≡ leastOf xs))
-        → (k : ℕ) × (k < length (x ∷ xs)) × (getD (x ∷ xs) k mark ≡ min x (leastOf xs))
-    go (yes l) r = (0, omega arith, omega arith)
-    go (no l) r = let (k, i, e) = r (omega arith) in (suc k, omega arith, omega arith)
-
 -- ---- the goal state of a leaf
-
--- a goal price below the mark: the state meets the goal, and it is the state's price
-goalPrices-out : (t : Task) (i : ℕ) (n : Node) (x : ℕ) → x < states t (suc i) → getD (goalPrices t i n) x mark < mark
-    → (meetsIn t (suc i) (goal t) (valuesOf t (suc i) x) ≡ true) × (getD (leafPart t i (n .prices)) x mark ≡ getD (goalPrices t i n) x mark)
-unfolding goalPrices
-goalPrices-out t i n x h l = go (meetsIn t (suc i) (goal t) (valuesOf t (suc i) x)) refl (list-getD (states t (suc i)) _ x mark h) l
-  where
-    go : (b : Bool) → meetsIn t (suc i) (goal t) (valuesOf t (suc i) x) ≡ b → {q : ℕ} → q ≡ cond b (getD (leafPart t i (n .prices)) x mark) mark → q < mark
-        → (b ≡ true) × (getD (leafPart t i (n .prices)) x mark ≡ q)
-    go true e f k = (refl, sym f)
-    go false e f k = absurd (omega arith)
 
 -- there is a goal price for each state
 goalPrices-length : (t : Task) (i : ℕ) (n : Node) → length (goalPrices t i n) ≡ states t (suc i)
@@ -67,23 +42,19 @@ module _ (t : Task) (s : Search) (u : ℕ) where
   unfolding goalState
   goalState-is i h =
       let G = goalPrices t i (nodeAt t s u) in
-      let (k, b, e) = leastOf-at G h in
+      let (k, b, e) = leastOf-in G h in
       let d = lowest-is (states t (suc i)) (λ x. eqb (getD G x mark) (leastOf G)) k (omega (arith, goalPrices-length t i (nodeAt t s u))) (eq-eqb (getD G k mark) (leastOf G) e) in
       let f = eqb-true (getD G (goalState t s i u) mark) (leastOf G) (d .passes) in
-      let w = goalPrices-out t i (nodeAt t s u) (goalState t s i u) (d .inside) (omega arith) in
-      (w .0, w .1 ∙ f)
-
-  -- what a goal node has
-  pub isGoal-out : isGoal t (nodeAt t s u) ≡ true
-      → (centreMeets (factor t) (goal t) (nodeAt t s u .spot) ≡ true) × ((i : ℕ) → i < t .leaves → leastOf (goalPrices t i (nodeAt t s u)) < mark)
-  unfolding isGoal
-  isGoal-out e =
-      let w = and-out (centreMeets (factor t) (goal t) (nodeAt t s u .spot)) _ e in
-      (w .0, λ i m. ltb-true (leastOf (goalPrices t i (nodeAt t s u))) mark (all-out (t .leaves) _ (w .1) i m))
+      let w = goalPrices-out t i (nodeAt t s u) (goalState t s i u) (omega arith) in
+      (w .1, sym (w .2) ∙ f)
 
 -- ---- the plan
 
 module _ (t : Task) (ok : Valid t) (s : Search) (r : Real t s) (u : ℕ) (h : u < length (s .kept)) (g : isGoal t (nodeAt t s u) ≡ true) where
+  -- each leaf has a goal state below the mark
+  goal-low : (i : ℕ) → i < t .leaves → leastOf (goalPrices t i (nodeAt t s u)) < mark
+  goal-low i m = isGoal-out t (nodeAt t s u) g .1 i m .0
+
   -- the plan runs, with the path's centre actions, to the goal states, at their prices
   pub plan-woven : Woven t (initial t) (planOf t s u) (pathTo t s u u) (λ i. goalState t s i u) (sum (t .leaves) (λ i. leastOf (goalPrices t i (nodeAt t s u))))
   unfolding planOf
@@ -91,19 +62,19 @@ module _ (t : Task) (ok : Valid t) (s : Search) (r : Real t s) (u : ℕ) (h : u 
       (path-reached t s r u u (omega arith) h .passable) (λ i m. walked i m .staged))
     where
       below : (i : ℕ) → i < t .leaves → priceIn t s i u (goalState t s i u) < mark
-      below i m = omega (arith, goalState-is t s u i (isGoal-out t s u g .1 i m) .1, isGoal-out t s u g .1 i m)
+      below i m = omega (arith, goalState-is t s u i (goal-low i m) .1, goal-low i m)
 
       walked : (i : ℕ) (m : i < t .leaves) → Walked t i (pathTo t s u u) (stages t s i u u (goalState t s i u)) (goalState t s i u) (priceIn t s i u (goalState t s i u))
       walked i m = stages-walked t ok s r i m u u (goalState t s i u) (omega arith) h (below i m)
 
       same : sum (t .leaves) (λ i. stagedCost t (λ k. getD (stages t s i u u (goalState t s i u)) k []) (pathTo t s u u)) ≡ sum (t .leaves) (λ i. leastOf (goalPrices t i (nodeAt t s u)))
-      same = sum-ext (t .leaves) _ _ (λ i m. walked i m .total ∙ goalState-is t s u i (isGoal-out t s u g .1 i m) .1)
+      same = sum-ext (t .leaves) _ _ (λ i m. walked i m .total ∙ goalState-is t s u i (goal-low i m) .1)
 
   -- it ends where the goal holds
   pub plan-goal : reaches t (planOf t s u) ≡ true
   unfolding reaches
   plan-goal =
-      and-in (plan-woven .carries) (goal-joins t ok (final-inside t ok (initial t) (planOf t s u) (ok .fields .initial-inside) (plan-woven .carries)) (rw spot (isGoal-out t s u g .0)) leaf)
+      and-in (plan-woven .carries) (goal-joins t ok (final-inside t ok (initial t) (planOf t s u) (ok .fields .initial-inside) (plan-woven .carries)) (rw spot (isGoal-out t (nodeAt t s u) g .0)) leaf)
     where
       spot : centre t (final t (initial t) (planOf t s u)) ≡ nodeAt t s u .spot
       spot =
@@ -111,7 +82,7 @@ module _ (t : Task) (ok : Valid t) (s : Search) (r : Real t s) (u : ℕ) (h : u 
           ∙ ap (λ (p : List ℕ). centreAlong t (centre t (initial t)) p) (plan-woven .centred) ∙ path-reached t s r u u (omega arith) h .spot
 
       leaf : (i : ℕ) → i < t .leaves → meetsIn t (suc i) (goal t) (valuesOf t (suc i) (number t (suc i) (final t (initial t) (planOf t s u)))) ≡ true
-      leaf i m = rw (plan-woven .lands i m) (goalState-is t s u i (isGoal-out t s u g .1 i m) .0)
+      leaf i m = rw (plan-woven .lands i m) (goalState-is t s u i (goal-low i m) .0)
 
   -- it costs the node's goal cost
   pub plan-cost : costOf t (planOf t s u) ≡ goalCost t (nodeAt t s u)

@@ -1,0 +1,85 @@
+-- `explore::begin_of` meets its contract: behind an action that leaves all leaf states as they are the begin is the old layer. Assumes nothing.
+use mathlib.Core.Path.{_≡_, sym}
+use native.Mathlib.Omega.{arith}
+use denote.Ref.{now}
+use lib.ListN.{length, drop}
+use lib.Seq.{length-take-le}
+use Rattle.layer.specs.Board.{Board, rowOn}
+use Rattle.layer.specs.Lent.{boardOf}
+use Rattle.explore.specs.Still.{begun-still}
+use borrow.Author.Needs.{needs}
+use Rattle.explore.proofs.begin_of.Statement.{statement}
+use Rattle.explore.proofs.begin_of.Tie as tie
+
+-- the Board that is lent
+abbrev board : tie.Start → Board
+board s =
+    let a = s .args in
+    boardOf (a .leaves) (a .actions) (now (a .bases)) (now (a .moves)) (now (a .costs)) (now (a .kinds)) (a .factors) (now (a .conditions))
+
+mul-states : tie.Need-mul-states
+mul-states c = search needs
+
+shared-slice-read-states : tie.Need-shared-slice-read-states
+shared-slice-read-states c = search needs
+
+shared-slice-read-if1 : tie.Need-shared-slice-read-if1
+shared-slice-read-if1 c = search needs
+
+copy-words-requires : tie.Need-copy-words-requires
+copy-words-requires c κs = search needs
+
+same-length : tie.Need-same-length
+same-length c = search needs
+
+returns : tie.Need-returns
+returns c =
+    let w = c .before .before .copy-words in
+    let s = c .before .before .before .before .before .before .before .before .before .before .before .before .before .before .before in
+    let a = s .args in
+    begun-still (board s) (s .pre .0) (a .a) (a .spent) (now (a .old)) (drop (rowOn (board s)) (now (a .next))) (a .low) (a .sign)
+    (s .pre .1 .1 .0 .1) (λ x. omega (arith, c .before .before .before .before .before .before .before .before .shared-slice-known7 .given x)) (s .pre .1 .0 .stays (a .a) (s .pre .1 .1 .0 .0) (c .before .before .before .before .if1 .taken))
+    (s .pre .1 .1 .1 .0) (s .pre .1 .1 .1 .1) (w .last .1 .0) (w .ensures)
+
+begin-layer-requires : tie.Need-begin-layer-requires
+begin-layer-requires c κs = search needs
+
+key-of-requires : tie.Need-key-of-requires
+key-of-requires c κs = search needs
+
+slice-reshare-prefix-sign-of : tie.Need-slice-reshare-prefix-sign-of
+slice-reshare-prefix-sign-of c = search needs
+
+slice-aggregate-sign-of : tie.Need-slice-aggregate-sign-of
+slice-aggregate-sign-of c =
+    let s = c .before .before .before .before .before .before .before .before .before .before .before .before .before .before .before .before .before .before in
+    let n = c .before .before .before .before .before .begin-layer in
+    let kept : length (n .last .1 .1 .1 .1 .1 .1 .1 .1 .1 .1 .0) ≡ length (now (s .args .next)) = n .kept .1 .1 .1 .1 .1 .1 .1 .1 .1 .1 .0 in
+    sym (length-take-le (rowOn (board s)) (n .last .1 .1 .1 .1 .1 .1 .1 .1 .1 .1 .0) (omega (arith, s .pre .1 .1 .0 .2)))
+
+sign-of-requires : tie.Need-sign-of-requires
+sign-of-requires c κs = search needs
+
+same-length-2 : tie.Need-same-length-2
+same-length-2 c = search needs
+
+returns-2 : tie.Need-returns-2
+returns-2 c = search needs
+
+pub begin-of-spec : {M : Type 1} → statement M
+begin-of-spec =
+    tie.close
+    (tie.spec
+    mul-states
+    shared-slice-read-states
+    shared-slice-read-if1
+    copy-words-requires
+    same-length
+    returns
+    begin-layer-requires
+    key-of-requires
+    slice-reshare-prefix-sign-of
+    slice-aggregate-sign-of
+    sign-of-requires
+    same-length-2
+    returns-2)

@@ -1,0 +1,211 @@
+-- Actions that leave each state of each leaf as it is: the begin of the layer behind one is the old layer. And the key behind an action, known before
+-- a layer is made. Assumes nothing.
+use mathlib.Core.Path.{_≡_, refl, sym, ap, _∙_}
+use mathlib.Core.Logic.{_⊎_, inl, inr}
+use mathlib.Core.Bool.{Bool, true, false, not, true≢false}
+use mathlib.Core.List.{List, _++_}
+use Prim.Native.Nat.{ℕ, zero, suc, _+_, _-_, _*_, _≤_, _<_, min}
+use native.Mathlib.Nat.{not-suc-le-zero, mul-le-mul-right}
+use native.Mathlib.Numerals.{add-one}
+use native.Mathlib.Decide.{decLe}
+use native.Mathlib.Omega.{arith}
+use lib.ListN.{length, getD, set, take, drop, length-take, length-drop, length-set, List·getD-eq-default}
+use lib.Seq.{take-at, take-add, getD-take, getD-drop, getD-set-same, getD-set-other, ext-getD}
+use Rattle.loops.specs.Count.Laws.{below-cases, sum-ext}
+use Rattle.task.specs.declared.Task.{Task}
+use Rattle.task.specs.declared.Centre.{Centre}
+use Rattle.task.specs.Meaning.{cost}
+use Rattle.layer.specs.Settle.Turns.{at-any}
+use Rattle.layer.specs.Settle.Walks.{Capped}
+use Rattle.layer.specs.Pass.{pass}
+use Rattle.layer.specs.Pass.Laws.{pass-length, pass-cap, pass-hit, pass-from}
+use Rattle.layer.specs.Layer.{mark, leafPart, passLeaf, joined}
+use Rattle.layer.specs.Layer.Leaf.{passLeaf-floor}
+use Rattle.layer.specs.Layer.Front.{part-take}
+use Rattle.layer.specs.Board.{Board, Sound, baseOn, rowOn, statesOn, toOn, passOn, partOn, beginOn}
+use Rattle.layer.specs.Board.Laws.{joined-ext}
+use Rattle.price.specs.Sums.{sum-le}
+use Rattle.search.specs.Node.{Node, nextNode, leastOf, key}
+use Rattle.search.specs.Node.Laws.{leastOf-le, leastOf-cap, leastOf-ge}
+use Rattle.search.specs.Begin.{beginNode, part-begin, key-begin}
+use Rattle.nodes.specs.Chain.{signOf}
+use Rattle.nodes.specs.Scan.{Cut, keyBy}
+use Rattle.nodes.specs.Scan.Laws.{cut-in}
+
+-- an action whose moves begin at `from` leaves each state of the first n leaves as it is
+abbrev pub Stays : ℕ → List ℕ → List ℕ → ℕ → Type 0
+Stays n bases moves from =
+    (i x : ℕ) → i < n → x < getD bases (i + 1) 0 - getD bases i 0 → getD moves (from + (getD bases i 0 + x)) 0 ≡ x + 1
+
+-- of the first `actions` actions, those that are not 0 in `still` leave each state of each leaf as it is
+pub record Still (leaves actions : ℕ) (bases moves still : List ℕ) : Type 0 where
+  pub long : length still ≡ 256
+  pub stays : (a : ℕ) → a < actions → (getD still a 0 ≡ 0 → ⊥) → Stays leaves bases moves (a * getD bases leaves 0)
+
+-- ---- finding them
+
+-- a test that is not left out holds
+pub not-false : (b : Bool) → not b ≡ false → b ≡ true
+not-false true e = refl
+not-false false e = absurd (true≢false e)
+
+-- a leaf's moves lie within the action's, which begin at `from`
+pub within : (leaves : ℕ) (bases : List ℕ) (n : ℕ) → Cut leaves bases n → (from : ℕ) → from + getD bases leaves 0 ≤ n → (i : ℕ) → i < leaves
+    → (getD bases i 0 ≤ getD bases (i + 1) 0) × (from + getD bases (i + 1) 0 ≤ n)
+within leaves bases n cut from h i l =
+    let tight : Cut leaves bases (getD bases leaves 0) = record { few = cut .few; long = cut .long; rise = cut .rise; fits = omega arith } in
+    let inside = cut-in leaves bases (getD bases leaves 0) tight i l in
+    (omega (arith, inside), omega (arith, inside))
+
+-- a state more
+pub leaf-more : (moves : List ℕ) (at n : ℕ) → ((x : ℕ) → x < n → getD moves (at + x) 0 ≡ x + 1) → getD moves (at + n) 0 ≡ n + 1
+    → (x : ℕ) → x < n + 1 → getD moves (at + x) 0 ≡ x + 1
+leaf-more moves at n h e x l = go (below-cases (omega arith))
+  where
+    go : (x < n) ⊎ (x ≡ n) → getD moves (at + x) 0 ≡ x + 1
+    go (inl k) = h x k
+    go (inr q) = rw q e
+
+-- a leaf more
+pub stays-more : (n : ℕ) (bases moves : List ℕ) (from : ℕ) → Stays n bases moves from
+    → ((x : ℕ) → x < getD bases (n + 1) 0 - getD bases n 0 → getD moves (from + getD bases n 0 + x) 0 ≡ x + 1) → Stays (n + 1) bases moves from
+stays-more n bases moves from h e i x l = go (below-cases (omega arith))
+  where
+    go : (i < n) ⊎ (i ≡ n) → x < getD bases (i + 1) 0 - getD bases i 0 → getD moves (from + (getD bases i 0 + x)) 0 ≡ x + 1
+    go (inl k) m = h i x k m
+    go (inr q) m =
+        let z : from + (getD bases n 0 + x) ≡ from + getD bases n 0 + x = omega arith in
+        rw (q, z) (e x (rw q at m))
+
+-- an action's moves lie within the table
+pub action-in : (n a w m : ℕ) → a < n → n * w ≤ m → a * w + w ≤ m
+action-in n a w m l h = omega (arith, mul-le-mul-right {m = suc a} {n = n} w l, h)
+
+-- no action
+pub still-none : (leaves : ℕ) (bases moves still : List ℕ) → length still ≡ 256 → Still leaves 0 bases moves still
+still-none leaves bases moves still h = record { long = h; stays = λ a l. absurd (not-suc-le-zero l) }
+
+-- an action more
+pub still-more : (leaves a : ℕ) (bases moves still : List ℕ) (f : ℕ) → a < 256 → ((f ≡ 0 → ⊥) → Stays leaves bases moves (a * getD bases leaves 0))
+    → Still leaves a bases moves still → Still leaves (a + 1) bases moves (set still a f)
+still-more leaves a bases moves still f few h s =
+    record { long = length-set still a f ∙ s .long; stays = λ k l. go k (below-cases (omega arith)) }
+  where
+    go : (k : ℕ) → (k < a) ⊎ (k ≡ a) → (getD (set still a f) k 0 ≡ 0 → ⊥) → Stays leaves bases moves (k * getD bases leaves 0)
+    go k (inl l) d = s .stays k l (rw (getD-set-other still a k f 0 (λ e. omega arith)) at d)
+    go k (inr q) d = rw q (h (rw (q, getD-set-same still a f 0 (omega (arith, s .long))) at d))
+
+-- ---- the begin
+
+-- words are no prices above the mark
+pub word-cap : (P : List ℕ) → ((x : ℕ) → getD P x 0 ≤ mark) → Capped mark P
+word-cap P h x = go (decLe (suc x) (length P))
+  where
+    go : Dec (x < length P) → getD P x mark ≤ mark
+    go (yes l) = rw (at-any P x mark 0 l) (h x)
+    go (no l) = omega (arith, List·getD-eq-default P mark {n = x} (omega arith))
+
+-- states that stay as they are keep their prices
+pass-still : (n : ℕ) (thr : ℕ → ℕ) (P : List ℕ) → length P ≡ n → Capped mark P → ((x : ℕ) → x < n → thr x ≡ x + 1) → pass mark n thr P n ≡ P
+pass-still n thr P long cap h =
+    ext-getD mark (pass mark n thr P n) P (many ∙ sym long) (λ y l. at y (omega (arith, many)) (decLe mark (getD (pass mark n thr P n) y mark)))
+  where
+    many : length (pass mark n thr P n) ≡ n
+    many = pass-length mark n thr P n
+
+    at : (y : ℕ) → y < n → Dec (mark ≤ getD (pass mark n thr P n) y mark) → getD (pass mark n thr P n) y mark ≡ getD P y mark
+    at y l (yes q) = omega (arith, pass-hit mark n thr P n y y l l (h y l ∙ add-one y), cap y)
+    at y l (no q) =
+        let (x, k, t, e) = pass-from mark n thr P n y (omega arith) in
+        let same : x ≡ y = omega (arith, h x k) in
+        e ∙ ap (λ z. getD P z mark) same
+
+module _ (b : Board) (sound : Sound b) where
+  -- where the states of a leaf begin is not behind where those of later leaves do
+  bases-rise : (n i : ℕ) → i ≤ n → n ≤ b .leaves → baseOn b i ≤ baseOn b n
+  bases-rise zero i h l = let e : i ≡ 0 = omega arith in rw e (omega arith)
+  bases-rise (suc n) i h l = go (below-cases (omega arith)) (λ k. bases-rise n i k (omega arith))
+    where
+      go : (i < suc n) ⊎ (i ≡ suc n) → (i ≤ n → baseOn b i ≤ baseOn b n) → baseOn b i ≤ baseOn b (suc n)
+      go (inl k) r =
+          let e : baseOn b (suc n) ≡ baseOn b (n + 1) = rw add-one in
+          omega (arith, r (omega arith), sound .bases-rise n (omega arith))
+      go (inr q) r = rw q (omega arith)
+
+  -- the states of a leaf lie within all
+  part-fits : (i : ℕ) → i < b .leaves → baseOn b i + statesOn b i ≤ rowOn b
+  part-fits i l = omega (arith, sound .bases-rise i l, bases-rise (b .leaves) (i + 1) (omega arith) (omega arith))
+
+  -- the parts of n leaves, one behind the other, are the front of the list
+  parts-front : (P : List ℕ) (n : ℕ) → n ≤ b .leaves → joined n (λ i. partOn b i P) ≡ take (baseOn b n) P
+  unfolding joined
+  parts-front P zero l = rw (sound .bases-first)
+  parts-front P (suc n) l =
+      let e : baseOn b (suc n) ≡ baseOn b (n + 1) = rw add-one in
+      let z : baseOn b (suc n) ≡ baseOn b n + statesOn b n = omega (arith, e, sound .bases-rise n (omega arith)) in
+      rw (z, parts-front P n (omega arith)) (sym (take-add (baseOn b n) (statesOn b n) P))
+
+  -- the begin behind an action that leaves all as it is: the old layer
+  pub begin-still : (a : ℕ) (P : List ℕ) → rowOn b ≤ length P → Capped mark P → Stays (b .leaves) (b .bases) (b .moves) (a * rowOn b)
+      → beginOn b a P ≡ take (rowOn b) P
+  unfolding beginOn passOn
+  begin-still a P long cap stays =
+      joined-ext (b .leaves) _ _ (λ i l. pass-still (statesOn b i) (toOn b i a) (partOn b i P) (many i l) (low i) (λ x k. stays i x l k))
+      ∙ parts-front P (b .leaves) (omega arith)
+    where
+      many : (i : ℕ) → i < b .leaves → length (partOn b i P) ≡ statesOn b i
+      many i l = simp (length-take, length-drop) (omega (arith, part-fits i l))
+
+      low : (i : ℕ) → Capped mark (partOn b i P)
+      low i x = go (decLe (suc x) (statesOn b i))
+        where
+          go : Dec (x < statesOn b i) → getD (partOn b i P) x mark ≤ mark
+          go (yes l) = rw (getD-take (statesOn b i) (drop (baseOn b i) P) x mark l, getD-drop (baseOn b i) P x mark) (cap (baseOn b i + x))
+          go (no l) =
+              omega (arith, List·getD-eq-default (partOn b i P) mark {n = x} (simp (length-take, length-drop) (omega arith)))
+
+  -- words behind the prices do not count for the key
+  key-take : (paid : ℕ) (P : List ℕ) → keyBy (b .leaves) (b .bases) paid (take (rowOn b) P) ≡ keyBy (b .leaves) (b .bases) paid P
+  unfolding keyBy
+  key-take paid P =
+      ap (λ k. min (paid + k) mark)
+      (sum-ext (b .leaves) _ _ (λ i l. ap leastOf (part-take (statesOn b i) (baseOn b i) (rowOn b) P (part-fits i l))))
+
+  -- two lists with the same prices at the front have the same key
+  pub key-front : (paid : ℕ) (P Q : List ℕ) → take (rowOn b) P ≡ take (rowOn b) Q
+      → keyBy (b .leaves) (b .bases) paid P ≡ keyBy (b .leaves) (b .bases) paid Q
+  key-front paid P Q e = sym (key-take paid P) ∙ ap (keyBy (b .leaves) (b .bases) paid) e ∙ key-take paid Q
+
+  -- what is made of the begin behind such an action: the old prices at the front of Q, their key and signature
+  pub begun-still : (a spent : ℕ) (P rest : List ℕ) (low sign : ℕ) → rowOn b ≤ length P → ((x : ℕ) → getD P x 0 ≤ mark)
+      → Stays (b .leaves) (b .bases) (b .moves) (a * rowOn b) → low ≡ keyBy (b .leaves) (b .bases) spent P → sign ≡ signOf (take (rowOn b) P)
+      → (Q : List ℕ) → Q ≡ take (rowOn b) P ++ rest
+      → (Q ≡ beginOn b a P ++ rest) × (low ≡ keyBy (b .leaves) (b .bases) spent Q) × (sign ≡ signOf (take (rowOn b) Q))
+  begun-still a spent P rest low sign long words stays isLow isSign Q isQ =
+      let front : take (rowOn b) Q ≡ take (rowOn b) P =
+      rw isQ (take-at (take (rowOn b) P) rest (rowOn b) (simp length-take (omega arith))) in
+      let begin = begin-still a P long (word-cap P words) stays in
+      (isQ ∙ ap (λ xs. xs ++ rest) (sym begin), isLow ∙ sym (key-front spent Q P front), isSign ∙ sym (ap signOf front))
+
+-- ---- keys
+
+-- a cost more, before or behind the leaves' least prices
+pub key-more : (leaves : ℕ) (bases : List ℕ) (paid c : ℕ) (P : List ℕ) → min (keyBy leaves bases paid P + c) mark ≡ keyBy leaves bases (min (paid + c) mark) P
+unfolding keyBy
+key-more leaves bases paid c P = omega arith
+
+module _ (t : Task) (n : Node) (a : ℕ) where
+  -- no leaf's least price falls over a centre action
+  least-rises : (i : ℕ) → leastOf (leafPart t i (n .prices)) ≤ leastOf (passLeaf t (suc i) a (leafPart t i (n .prices)))
+  least-rises i =
+      let P = leafPart t i (n .prices) in
+      leastOf-ge (passLeaf t (suc i) a P) (leastOf P) (leastOf-cap P)
+      (λ y _. passLeaf-floor t (suc i) a P (leastOf P) (leastOf-cap P) (λ x _. leastOf-le P x) y)
+
+  -- so the key rises by the action's cost at least
+  pub key-rises : (u : ℕ) → key t n + cost t a ≤ key t (nextNode t u n a)
+  unfolding key
+  key-rises u =
+      let rise = sum-le (t .leaves) (λ i. leastOf (leafPart t i (n .prices))) (λ i. leastOf (leafPart t i (beginNode t n a (n .spot) 0 0 .prices)))
+      (λ i l. rw (part-begin t a (n .prices) i l) (least-rises i)) in
+      omega (arith, rise, key-begin t n a (n .spot) 0 0 u)
