@@ -1,1 +1,2 @@
 pub mod Mets
+pub mod Known
