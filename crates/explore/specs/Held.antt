@@ -13,12 +13,13 @@ use lib.ListN.{length, getD, set, take, drop}
 use Rattle.loops.specs.Count.{list}
 use Rattle.task.specs.declared.Task.{Task}
 use Rattle.task.specs.declared.Centre.{Centre}
+use Rattle.task.specs.Factors.{allStates}
 use Rattle.task.specs.Valid.{Valid}
 use Rattle.layer.specs.Layer.{mark, base}
 use Rattle.layer.specs.Board.{Board, Fits, rowOn, settledOn}
 use Rattle.tables.specs.Tables.{Goals}
 use Rattle.search.specs.Node.{Node, key, goalCost, dominates}
-use Rattle.search.specs.Explore.{Search, Reason, finished, tableFull, budgetSpent, Stopped, Turn, on, full, offer, turn, Expanded, through, filled}
+use Rattle.search.specs.Explore.{Search, Reason, finished, tableFull, budgetSpent, Stopped, Turn, on, full, offer, turn, Expanded, through, filled, expand}
 use Rattle.search.specs.Explore.Laws.{Base}
 use Rattle.search.specs.Made.{Made}
 use Rattle.nodes.specs.Chain.{Chained, Recalled}
@@ -67,7 +68,7 @@ pub record Room (S nodes : ℕ) (T O : List ℕ) (r : Run) : Type 0 where
   pub few-states : S ≤ 1024
   pub few-nodes : nodes ≤ 4096
   pub table-long : (nodes + 1) * (40 + S) ≤ length T
-  pub scan-long : length O ≡ 20544
+  pub scan-long : length O ≡ 36928
   pub count-few : r .count ≤ nodes
   pub chained : Chained S T O (r .count)
 
@@ -165,3 +166,17 @@ pub record Moved (b : Board) (effects goals goalPairs : List ℕ) (nodes : ℕ) 
   pub went : Went (rowOn b) nodes T O r T′ O′ w
   pub moved : (t : Task) → Suits t b effects goals goalPairs → Base t nodes (searchOf (rowOn b) T O r) → Cached t (rowOn b) T O r
       → Has (nodeIn (rowOn b) T u) spot paid (take (rowOn b) old) → Stands t (rowOn b) T′ O′ w (turn t nodes u a (searchOf (rowOn b) T O r))
+
+-- ---- an expansion
+
+-- what an expansion leaves true whatever the task: the nodes did not become fewer, they stay within `nodes` and chained
+abbrev pub Grown : Board → ℕ → Run → List ℕ → List ℕ → Turned → Type 0
+Grown b nodes r T′ O′ w =
+    (r .count ≤ w .run .count) × (w .run .count ≤ nodes) × (w .run .begun ≡ r .begun) × Chained (rowOn b) T′ O′ (w .run .count)
+
+-- node u was expanded, for every task whose tables these are: the search says the same
+abbrev pub Done : Board → List ℕ → List ℕ → List ℕ → ℕ → ℕ → List ℕ → List ℕ → Run → List ℕ → List ℕ → Turned → Type 0
+Done b effects goals goalPairs nodes u T O r T′ O′ w =
+    (t : Task) → Suits t b effects goals goalPairs → Base t nodes (searchOf (allStates t) T O r) → Cached t (allStates t) T O r
+    → (expand t nodes u (t .actions) 0 (searchOf (allStates t) T O r) ≡ expandedOf w (searchOf (allStates t) T′ O′ (w .run)))
+    × Cached t (allStates t) T′ O′ (w .run)

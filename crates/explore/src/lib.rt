@@ -1,12 +1,14 @@
 // The exploration over the lent table.
+use edges::fill_edges;
+use edges::settle_edges;
 use layer::MARK;
 use layer::add_price;
 use layer::begin_layer;
 use layer::first_conditions;
 use layer::first_layer;
-use layer::met_by;
 use layer::pairs_of;
-use layer::settle_layer;
+use mets::mets_of;
+use mets::next_met;
 use nodes::choose;
 use nodes::class_of;
 use nodes::fresh;
@@ -29,16 +31,18 @@ ghost use lib.ListN.{length, getD, take, drop};
 ghost use Rattle.task.specs.declared.Task.{Task};
 ghost use Rattle.task.specs.Factors.{allStates};
 ghost use Rattle.task.specs.Valid.{Valid};
-ghost use Rattle.layer.specs.Board.{Sound, beginOn};
+ghost use Rattle.layer.specs.Board.{Sound, metOn, beginOn, settledOn};
 ghost use Rattle.layer.specs.First.{Firsts};
 ghost use Rattle.layer.specs.Lent.{boardOf};
+ghost use Rattle.mets.specs.Mets.{Mets};
+ghost use Rattle.mets.specs.Known.{Known};
+ghost use Rattle.edges.specs.Edges.{Edges};
 ghost use Rattle.tables.specs.Tables.{Tabled, Goals};
-ghost use Rattle.search.specs.Explore.{start, expand, explored};
-ghost use Rattle.search.specs.Explore.Laws.{Base};
+ghost use Rattle.search.specs.Explore.{start, explored};
 ghost use Rattle.nodes.specs.Chain.{Chained, signOf};
-ghost use Rattle.nodes.specs.Row.{nodeWith};
+ghost use Rattle.nodes.specs.Row.{nodeIn, nodeWith};
 ghost use Rattle.nodes.specs.Scan.{Cut, keyBy, goalCostBy};
-ghost use Rattle.explore.specs.Held.{searchOf, Cached, Suits, Room, expandedOf, stoppedOf, Kept, Offered, Moved};
+ghost use Rattle.explore.specs.Held.{searchOf, Cached, Suits, Room, Has, stoppedOf, Kept, Offered, Moved, Grown, Done};
 ghost use Rattle.explore.specs.Held.Rounds.{Ahead, Rounded};
 ghost use Rattle.explore.specs.Still.{Stays, Still};
 
@@ -141,7 +145,7 @@ fn keep(
 ) -> Run
     requires { ⌜ Cut leaves (now bases) (length (now prices)) × Cut leaves (now bases) (length (now goals)) ⌝ }
     requires { ⌜ (getD (now bases) leaves 0 ≤ 1024) × (run .count < 4096) × ((run .count + 1) * (40 + getD (now bases) leaves 0) ≤ length (now table))
-        × (length (now scan) ≡ 20544) ⌝ }
+        × (length (now scan) ≡ 36928) ⌝ }
     ensures { λ r. ⌜ Kept (getD (now (bases .entry)) leaves 0) (now (table .entry)) (now (scan .entry)) run
         (nodeWith spot paid (take (getD (now (bases .entry)) leaves 0) (now (prices .entry))) parent action) key
         (goalCostBy leaves (now (bases .entry)) (now (goals .entry)) factors goal spot paid (now (prices .entry)))
@@ -181,6 +185,62 @@ fn keep(
     }
 }
 
+// A layer's begin settles; `spot` is its centre state, of this class. `flags` is room to work in.
+fn settle_begin(
+    leaves: usize,
+    actions: usize,
+    bases: &[usize],
+    moves: &[u16],
+    costs: &[u16],
+    kinds: &[u8],
+    factors: [u8; 32],
+    conditions: &[u8],
+    firsts: &[u8],
+    edges: &[u8],
+    ends: &[usize],
+    spot: Centre,
+    class: usize,
+    begin: &mut [u64],
+    known: &mut [u8],
+    flags: &mut [u8],
+)
+    requires { ⌜ Sound (boardOf leaves actions (now bases) (now moves) (now costs) (now kinds) factors (now conditions)) ⌝ }
+    requires { ⌜ Firsts (boardOf leaves actions (now bases) (now moves) (now costs) (now kinds) factors (now conditions)) (now firsts)
+        × Edges (boardOf leaves actions (now bases) (now moves) (now costs) (now kinds) factors (now conditions)) (now edges) (now ends)
+        × Known (boardOf leaves actions (now bases) (now moves) (now costs) (now kinds) factors (now conditions)) (now known)
+        × (class < 4096) × (length (now flags) ≡ 256) × (getD (now bases) leaves 0 ≤ length (now begin)) ⌝ }
+    ensures { λ _. ⌜ (now (begin .exit) ≡ settledOn (boardOf leaves actions (now (bases .entry)) (now (moves .entry)) (now (costs .entry)) (now (kinds .entry)) factors
+        (now (conditions .entry))) spot (now (begin .entry)) ++ drop (getD (now (bases .entry)) leaves 0) (now (begin .entry)))
+        × Known (boardOf leaves actions (now (bases .entry)) (now (moves .entry)) (now (costs .entry)) (now (kinds .entry)) factors
+        (now (conditions .entry))) (now (known .exit)) ⌝ }
+{
+    mets_of(
+        actions,
+        firsts,
+        factors,
+        conditions,
+        spot,
+        class,
+        known,
+        flags,
+    );
+    settle_edges(
+        leaves,
+        actions,
+        bases,
+        moves,
+        costs,
+        kinds,
+        factors,
+        conditions,
+        &flags[..],
+        edges,
+        ends,
+        spot,
+        begin,
+    );
+}
+
 // A successor of node `parent` by `action`, from its layer's begin: dropped, refused for a full table, or settled and kept under the next number.
 fn offer(
     leaves: usize,
@@ -191,6 +251,9 @@ fn offer(
     kinds: &[u8],
     factors: [u8; 32],
     conditions: &[u8],
+    firsts: &[u8],
+    edges: &[u8],
+    ends: &[usize],
     goals: &[u16],
     goal: [u8; 32],
     nodes: usize,
@@ -203,15 +266,23 @@ fn offer(
     begin: &mut [u64],
     table: &mut [u64],
     scan: &mut [u64],
+    known: &mut [u8],
+    flags: &mut [u8],
     run: Run,
 ) -> Turned
     requires { ⌜ Sound (boardOf leaves actions (now bases) (now moves) (now costs) (now kinds) factors (now conditions)) ⌝ }
+    requires { ⌜ Firsts (boardOf leaves actions (now bases) (now moves) (now costs) (now kinds) factors (now conditions)) (now firsts)
+        × Edges (boardOf leaves actions (now bases) (now moves) (now costs) (now kinds) factors (now conditions)) (now edges) (now ends)
+        × Known (boardOf leaves actions (now bases) (now moves) (now costs) (now kinds) factors (now conditions)) (now known)
+        × (length (now flags) ≡ 256) ⌝ }
     requires { ⌜ Cut leaves (now bases) (length (now begin)) × Cut leaves (now bases) (length (now goals)) ⌝ }
     requires { ⌜ (key ≡ keyBy leaves (now bases) paid (now begin)) × (sign ≡ signOf (take (getD (now bases) leaves 0) (now begin))) ⌝ }
     requires { ⌜ Room (getD (now bases) leaves 0) nodes (now table) (now scan) run ⌝ }
-    ensures { λ r. ⌜ Offered (boardOf leaves actions (now (bases .entry)) (now (moves .entry)) (now (costs .entry)) (now (kinds .entry)) factors
+    ensures offered { λ r. ⌜ Offered (boardOf leaves actions (now (bases .entry)) (now (moves .entry)) (now (costs .entry)) (now (kinds .entry)) factors
         (now (conditions .entry))) (now (goals .entry)) goal nodes (now (table .entry)) (now (scan .entry)) run spot paid (now (begin .entry)) parent action
         (now (table .exit)) (now (scan .exit)) r ⌝ }
+    ensures known { λ _. ⌜ Known (boardOf leaves actions (now (bases .entry)) (now (moves .entry)) (now (costs .entry)) (now (kinds .entry)) factors
+        (now (conditions .entry))) (now (known .exit)) ⌝ }
 {
     let states = bases[leaves];
     let count = run.count;
@@ -235,7 +306,7 @@ fn offer(
     if count >= nodes {
         return Turned { full: true, run };
     }
-    settle_layer(
+    settle_begin(
         leaves,
         actions,
         bases,
@@ -244,8 +315,14 @@ fn offer(
         kinds,
         factors,
         conditions,
+        firsts,
+        edges,
+        ends,
         spot,
+        class,
         begin,
+        known,
+        flags,
     );
     let more = keep(
         leaves,
@@ -320,7 +397,7 @@ fn begin_of(
     Begun { key, sign: made }
 }
 
-// Action a at node u, whose parts, key and signature are given: a centre action whose centre conditions hold has its layer's begin offered. No leaf's
+// Action a, whose centre conditions hold, at node u, whose parts, key and signature are given: a centre action has its layer's begin offered. No leaf's
 // least price falls over it, so nothing is made where the key and the action's cost are not below best. Where it does not apply, the begin's key is
 // the mark.
 fn turn(
@@ -334,7 +411,8 @@ fn turn(
     conditions: &[u8],
     still: &[u8],
     firsts: &[u8],
-    values: &[u8],
+    edges: &[u8],
+    ends: &[usize],
     effects: &[u8],
     goals: &[u16],
     goal: [u8; 32],
@@ -349,18 +427,25 @@ fn turn(
     next: &mut [u64],
     table: &mut [u64],
     scan: &mut [u64],
+    known: &mut [u8],
+    flags: &mut [u8],
     run: Run,
 ) -> Turned
     requires { ⌜ Sound (boardOf leaves actions (now bases) (now moves) (now costs) (now kinds) factors (now conditions)) ⌝ }
     requires { ⌜ Still leaves actions (now bases) (now moves) (now still)
         × Firsts (boardOf leaves actions (now bases) (now moves) (now costs) (now kinds) factors (now conditions)) (now firsts)
-        × (now values ≡ spot .values) × (length (now values) ≡ 32) ⌝ }
+        × Edges (boardOf leaves actions (now bases) (now moves) (now costs) (now kinds) factors (now conditions)) (now edges) (now ends)
+        × Known (boardOf leaves actions (now bases) (now moves) (now costs) (now kinds) factors (now conditions)) (now known)
+        × (metOn (boardOf leaves actions (now bases) (now moves) (now costs) (now kinds) factors (now conditions)) spot a ≡ true)
+        × (length (now flags) ≡ 256) ⌝ }
     requires { ⌜ (length (now effects) ≡ 8192) × (length (now goals) ≡ 1024) × (length (now old) ≡ 1024) × (length (now next) ≡ 1024) × (u < run .count) × (a < actions) ⌝ }
     requires { ⌜ (key ≡ keyBy leaves (now bases) paid (now old)) × (sign ≡ signOf (take (getD (now bases) leaves 0) (now old))) ⌝ }
     requires { ⌜ Room (getD (now bases) leaves 0) nodes (now table) (now scan) run ⌝ }
-    ensures { λ r. ⌜ Moved (boardOf leaves actions (now (bases .entry)) (now (moves .entry)) (now (costs .entry)) (now (kinds .entry)) factors
+    ensures moved { λ r. ⌜ Moved (boardOf leaves actions (now (bases .entry)) (now (moves .entry)) (now (costs .entry)) (now (kinds .entry)) factors
         (now (conditions .entry))) (now (effects .entry)) (now (goals .entry)) goal nodes spot paid (now (old .entry)) u a
         (now (table .entry)) (now (scan .entry)) run (now (table .exit)) (now (scan .exit)) r ⌝ }
+    ensures known { λ _. ⌜ Known (boardOf leaves actions (now (bases .entry)) (now (moves .entry)) (now (costs .entry)) (now (kinds .entry)) factors
+        (now (conditions .entry))) (now (known .exit)) ⌝ }
 {
     if kinds[a] != 0 {
         return Turned { full: false, run };
@@ -368,9 +453,6 @@ fn turn(
     let cost = costs[a] as u64;
     let low = add_price(key, cost);
     if low >= run.best_cost {
-        return Turned { full: false, run };
-    }
-    if !met_by(firsts, values, factors, conditions, spot, a) {
         return Turned { full: false, run };
     }
     let behind = spot.after(factors, pairs_of(effects, a));
@@ -401,6 +483,9 @@ fn turn(
         kinds,
         factors,
         conditions,
+        firsts,
+        edges,
+        ends,
         goals,
         goal,
         nodes,
@@ -413,12 +498,14 @@ fn turn(
         next,
         table,
         scan,
+        known,
+        flags,
         run,
     )
 }
 
-// All actions of node u, by rising number; `old` and `next` are room to work in.
-fn expand(
+// All actions of node u whose flag in `mets` is set, by rising number; the node's parts, key and signature are given.
+fn turns(
     leaves: usize,
     actions: usize,
     bases: &[usize],
@@ -429,45 +516,48 @@ fn expand(
     conditions: &[u8],
     still: &[u8],
     firsts: &[u8],
+    edges: &[u8],
+    ends: &[usize],
     effects: &[u8],
     goals: &[u16],
     goal: [u8; 32],
     nodes: usize,
+    spot: Centre,
+    paid: u64,
+    key: u64,
+    sign: u64,
+    mets: &[u8],
+    old: &[u64],
     u: usize,
+    next: &mut [u64],
     table: &mut [u64],
     scan: &mut [u64],
-    old: &mut [u64],
-    next: &mut [u64],
+    known: &mut [u8],
+    flags: &mut [u8],
     run: Run,
 ) -> Turned
     requires { ⌜ Sound (boardOf leaves actions (now bases) (now moves) (now costs) (now kinds) factors (now conditions)) ⌝ }
     requires { ⌜ Still leaves actions (now bases) (now moves) (now still)
-        × Firsts (boardOf leaves actions (now bases) (now moves) (now costs) (now kinds) factors (now conditions)) (now firsts) ⌝ }
-    requires { ⌜ (length (now effects) ≡ 8192) × (length (now goals) ≡ 1024) × (u < run .count) ⌝ }
+        × Firsts (boardOf leaves actions (now bases) (now moves) (now costs) (now kinds) factors (now conditions)) (now firsts)
+        × Edges (boardOf leaves actions (now bases) (now moves) (now costs) (now kinds) factors (now conditions)) (now edges) (now ends)
+        × Known (boardOf leaves actions (now bases) (now moves) (now costs) (now kinds) factors (now conditions)) (now known)
+        × Mets (boardOf leaves actions (now bases) (now moves) (now costs) (now kinds) factors (now conditions)) spot (now mets)
+        × (length (now flags) ≡ 256) ⌝ }
+    requires { ⌜ (length (now effects) ≡ 8192) × (length (now goals) ≡ 1024) × (length (now old) ≡ 1024) × (length (now next) ≡ 1024) × (u < run .count) ⌝ }
+    requires { ⌜ (key ≡ keyBy leaves (now bases) paid (now old)) × (sign ≡ signOf (take (getD (now bases) leaves 0) (now old)))
+        × Has (nodeIn (getD (now bases) leaves 0) (now table) u) spot paid (take (getD (now bases) leaves 0) (now old)) ⌝ }
     requires { ⌜ Room (getD (now bases) leaves 0) nodes (now table) (now scan) run ⌝ }
-    requires { ⌜ (length (now old) ≡ 1024) × (length (now next) ≡ 1024) ⌝ }
-    ensures grown { λ r. ⌜ (run .count ≤ r .run .count) × (r .run .count ≤ nodes) × (r .run .begun ≡ run .begun)
-        × Chained (getD (now (bases .entry)) leaves 0) (now (table .exit)) (now (scan .exit)) (r .run .count) ⌝ }
-    ensures expanded { λ r. ⌜ ((t : Task) → Suits t (boardOf leaves actions (now (bases .entry)) (now (moves .entry)) (now (costs .entry)) (now (kinds .entry)) factors
-        (now (conditions .entry))) (now (effects .entry)) (now (goals .entry)) goal
-        → Base t nodes (searchOf (allStates t) (now (table .entry)) (now (scan .entry)) run)
-        → Cached t (allStates t) (now (table .entry)) (now (scan .entry)) run
-        → (expand t nodes u (t .actions) 0 (searchOf (allStates t) (now (table .entry)) (now (scan .entry)) run)
-        ≡ expandedOf r (searchOf (allStates t) (now (table .exit)) (now (scan .exit)) (r .run)))
-        × Cached t (allStates t) (now (table .exit)) (now (scan .exit)) (r .run)) ⌝ }
+    ensures grown { λ r. ⌜ Grown (boardOf leaves actions (now (bases .entry)) (now (moves .entry)) (now (costs .entry)) (now (kinds .entry)) factors
+        (now (conditions .entry))) nodes run (now (table .exit)) (now (scan .exit)) r ⌝ }
+    ensures expanded { λ r. ⌜ Done (boardOf leaves actions (now (bases .entry)) (now (moves .entry)) (now (costs .entry)) (now (kinds .entry)) factors
+        (now (conditions .entry))) (now (effects .entry)) (now (goals .entry)) goal nodes u (now (table .entry)) (now (scan .entry)) run
+        (now (table .exit)) (now (scan .exit)) r ⌝ }
+    ensures known { λ _. ⌜ Known (boardOf leaves actions (now (bases .entry)) (now (moves .entry)) (now (costs .entry)) (now (kinds .entry)) factors
+        (now (conditions .entry))) (now (known .exit)) ⌝ }
 {
-    let states = bases[leaves];
-    let wide = 40 + states;
-    let at = u * wide;
-    let end = at + wide;
-    let spot = read_spot(&table[at..end]);
-    let values = spot.values;
-    let paid = table[at + 32];
-    copy_words(&table[at + 40..end], old, states);
-    let key = key_of(leaves, bases, paid, &old[..]);
-    let sign = scan[4096 + u];
     let mut going = run;
-    for a in 0..actions {
+    let mut a = next_met(mets, 0, actions);
+    while a < actions {
         let r = turn(
             leaves,
             actions,
@@ -479,7 +569,8 @@ fn expand(
             conditions,
             still,
             firsts,
-            &values,
+            edges,
+            ends,
             effects,
             goals,
             goal,
@@ -488,23 +579,123 @@ fn expand(
             paid,
             key,
             sign,
-            &old[..],
+            old,
             u,
             a,
             next,
             table,
             scan,
+            known,
+            flags,
             going,
         );
         if r.full {
             return r;
         }
         going = r.run;
+        a = next_met(mets, a + 1, actions);
     }
     Turned {
         full: false,
         run: going,
     }
+}
+
+// All actions of node u, by rising number; `old`, `next`, `flags` and `mets` are room to work in.
+fn expand(
+    leaves: usize,
+    actions: usize,
+    bases: &[usize],
+    moves: &[u16],
+    costs: &[u16],
+    kinds: &[u8],
+    factors: [u8; 32],
+    conditions: &[u8],
+    still: &[u8],
+    firsts: &[u8],
+    edges: &[u8],
+    ends: &[usize],
+    effects: &[u8],
+    goals: &[u16],
+    goal: [u8; 32],
+    nodes: usize,
+    u: usize,
+    table: &mut [u64],
+    scan: &mut [u64],
+    known: &mut [u8],
+    flags: &mut [u8],
+    mets: &mut [u8],
+    old: &mut [u64],
+    next: &mut [u64],
+    run: Run,
+) -> Turned
+    requires { ⌜ Sound (boardOf leaves actions (now bases) (now moves) (now costs) (now kinds) factors (now conditions)) ⌝ }
+    requires { ⌜ Still leaves actions (now bases) (now moves) (now still)
+        × Firsts (boardOf leaves actions (now bases) (now moves) (now costs) (now kinds) factors (now conditions)) (now firsts)
+        × Edges (boardOf leaves actions (now bases) (now moves) (now costs) (now kinds) factors (now conditions)) (now edges) (now ends)
+        × Known (boardOf leaves actions (now bases) (now moves) (now costs) (now kinds) factors (now conditions)) (now known)
+        × (length (now flags) ≡ 256) × (length (now mets) ≡ 256) ⌝ }
+    requires { ⌜ (length (now effects) ≡ 8192) × (length (now goals) ≡ 1024) × (u < run .count) ⌝ }
+    requires { ⌜ Room (getD (now bases) leaves 0) nodes (now table) (now scan) run ⌝ }
+    requires { ⌜ (length (now old) ≡ 1024) × (length (now next) ≡ 1024) ⌝ }
+    ensures grown { λ r. ⌜ Grown (boardOf leaves actions (now (bases .entry)) (now (moves .entry)) (now (costs .entry)) (now (kinds .entry)) factors
+        (now (conditions .entry))) nodes run (now (table .exit)) (now (scan .exit)) r ⌝ }
+    ensures expanded { λ r. ⌜ Done (boardOf leaves actions (now (bases .entry)) (now (moves .entry)) (now (costs .entry)) (now (kinds .entry)) factors
+        (now (conditions .entry))) (now (effects .entry)) (now (goals .entry)) goal nodes u (now (table .entry)) (now (scan .entry)) run
+        (now (table .exit)) (now (scan .exit)) r ⌝ }
+    ensures known { λ _. ⌜ Known (boardOf leaves actions (now (bases .entry)) (now (moves .entry)) (now (costs .entry)) (now (kinds .entry)) factors
+        (now (conditions .entry))) (now (known .exit)) ⌝ }
+{
+    let states = bases[leaves];
+    let wide = 40 + states;
+    let at = u * wide;
+    let end = at + wide;
+    let spot = read_spot(&table[at..end]);
+    let paid = table[at + 32];
+    copy_words(&table[at + 40..end], old, states);
+    let key = key_of(leaves, bases, paid, &old[..]);
+    let sign = scan[4096 + u];
+    mets_of(
+        actions,
+        firsts,
+        factors,
+        conditions,
+        spot,
+        class_of(spot),
+        known,
+        mets,
+    );
+    turns(
+        leaves,
+        actions,
+        bases,
+        moves,
+        costs,
+        kinds,
+        factors,
+        conditions,
+        still,
+        firsts,
+        edges,
+        ends,
+        effects,
+        goals,
+        goal,
+        nodes,
+        spot,
+        paid,
+        key,
+        sign,
+        &mets[..],
+        &old[..],
+        u,
+        next,
+        table,
+        scan,
+        known,
+        flags,
+        run,
+    )
 }
 
 // The block words are set to the mark, and node 0 is made and kept: the search at its start.
@@ -521,7 +712,7 @@ fn start(
 ) -> Run
     requires { ⌜ Valid task ⌝ }
     requires { ⌜ Tabled task (now bases) (now moves) (now costs) (now kinds) (now starts) × Goals task (now goals) ⌝ }
-    requires { ⌜ (40 + allStates task ≤ length (now table)) × (length (now scan) ≡ 20544)
+    requires { ⌜ (40 + allStates task ≤ length (now table)) × (length (now scan) ≡ 36928)
         × ((h : ℕ) → h < 4096 → getD (now scan) (12288 + h) 0 ≡ 0) ⌝ }
     ensures { λ r. ⌜ (searchOf (allStates task) (now (table .exit)) (now (scan .exit)) r ≡ start task)
         × Cached task (allStates task) (now (table .exit)) (now (scan .exit)) r
@@ -586,6 +777,8 @@ fn next_round(
     conditions: &[u8],
     still: &[u8],
     firsts: &[u8],
+    edges: &[u8],
+    ends: &[usize],
     effects: &[u8],
     goals: &[u16],
     goal: [u8; 32],
@@ -593,20 +786,28 @@ fn next_round(
     budget: u32,
     table: &mut [u64],
     scan: &mut [u64],
+    known: &mut [u8],
+    flags: &mut [u8],
+    mets: &mut [u8],
     old: &mut [u64],
     next: &mut [u64],
     run: Run,
 ) -> Round
     requires { ⌜ Sound (boardOf leaves actions (now bases) (now moves) (now costs) (now kinds) factors (now conditions)) ⌝ }
     requires { ⌜ Still leaves actions (now bases) (now moves) (now still)
-        × Firsts (boardOf leaves actions (now bases) (now moves) (now costs) (now kinds) factors (now conditions)) (now firsts) ⌝ }
+        × Firsts (boardOf leaves actions (now bases) (now moves) (now costs) (now kinds) factors (now conditions)) (now firsts)
+        × Edges (boardOf leaves actions (now bases) (now moves) (now costs) (now kinds) factors (now conditions)) (now edges) (now ends)
+        × Known (boardOf leaves actions (now bases) (now moves) (now costs) (now kinds) factors (now conditions)) (now known)
+        × (length (now flags) ≡ 256) × (length (now mets) ≡ 256) ⌝ }
     requires { ⌜ (length (now effects) ≡ 8192) × (length (now goals) ≡ 1024) × (run .begun ≤ 4096) ⌝ }
     requires { ⌜ Room (getD (now bases) leaves 0) nodes (now table) (now scan) run ⌝ }
     requires { ⌜ (length (now old) ≡ 1024) × (length (now next) ≡ 1024) ⌝ }
-    ensures { λ r. ⌜ ((t : Task) → Suits t (boardOf leaves actions (now (bases .entry)) (now (moves .entry)) (now (costs .entry)) (now (kinds .entry)) factors
+    ensures rounded { λ r. ⌜ ((t : Task) → Suits t (boardOf leaves actions (now (bases .entry)) (now (moves .entry)) (now (costs .entry)) (now (kinds .entry)) factors
         (now (conditions .entry))) (now (effects .entry)) (now (goals .entry)) goal
         → Ahead t nodes budget (allStates t) (now (table .entry)) (now (scan .entry)) run
         → Rounded t nodes budget (run .begun) (allStates t) (now (table .exit)) (now (scan .exit)) r) ⌝ }
+    ensures known { λ _. ⌜ Known (boardOf leaves actions (now (bases .entry)) (now (moves .entry)) (now (costs .entry)) (now (kinds .entry)) factors
+        (now (conditions .entry))) (now (known .exit)) ⌝ }
 {
     let chosen = choose(scan, run.count, run.best_cost);
     if chosen == 0 {
@@ -640,6 +841,8 @@ fn next_round(
         conditions,
         still,
         firsts,
+        edges,
+        ends,
         effects,
         goals,
         goal,
@@ -647,6 +850,9 @@ fn next_round(
         u,
         table,
         scan,
+        known,
+        flags,
+        mets,
         old,
         next,
         begun,
@@ -672,12 +878,14 @@ pub fn explore(
     goals: &[u16],
     nodes: usize,
     budget: u32,
+    edges: &mut [u8],
     table: &mut [u64],
     scan: &mut [u64],
 ) -> Stop
     requires { ⌜ Valid task ⌝ }
     requires { ⌜ Tabled task (now bases) (now moves) (now costs) (now kinds) (now starts) × Goals task (now goals) ⌝ }
-    requires { ⌜ (1 ≤ nodes) × (nodes ≤ 4096) × ((nodes + 1) * (40 + allStates task) ≤ length (now table)) × (length (now scan) ≡ 20544)
+    requires { ⌜ allStates task * task .actions ≤ length (now edges) ⌝ }
+    requires { ⌜ (1 ≤ nodes) × (nodes ≤ 4096) × ((nodes + 1) * (40 + allStates task) ≤ length (now table)) × (length (now scan) ≡ 36928)
         × ((h : ℕ) → h < 4096 → getD (now scan) (12288 + h) 0 ≡ 0) ⌝ }
     ensures { λ r. ⌜ (stoppedOf (allStates task) (now (table .exit)) (now (scan .exit)) r ≡ explored task nodes budget)
         × Cached task (allStates task) (now (table .exit)) (now (scan .exit)) (r .run) ⌝ }
@@ -691,6 +899,22 @@ pub fn explore(
     let still = still_actions(leaves, actions, bases, moves);
     let firsts = first_conditions(factors, &conditions, actions);
     let mut run = start(task, bases, moves, costs, kinds, starts, goals, table, scan);
+    let mut ends: [usize; 1025] = [0; 1025];
+    fill_edges(
+        leaves,
+        actions,
+        bases,
+        moves,
+        costs,
+        kinds,
+        factors,
+        &conditions,
+        edges,
+        &mut ends,
+    );
+    let mut known = [0u8; 40960];
+    let mut flags = [0u8; 256];
+    let mut mets = [0u8; 256];
     let mut old = [MARK; 1024];
     let mut next = [MARK; 1024];
     loop {
@@ -705,6 +929,8 @@ pub fn explore(
             &conditions,
             &still,
             &firsts,
+            &edges[..],
+            &ends,
             &effects,
             goals,
             goal,
@@ -712,6 +938,9 @@ pub fn explore(
             budget,
             table,
             scan,
+            &mut known,
+            &mut flags,
+            &mut mets,
             &mut old,
             &mut next,
             run,

@@ -13,7 +13,7 @@ use Rattle.task.specs.declared.Centre.{Centre}
 use Rattle.task.specs.Factors.{holdsIn}
 use Rattle.task.specs.Centre.{valueIn, centreMeets}
 use Rattle.layer.specs.Board.{Board, metOn}
-use Rattle.layer.specs.First.{asksOf}
+use Rattle.layer.specs.First.{Firsts, asksOf}
 use Rattle.mets.specs.Mets.{Mets}
 
 -- the flags of the first n actions: 1 where the action's centre conditions hold in centre state c, else 0
@@ -157,3 +157,22 @@ known-filled b K K₁ K₂ s c flags values k few small right isValues one two =
         ∙ sym (getD-set-other K₂ (s * 320 + 288) (s * 320 + 256 + v) 1 0 (λ e. omega arith))
         ∙ (rw q at (same v m)) in
         here ∙ right .right a h ∙ ap (λ m. cond m 1 0) (met-ext b c d a own)
+
+-- ---- only the parts of a Board that say which conditions its actions have count
+
+module _ (b : Board) where
+  -- those parts
+  abbrev pub asks : Board
+  asks = asksOf (b .actions) (b .factors) (b .conditions)
+
+  pub firsts-asks : (firsts : List ℕ) → Firsts b firsts → Firsts asks firsts
+  firsts-asks firsts f = record { long = f .long; inside = f .inside; named = f .named }
+
+  pub known-asks : (K : List ℕ) → Known b K → Known asks K
+  known-asks K k = record { long = k .long; held = k .held }
+
+  pub asks-known : (K : List ℕ) → Known asks K → Known b K
+  asks-known K k = record { long = k .long; held = k .held }
+
+  pub asks-mets : (c : Centre) (flags : List ℕ) → Mets asks c flags → Mets b c flags
+  asks-mets c flags m = record { long = m .long; unmet = m .unmet; met = m .met }

@@ -12,10 +12,11 @@ ghost use Rattle.loops.specs.Count.{all, any};
 ghost use Rattle.task.specs.Centre.{valueIn};
 ghost use Rattle.layer.specs.Layer.{mark};
 ghost use Rattle.search.specs.Node.{leastOf, dominates};
-ghost use Rattle.nodes.specs.Row.{spotOf, nodeOf, nodeIn, nodeWith};
+ghost use Rattle.nodes.specs.Row.{spotOf, nodeOf, rowIn, nodeIn, nodeWith, packOf, Packed, Above, Tested};
+ghost use Rattle.nodes.specs.Four.{fourTo};
 ghost use Rattle.nodes.specs.Scan.{Cut, goalsBy, keyBy, goalSumBy, goalCostBy, chooseBy};
 ghost use Rattle.nodes.specs.Block.{blockEnd, Blocked, freshTo, retiredTo};
-ghost use Rattle.nodes.specs.Chain.{classOf, slotOf, signOf, linkedTo, Chained, Recalled, Dominator};
+ghost use Rattle.nodes.specs.Chain.{classOf, slotOf, signOf, lacking, allLack, backAt, backLink, backFurther, furtherTo, linkedTo, Chained, Recalled, Dominator};
 
 // ---- prices
 
@@ -121,6 +122,33 @@ fn write_spot(row: &mut [u64], spot: Centre)
     }
 }
 
+// Eight values of a centre state from value `from` on as one word, the first its lowest byte.
+fn pack(spot: Centre, from: usize) -> u64
+    requires { ⌜ from ≤ 24 ⌝ }
+    ensures { λ r. ⌜ r ≡ packOf spot from ⌝ }
+{
+    let values = spot.values;
+    values[from] as u64
+        + values[from + 1] as u64 * 256
+        + values[from + 2] as u64 * 65536
+        + values[from + 3] as u64 * 16777216
+        + values[from + 4] as u64 * 4294967296
+        + values[from + 5] as u64 * 1099511627776
+        + values[from + 6] as u64 * 281474976710656
+        + values[from + 7] as u64 * 72057594037927936
+}
+
+// The four packs of a centre state into a row: nodes are told apart by them.
+fn write_packs(row: &mut [u64], spot: Centre)
+    requires { ⌜ 40 ≤ length (now row) ⌝ }
+    ensures { λ _. ⌜ now (row .exit) ≡ fourTo (now (row .entry)) 35 (packOf spot 0) (packOf spot 8) (packOf spot 16) (packOf spot 24) ⌝ }
+{
+    row[35] = pack(spot, 0);
+    row[36] = pack(spot, 8);
+    row[37] = pack(spot, 16);
+    row[38] = pack(spot, 24);
+}
+
 // A node into its row.
 pub fn write_row(
     row: &mut [u64],
@@ -132,9 +160,10 @@ pub fn write_row(
     prices: &[u64],
 )
     requires { ⌜ (length (now row) ≡ 40 + states) × (states ≤ length (now prices)) ⌝ }
-    ensures { λ _. ⌜ nodeOf states (now (row .exit)) ≡ nodeWith spot paid (take states (now (prices .entry))) parent action ⌝ }
+    ensures { λ _. ⌜ (nodeOf states (now (row .exit)) ≡ nodeWith spot paid (take states (now (prices .entry))) parent action) × Packed (now (row .exit)) ⌝ }
 {
     write_spot(row, spot);
+    write_packs(row, spot);
     row[32] = paid;
     row[33] = parent as u64;
     row[34] = action as u64;
@@ -143,22 +172,15 @@ pub fn write_row(
 
 // ---- chains
 
-// The class of a centre state, by four quarters of its values side by side.
+// The class of a centre state, by its four packs.
 pub fn class_of(spot: Centre) -> usize
     ensures { λ r. ⌜ r ≡ classOf spot ⌝ }
 {
-    let values = spot.values;
-    let mut first = 0;
-    let mut second = 0;
-    let mut third = 0;
-    let mut fourth = 0;
-    for v in 0..8 {
-        first = (first * 1637 + values[v] as usize) % 4096;
-        second = (second * 1637 + values[8 + v] as usize) % 4096;
-        third = (third * 1637 + values[16 + v] as usize) % 4096;
-        fourth = (fourth * 1637 + values[24 + v] as usize) % 4096;
-    }
-    (first * 673 + second * 3521 + third * 3297 + fourth) % 4096
+    let first = pack(spot, 0) % 4093;
+    let second = pack(spot, 8) % 4091;
+    let third = pack(spot, 16) % 4079;
+    let fourth = pack(spot, 24) % 4073;
+    ((first + second + third + fourth) % 4096) as usize
 }
 
 // The signature of the prices: a bit for each reachable state, the same for every 64th.
@@ -184,9 +206,58 @@ fn lesser(a: u64, b: u64) -> u64
     a
 }
 
-// A node into the scan words: its key, its signature, the node itself as the last of its class, and its block's word no higher than its key.
+// The word at `from` of the node that a link stands for, 0 where the link is 0: `from` is where the signatures or the links begin.
+fn word_back(scan: &[u64], from: usize, to: u64) -> u64
+    requires { ⌜ (length (now scan) ≡ 36928) × (from ≤ 8192) ⌝ }
+    ensures { λ r. ⌜ r ≡ backAt (now (scan .entry)) (λ u. from + u) to ⌝ }
+{
+    if to == 0 {
+        return 0;
+    }
+    scan[from + ((to - 1) % 4096) as usize]
+}
+
+// The same of further word `k`.
+fn further_back(scan: &[u64], k: usize, to: u64) -> u64
+    requires { ⌜ (length (now scan) ≡ 36928) × (k < 4) ⌝ }
+    ensures { λ r. ⌜ r ≡ backFurther (now (scan .entry)) k to ⌝ }
+{
+    if to == 0 {
+        return 0;
+    }
+    scan[16448 + 4 * ((to - 1) % 4096) as usize + k]
+}
+
+// Three nodes back in the chain from the node that a link stands for, again as a link.
+fn third_back(scan: &[u64], to: u64) -> u64
+    requires { ⌜ length (now scan) ≡ 36928 ⌝ }
+    ensures { λ r. ⌜ r ≡ backLink (now (scan .entry)) (backLink (now (scan .entry)) (backLink (now (scan .entry)) to)) ⌝ }
+{
+    let first = word_back(scan, 8192, to);
+    let second = word_back(scan, 8192, first);
+    word_back(scan, 8192, second)
+}
+
+// The further words of a node whose link is `to`: the signatures of the three nodes before it in its chain, and the fourth, where a walk jumps to.
+fn link_further(scan: &mut [u64], node: usize, to: u64)
+    requires { ⌜ (length (now scan) ≡ 36928) × (node < 4096) ⌝ }
+    ensures { λ _. ⌜ now (scan .exit) ≡ furtherTo (now (scan .entry)) node to ⌝ }
+{
+    let first = word_back(scan, 4096, to);
+    let second = further_back(scan, 0, to);
+    let third = further_back(scan, 1, to);
+    let jump = third_back(scan, to);
+    let from = 16448 + 4 * node;
+    scan[from] = first;
+    scan[from + 1] = second;
+    scan[from + 2] = third;
+    scan[from + 3] = jump;
+}
+
+// A node into the scan words: its key, its signature, the node itself as the last of its class, its block's word no higher than its key, and its
+// further words.
 pub fn link(scan: &mut [u64], node: usize, key: u64, sign: u64, class: usize)
-    requires { ⌜ (length (now scan) ≡ 20544) × (node < 4096) × (class < 4096) ⌝ }
+    requires { ⌜ (length (now scan) ≡ 36928) × (node < 4096) × (class < 4096) ⌝ }
     ensures { λ _. ⌜ now (scan .exit) ≡ linkedTo (now (scan .entry)) node key sign class ⌝ }
 {
     let head = scan[12288 + class];
@@ -197,13 +268,14 @@ pub fn link(scan: &mut [u64], node: usize, key: u64, sign: u64, class: usize)
     scan[8192 + node] = head;
     scan[12288 + class] = (node + 1) as u64;
     scan[block] = low;
+    link_further(scan, node, head);
 }
 
 // ---- blocks
 
 // The words of all blocks to the mark.
 pub fn fresh(scan: &mut [u64])
-    requires { ⌜ length (now scan) ≡ 20544 ⌝ }
+    requires { ⌜ length (now scan) ≡ 36928 ⌝ }
     ensures { λ _. ⌜ now (scan .exit) ≡ freshTo (now (scan .entry)) 64 ⌝ }
 {
     for b in 0..64 {
@@ -221,7 +293,7 @@ fn block_end(block: usize, count: usize) -> usize
 
 // The mark as the open key of a node, and its block's word again the least of the block.
 pub fn retire(scan: &mut [u64], node: usize, count: usize)
-    requires { ⌜ (length (now scan) ≡ 20544) × (count ≤ 4096) × (node < count) ⌝ }
+    requires { ⌜ (length (now scan) ≡ 36928) × (count ≤ 4096) × (node < count) ⌝ }
     ensures { λ _. ⌜ now (scan .exit) ≡ retiredTo (now (scan .entry)) node count ⌝ }
 {
     let block = node / 64;
@@ -234,56 +306,92 @@ pub fn retire(scan: &mut [u64], node: usize, count: usize)
 
 // ---- dominance
 
-// Whether the row's node has this centre state.
+// Whether the row's node has this centre state: the same packs are the same values.
 fn same_spot(row: &[u64], spot: Centre) -> bool
-    requires { ⌜ 32 ≤ length (now row) ⌝ }
+    requires { ⌜ (40 ≤ length (now row)) × Packed (now row) ⌝ }
     ensures { λ r. ⌜ r ≡ all 32 (λ v. eqb (valueIn (spotOf (now (row .entry))) v) (valueIn spot v)) ⌝ }
 {
-    let values = spot.values;
-    for v in 0..32 {
-        if row[v] % 256 != values[v] as u64 {
-            return false;
-        }
+    if row[35] != pack(spot, 0) {
+        return false;
+    }
+    if row[36] != pack(spot, 8) {
+        return false;
+    }
+    if row[37] != pack(spot, 16) {
+        return false;
+    }
+    if row[38] != pack(spot, 24) {
+        return false;
     }
     true
 }
 
-// Whether the row's node has the same centre state, no higher centre cost and no higher price anywhere.
-fn dominates_row(row: &[u64], states: usize, spot: Centre, paid: u64, prices: &[u64]) -> bool
+// A place where the row's price is higher, the number of states if there is none. `hint` is tried first: where one node was too high the next is
+// often too.
+fn place_above(row: &[u64], states: usize, prices: &[u64], hint: usize) -> usize
     requires { ⌜ (length (now row) ≡ 40 + states) × (states ≤ length (now prices)) ⌝ }
-    ensures { λ r. ⌜ r ≡ dominates (nodeOf states (now (row .entry))) (nodeWith spot paid (take states (now (prices .entry))) 0 0) ⌝ }
+    ensures { λ r. ⌜ Above states (now (row .entry)) (now (prices .entry)) r ⌝ }
 {
-    if row[32] > paid {
-        return false;
+    if hint < states {
+        if row[40 + hint] > prices[hint] {
+            return hint;
+        }
     }
     for k in 0..states {
         if row[40 + k] > prices[k] {
-            return false;
+            return k;
         }
     }
-    same_spot(row, spot)
+    states
 }
 
-// Whether node `u` dominates the node with these parts.
-fn dominates_at(
+// Whether the row's node has the same centre state, no higher centre cost and no higher price anywhere: then the answer is above the number of
+// states. Else it is the hint for the next node.
+fn test_row(
+    row: &[u64],
+    states: usize,
+    spot: Centre,
+    paid: u64,
+    prices: &[u64],
+    hint: usize,
+) -> usize
+    requires { ⌜ (states ≤ 1024) × (length (now row) ≡ 40 + states) × (states ≤ length (now prices)) × (hint ≤ states) × Packed (now row) ⌝ }
+    ensures { λ r. ⌜ Tested states (nodeOf states (now (row .entry))) (nodeWith spot paid (take states (now (prices .entry))) 0 0) r ⌝ }
+{
+    if row[32] > paid {
+        return hint;
+    }
+    let place = place_above(row, states, prices, hint);
+    if place < states {
+        return place;
+    }
+    if same_spot(row, spot) {
+        return states + 1;
+    }
+    hint
+}
+
+// The same of node `u`.
+fn test_at(
     table: &[u64],
     states: usize,
     u: usize,
     spot: Centre,
     paid: u64,
     prices: &[u64],
-) -> bool
-    requires { ⌜ (u * (40 + states) + (40 + states) ≤ length (now table)) × (states ≤ length (now prices)) ⌝ }
-    ensures { λ r. ⌜ r ≡ dominates (nodeIn states (now (table .entry)) u) (nodeWith spot paid (take states (now (prices .entry))) 0 0) ⌝ }
+    hint: usize,
+) -> usize
+    requires { ⌜ (states ≤ 1024) × (u * (40 + states) + (40 + states) ≤ length (now table)) × (states ≤ length (now prices)) × (hint ≤ states) × Packed (rowIn states (now table) u) ⌝ }
+    ensures { λ r. ⌜ Tested states (nodeIn states (now (table .entry)) u) (nodeWith spot paid (take states (now (prices .entry))) 0 0) r ⌝ }
 {
     let wide = 40 + states;
     let from = u * wide;
     let end = from + wide;
-    dominates_row(&table[from..end], states, spot, paid, prices)
+    test_row(&table[from..end], states, spot, paid, prices, hint)
 }
 
 // The same, by the signatures first; `theirs` is that of node `u`, `sign` that of the other's prices.
-fn dominates_node(
+fn test_node(
     table: &[u64],
     states: usize,
     u: usize,
@@ -292,18 +400,41 @@ fn dominates_node(
     spot: Centre,
     paid: u64,
     prices: &[u64],
-) -> bool
-    requires { ⌜ (u * (40 + states) + (40 + states) ≤ length (now table)) × (states ≤ length (now prices)) ⌝ }
+    hint: usize,
+) -> usize
+    requires { ⌜ (states ≤ 1024) × (u * (40 + states) + (40 + states) ≤ length (now table)) × (states ≤ length (now prices)) × (hint ≤ states) × Packed (rowIn states (now table) u) ⌝ }
     requires { ⌜ (theirs ≡ signOf (nodeIn states (now table) u .prices)) × (sign ≡ signOf (take states (now prices))) ⌝ }
-    ensures { λ r. ⌜ r ≡ dominates (nodeIn states (now (table .entry)) u) (nodeWith spot paid (take states (now (prices .entry))) 0 0) ⌝ }
+    ensures { λ r. ⌜ Tested states (nodeIn states (now (table .entry)) u) (nodeWith spot paid (take states (now (prices .entry))) 0 0) r ⌝ }
 {
     if sign | theirs != theirs {
-        return false;
+        return hint;
     }
-    dominates_at(table, states, u, spot, paid, prices)
+    test_at(table, states, u, spot, paid, prices, hint)
 }
 
-// One more than the number of a node that dominates the node with these parts, 0 for none: those of its class are tried, the last first.
+// Whether a signature has a bit that another lacks.
+fn lacks(sign: u64, theirs: u64) -> bool
+    ensures { λ r. ⌜ r ≡ lacking sign theirs ⌝ }
+{
+    sign | theirs != theirs
+}
+
+// Whether node `u` and the three nodes before it in its chain all lack a bit of the signature. The four words stand side by side but for the first,
+// and nothing branches between them.
+fn all_lack(scan: &[u64], u: usize, sign: u64) -> bool
+    requires { ⌜ (length (now scan) ≡ 36928) × (u < 4096) ⌝ }
+    ensures { λ r. ⌜ r ≡ allLack (now (scan .entry)) u sign ⌝ }
+{
+    let from = 16448 + 4 * u;
+    let own = lacks(sign, scan[4096 + u]);
+    let first = lacks(sign, scan[from]);
+    let second = lacks(sign, scan[from + 1]);
+    let third = lacks(sign, scan[from + 2]);
+    own & first & second & third
+}
+
+// One more than the number of a node that dominates the node with these parts, 0 for none: those of its class are tried, the last first. Where four
+// nodes in a row are out by their signatures, the walk jumps over them.
 fn walk(
     table: &[u64],
     states: usize,
@@ -319,11 +450,17 @@ fn walk(
     requires { ⌜ (class ≡ classOf spot) × (sign ≡ signOf (take states (now prices))) ⌝ }
     ensures { λ r. ⌜ Dominator states (now (table .entry)) count (nodeWith spot paid (take states (now (prices .entry))) 0 0) r ⌝ }
 {
+    let mut hint = 0;
     let mut to = scan[12288 + class] as usize;
     while to > 0 {
         let u = to - 1;
+        if all_lack(scan, u, sign) {
+            to = scan[16448 + 4 * u + 3] as usize;
+            continue;
+        }
         let theirs = scan[4096 + u];
-        if dominates_node(table, states, u, theirs, sign, spot, paid, prices) {
+        hint = test_node(table, states, u, theirs, sign, spot, paid, prices, hint);
+        if hint > states {
             return to;
         }
         to = scan[8192 + u] as usize;
@@ -355,10 +492,10 @@ pub fn dominator(
     requires { ⌜ (class ≡ classOf spot) × (sign ≡ signOf (take states (now prices))) ⌝ }
     ensures { λ r. ⌜ Dominator states (now (table .entry)) count (nodeWith spot paid (take states (now (prices .entry))) 0 0) r ⌝ }
 {
-    let recent = scan[16448 + slot_of(class, sign)] as usize;
+    let recent = scan[32832 + slot_of(class, sign)] as usize;
     if recent > 0 {
         if recent <= count {
-            if dominates_at(table, states, recent - 1, spot, paid, prices) {
+            if test_at(table, states, recent - 1, spot, paid, prices, 0) > states {
                 return recent;
             }
         }
@@ -386,7 +523,7 @@ pub fn is_dominated(
     if found == 0 {
         return false;
     }
-    scan[16448 + slot_of(class, sign)] = found as u64;
+    scan[32832 + slot_of(class, sign)] = found as u64;
     true
 }
 
@@ -410,7 +547,7 @@ fn pick(keys: &[u64], count: usize, bound: u64) -> usize
 
 // One more than the node with the least key below the bound, the lowest on ties; 0 for none. The block is picked by its word, the node in the block.
 pub fn choose(scan: &[u64], count: usize, bound: u64) -> usize
-    requires { ⌜ (length (now scan) ≡ 20544) × (count ≤ 4096) × (bound ≤ mark) × Blocked (now scan) count ⌝ }
+    requires { ⌜ (length (now scan) ≡ 36928) × (count ≤ 4096) × (bound ≤ mark) × Blocked (now scan) count ⌝ }
     ensures { λ r. ⌜ r ≡ chooseBy bound (now (scan .entry)) count ⌝ }
 {
     let picked = pick(&scan[16384..16448], (count + 63) / 64, bound);

@@ -167,19 +167,21 @@ fn answer_of(
     }
 }
 
-// The tables of the task, the search, and its answer; `moves` is lent for what each action makes of each leaf state.
+// The tables of the task, the search, and its answer; `moves` is lent for what each action makes of each leaf state, `edges` for the leaf actions
+// that move it.
 fn search_with(
     task: Task,
     bases: [usize; 9],
     nodes: usize,
     budget: u32,
     moves: &mut [u16],
+    edges: &mut [u8],
     plan: &mut [u8],
     table: &mut [u64],
 ) -> PlanAnswer
     requires { ⌜ Valid task ⌝ }
     requires { ⌜ Bases task bases × (1 ≤ nodes) × (nodes ≤ 4096) × (tableWords task nodes ≤ length (now table))
-        × (task .actions * allStates task ≤ length (now moves)) ⌝ }
+        × (task .actions * allStates task ≤ length (now moves)) × (task .actions * allStates task ≤ length (now edges)) ⌝ }
     ensures { λ r. ⌜ _≡_ {A = Outcome} (record { answer = r; plan = now (plan .exit); words = [] })
         (atStop task (explored task nodes budget .reason) (explored task nodes budget .search) (now (plan .entry)) []) ⌝ }
 {
@@ -188,7 +190,7 @@ fn search_with(
     let kinds = action_kinds(task);
     let starts = leaf_starts(task);
     let goals = leaf_goals(task, bases);
-    let mut scan = [0u64; 20544];
+    let mut scan = [0u64; 36928];
     let stop = explore(
         task,
         &bases,
@@ -199,6 +201,7 @@ fn search_with(
         &goals,
         nodes,
         budget,
+        edges,
         table,
         &mut scan,
     );
@@ -234,10 +237,30 @@ fn search_tables(
     let actions = task.actions as usize;
     if actions * bases[leaves] <= 16384 {
         let mut few = [0u16; 16384];
-        return search_with(task, bases, nodes, budget, &mut few, plan, table);
+        let mut few_edges = [0u8; 16384];
+        return search_with(
+            task,
+            bases,
+            nodes,
+            budget,
+            &mut few,
+            &mut few_edges,
+            plan,
+            table,
+        );
     }
     let mut moves = [0u16; 261120];
-    search_with(task, bases, nodes, budget, &mut moves, plan, table)
+    let mut edges = [0u8; 261120];
+    search_with(
+        task,
+        bases,
+        nodes,
+        budget,
+        &mut moves,
+        &mut edges,
+        plan,
+        table,
+    )
 }
 
 // The search, and its words zeroed behind it.

@@ -3,7 +3,7 @@
 use mathlib.Core.Bool.{Bool, cond, _&&_}
 use Prim.Native.Nat.{ℕ}
 use lib.Dec.{eqb}
-use lib.ListN.{getD, set, replicate}
+use lib.ListN.{getD, replicate}
 use Rattle.loops.specs.Count.{list}
 use Rattle.task.specs.declared.Task.{Task}
 use Rattle.task.specs.declared.Centre.{Centre}
@@ -16,10 +16,6 @@ valueIn c v = getD (c .values) v 0
 
 abbrev pub blankCentre : Centre
 blankCentre = record { values = replicate 32 0 }
-
--- the centre state with one value set; a number that is no variable's changes nothing
-abbrev pub withValue : Centre → ℕ → ℕ → Centre
-withValue c v x = record { values = set (c .values) v x }
 
 -- the centre part of a state, by the variables' factors
 unfoldable pub centreOf : (ℕ → ℕ) → State → Centre

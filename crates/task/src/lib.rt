@@ -5,7 +5,7 @@ ghost use lib.Dec.{eqb};
 ghost use lib.ListN.{getD};
 ghost use Rattle.task.specs.Meaning.{met};
 ghost use Rattle.task.specs.Factors.{named};
-ghost use Rattle.task.specs.Centre.{blankCentre, withValue, centreAfter, centreMeets};
+ghost use Rattle.task.specs.Centre.{blankCentre, centreAfter, centreMeets};
 
 // In a condition, an effect or the goal: the variable is not named. No value is 16.
 pub const FREE: u8 = 16;
@@ -64,26 +64,14 @@ impl Centre {
         Centre { values: [0; 32] }
     }
 
-    // The state with one value set.
-    pub fn with(mut self, variable: usize, value: u8) -> Centre
-        ensures { λ r. ⌜ r ≡ withValue self variable value ⌝ }
-    {
-        if variable < 32 {
-            self.values[variable] = value;
-        }
-        self
-    }
-
     // The next centre state: each centre variable that the effects name takes its value from them.
-    pub fn after(self, factors: [u8; 32], effects: [u8; 32]) -> Centre
+    pub fn after(mut self, factors: [u8; 32], effects: [u8; 32]) -> Centre
         ensures { λ r. ⌜ r ≡ centreAfter (λ v. getD factors v 0) (λ v. getD effects v 0) self ⌝ }
     {
-        let before = self.values;
-        let mut values = [0u8; 32];
         for v in 0..32 {
-            values[v] = next_value(factors[v], effects[v], before[v]);
+            self.values[v] = next_value(factors[v], effects[v], self.values[v]);
         }
-        Centre { values }
+        self
     }
 
     // Whether the pairs on centre variables hold.

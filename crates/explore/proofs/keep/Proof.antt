@@ -90,7 +90,7 @@ returns c =
     let w = c .before .before .before .before .before .before .before .before .before .before .before .before in
     let s = w .before .before .before .before .before .before .before .before in
     kept-best (S s) (now (s .args .table)) (now (s .args .scan)) (s .args .run) (node s) (s .args .key) (cost s) (w .write-row .last .0) _
-    (omega arith) (omega arith) (w .write-row .ensures) (s .pre .1 .1) (c .before .before .before .before .before .link .last .0) (c .before .before .before .before .before .before .before .before .sign-of .result) (c .before .before .before .before .before .before .before .class-of .result)
+    (omega arith) (omega arith) (w .write-row .ensures .0) (w .write-row .ensures .1) (s .pre .1 .1) (c .before .before .before .before .before .link .last .0) (c .before .before .before .before .before .before .before .before .sign-of .result) (c .before .before .before .before .before .before .before .class-of .result)
     (c .before .before .before .before .before .before .before .before .sign-of .ensures) (c .before .before .before .before .before .before .before .class-of .ensures) (c .before .before .before .before .before .link .ensures)
     (c .before .before .goal-cost .result) (c .before .before .goal-cost .ensures) (c .if1 .taken)
 
@@ -108,7 +108,7 @@ returns-2 c =
     let w = c .before .before .before .before .before .before .before .before .before .before .before .before in
     let s = w .before .before .before .before .before .before .before .before in
     kept-other (S s) (now (s .args .table)) (now (s .args .scan)) (s .args .run) (node s) (s .args .key) (cost s) (w .write-row .last .0) _
-    (omega arith) (omega arith) (w .write-row .ensures) (s .pre .1 .1) (c .before .before .before .before .before .link .last .0) (c .before .before .before .before .before .before .before .before .sign-of .result) (c .before .before .before .before .before .before .before .class-of .result)
+    (omega arith) (omega arith) (w .write-row .ensures .0) (w .write-row .ensures .1) (s .pre .1 .1) (c .before .before .before .before .before .link .last .0) (c .before .before .before .before .before .before .before .before .sign-of .result) (c .before .before .before .before .before .before .before .class-of .result)
     (c .before .before .before .before .before .before .before .before .sign-of .ensures) (c .before .before .before .before .before .before .before .class-of .ensures) (c .before .before .before .before .before .link .ensures)
     (c .before .before .goal-cost .result) (c .before .before .goal-cost .ensures) (c .if1 .left)
 

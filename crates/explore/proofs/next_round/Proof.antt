@@ -5,7 +5,6 @@ use mathlib.Core.List.{List}
 use native.Mathlib.Omega.{arith}
 use denote.Ref.{now}
 use lib.ListN.{length, getD, set}
-use borrow.Author.Needs.{needs}
 use Rattle.task.specs.Factors.{allStates}
 use Rattle.layer.specs.Layer.{mark}
 use Rattle.layer.specs.Board.{Board, rowOn}
@@ -14,6 +13,7 @@ use Rattle.layer.specs.Lent.{boardOf}
 use Rattle.nodes.specs.Scan.{chooseBy}
 use Rattle.explore.specs.Held.{Room}
 use Rattle.explore.specs.Held.Rounds.{begun, choice-in, retired-keyed, retired-room, ahead-finished, ahead-spent, ahead-full, ahead-on}
+use borrow.Author.Needs.{needs}
 use Rattle.explore.proofs.next_round.Statement.{statement}
 use Rattle.explore.proofs.next_round.Tie as tie
 
@@ -23,11 +23,15 @@ board s =
     let a = s .args in
     boardOf (a .leaves) (a .actions) (now (a .bases)) (now (a .moves)) (now (a .costs)) (now (a .kinds)) (a .factors) (now (a .conditions))
 
+-- where a node is chosen, the function's start
+abbrev start : tie.Else1 → tie.Start
+start c = c .before .before .before .before .before .before .before .before .before .before .before .before .before .before .before .before .before .before .before .before .before
+
 -- a node is chosen: one of those kept
-picked : (c : tie.Else1) → let a = c .before .before .before .before .before .before .before .before .before .before .before .before .before .before .before .before .args in
+picked : (c : tie.Else1) → let a = start c .args in
     (chooseBy (a .run .«best_cost») (now (a .scan)) (a .run .count) ≡ suc (c .before .choose .result - 1)) × (c .before .choose .result - 1 < a .run .count)
 picked c =
-    let a = c .before .before .before .before .before .before .before .before .before .before .before .before .before .before .before .before .args in
+    let a = start c .args in
     let e : c .before .choose .result ≡ suc (c .before .choose .result - 1) = omega (arith, c .if1 .left) in
     (sym (c .before .choose .ensures) ∙ e, omega (arith, choice-in (a .run .«best_cost») (now (a .scan)) (a .run .count), c .before .choose .ensures))
 
@@ -41,17 +45,13 @@ few s = omega (arith, s .pre .1 .1 .1 .0 .count-few, s .pre .1 .1 .1 .0 .few-nod
 
 -- where the chosen node was retired: the function's start, the node, and the scan words then
 abbrev entry : tie.After-retire → tie.Start
-entry r = r .before .before .before .before .before .before .before .before .before .before .before .before .before .before .before .before .before .before .before .before
+entry r = start (r .before .before .before .before)
 
 abbrev node : tie.After-retire → ℕ
 node r = r .before .before .before .before .before .choose .result - 1
 
 abbrev words : tie.After-retire → List ℕ
 words r = r .retire .last .0
-
--- they are as many as before
-words-long : (r : tie.After-retire) → length (words r) ≡ length (now (entry r .args .scan))
-words-long r = r .retire .kept .0
 
 -- the open keys are as before, but for the node's
 keyed : (r : tie.After-retire) (v : ℕ) → v < entry r .args .run .count
@@ -73,39 +73,39 @@ room r =
 
 choose-requires : tie.Need-choose-requires
 choose-requires c κs =
-    let s = c .before .before .before .before .before .before .before .before .before .before .before .before .before .before in
-    (s .pre .1 .1 .1 .0 .scan-long, few s, omega (arith, s .good .1 .1 .1 .1 .1 .1 .1 .1 .1 .1 .1 .1 .1 .1 .1 .1 .1 .1 .1 .0), s .pre .1 .1 .1 .0 .chained .blocks)
+    let s = c .before .before .before .before .before .before .before .before .before .before .before .before .before .before .before .before .before .before .before in
+    (s .pre .1 .1 .1 .0 .scan-long, few s, omega (arith, s .good .1 .1 .1 .1 .1 .1 .1 .1 .1 .1 .1 .1 .1 .1 .1 .1 .1 .1 .1 .1 .1 .1 .1 .1 .0), s .pre .1 .1 .1 .0 .chained .blocks)
 
 same-length : tie.Need-same-length
 same-length c = search needs
 
 returns : tie.Need-returns
 returns c =
-    let s = c .before .before .before .before .before .before .before .before .before .before .before .before .before .before .before .before in
-    λ t f a. ahead-finished t (f .valid) (s .args .nodes) (s .pre .1 .1 .1 .0 .few-nodes) (s .args .budget) (allStates t) (now (s .args .table)) (now (s .args .scan)) (s .args .run) a (sym (c .before .choose .ensures) ∙ c .if1 .taken)
+    let s = c .before .before .before .before .before .before .before .before .before .before .before .before .before .before .before .before .before .before .before .before .before in
+    ((λ t f a. ahead-finished t (f .valid) (s .args .nodes) (s .pre .1 .1 .1 .0 .few-nodes) (s .args .budget) (allStates t) (now (s .args .table)) (now (s .args .scan)) (s .args .run) a (sym (c .before .choose .ensures) ∙ c .if1 .taken)), s .pre .1 .0 .3)
 
 same-length-2 : tie.Need-same-length-2
 same-length-2 c = search needs
 
 returns-2 : tie.Need-returns-2
 returns-2 c =
-    let s = c .before .before .before .before .before .before .before .before .before .before .before .before .before .before .before .before .before .before in
-    λ t f a. ahead-spent t (f .valid) (s .args .nodes) (s .pre .1 .1 .1 .0 .few-nodes) (s .args .budget) (allStates t) (now (s .args .table)) (now (s .args .scan)) (s .args .run) a (c .before .before .before .choose .result - 1) (picked (c .before .before) .0) (c .if2 .taken)
+    let s = c .before .before .before .before .before .before .before .before .before .before .before .before .before .before .before .before .before .before .before .before .before .before .before in
+    ((λ t f a. ahead-spent t (f .valid) (s .args .nodes) (s .pre .1 .1 .1 .0 .few-nodes) (s .args .budget) (allStates t) (now (s .args .table)) (now (s .args .scan)) (s .args .run) a (c .before .before .before .choose .result - 1) (picked (c .before .before) .0) (c .if2 .taken)), s .pre .1 .0 .3)
 
 sub-u : tie.Need-sub-u
 sub-u c = search needs
 
 retire-requires : tie.Need-retire-requires
 retire-requires c κs =
-    let s = c .before .before .before .before .before .before .before .before .before .before .before .before .before .before .before .before .before .before .before in
+    let s = c .before .before .before .before .before .before .before .before .before .before .before .before .before .before .before .before .before .before .before .before .before .before .before .before in
     (s .pre .1 .1 .1 .0 .scan-long, few s, picked (c .before .before .before) .1)
 
-add-t36 : tie.Need-add-t36
-add-t36 c = omega (arith, entry (c .before .before .before) .pre .1 .1 .0 .2)
+add-t41 : tie.Need-add-t41
+add-t41 c = omega (arith, c .before .before .before .before .before .before .before .before .before .before .before .before .before .before .before .before .before .before .before .before .before .before .before .before .before .before .before .before .pre .1 .1 .0 .2)
 
 expand-requires : tie.Need-expand-requires
 expand-requires c κs =
-    let r = c .before .before .before .before .before .before .before in
+    let r = c .before .before .before .before .before .before .before .before .before .before in
     let s = entry r in
     (s .pre .0, (s .pre .1 .0, ((s .pre .1 .1 .0 .0, s .pre .1 .1 .0 .1, picked (r .before .before .before .before) .1), (room r, s .pre .1 .1 .1 .1))))
 
@@ -113,11 +113,7 @@ same-length-3 : tie.Need-same-length-3
 same-length-3 c = search needs
 
 same-length-4 : tie.Need-same-length-4
-same-length-4 c =
-    let r = c .before .before .before .before .before .before .before .before .before .before .before .before .before .before .before .before .before .before in
-    let w = c .before .before .before .before .before .before .before .before .before .before .expand in
-    let kept : length (w .last .1 .1 .1 .1 .1 .1 .1 .1 .1 .1 .1 .1 .1 .1 .1 .1 .0) ≡ length (words r) = w .kept .1 .1 .1 .1 .1 .1 .1 .1 .1 .1 .1 .1 .1 .1 .1 .1 .0 in
-    kept ∙ words-long r
+same-length-4 c = search needs
 
 same-length-5 : tie.Need-same-length-5
 same-length-5 c = search needs
@@ -125,43 +121,61 @@ same-length-5 c = search needs
 same-length-6 : tie.Need-same-length-6
 same-length-6 c = search needs
 
-returns-3 : tie.Need-returns-3
-returns-3 c =
-    let r = c .before .before .before .before .before .before .before .before .before .before .before .before .before .before .before .before .before .before in
-    let s = entry r in
-    let a = s .args in
-    let w = c .before .before .before .before .before .before .before .before .before .before .expand in
-    λ t f h. ahead-full t (f .valid) (a .nodes) (s .pre .1 .1 .1 .0 .few-nodes) (a .budget) (allStates t) (now (a .table)) (now (a .scan)) (a .run) h (node r)
-    (picked (r .before .before .before .before) .0) (long s) (r .before .before .if2 .left) (words r) (keyed r)
-    (w .result) (w .last .1 .1 .1 .1 .1 .1 .1 .1 .1 .1 .1 .1 .1 .1 .1 .0) (w .last .1 .1 .1 .1 .1 .1 .1 .1 .1 .1 .1 .1 .1 .1 .1 .1 .0) (w .ensures .1 t f) (c .if3 .taken)
-
 same-length-7 : tie.Need-same-length-7
 same-length-7 c = search needs
 
 same-length-8 : tie.Need-same-length-8
-same-length-8 c =
-    let r = c .before .before .before .before .before .before .before .before .before .before .before .before .before .before .before .before .before .before in
-    let w = c .before .before .before .before .before .before .before .before .before .before .expand in
-    let kept : length (w .last .1 .1 .1 .1 .1 .1 .1 .1 .1 .1 .1 .1 .1 .1 .1 .1 .0) ≡ length (words r) = w .kept .1 .1 .1 .1 .1 .1 .1 .1 .1 .1 .1 .1 .1 .1 .1 .1 .0 in
-    kept ∙ words-long r
+same-length-8 c = search needs
 
 same-length-9 : tie.Need-same-length-9
 same-length-9 c = search needs
 
+returns-3 : tie.Need-returns-3
+returns-3 c =
+    let r = c .before .before .before .before .before .before .before .before .before .before .before .before .before .before .before .before .before .before .before .before .before .before .before .before .before .before .before in
+    let s = entry r in
+    let a = s .args in
+    let w = c .before .before .before .before .before .before .before .before .before .before .before .before .before .before .before .before .expand in (
+      (λ t f h. ahead-full t (f .valid) (a .nodes) (s .pre .1 .1 .1 .0 .few-nodes) (a .budget) (allStates t) (now (a .table)) (now (a .scan)) (a .run) h (node r)
+          (picked (r .before .before .before .before) .0) (long s) (r .before .before .if2 .left) (words r) (keyed r)
+          (w .result) (w .last .1 .1 .1 .1 .1 .1 .1 .1 .1 .1 .1 .1 .1 .1 .1 .1 .1 .0) (w .last .1 .1 .1 .1 .1 .1 .1 .1 .1 .1 .1 .1 .1 .1 .1 .1 .1 .1 .0) (w .ensures .1 .0 t f) (c .if3 .taken)),
+      w .ensures .1 .1,
+    )
+
 same-length-10 : tie.Need-same-length-10
 same-length-10 c = search needs
 
+same-length-11 : tie.Need-same-length-11
+same-length-11 c = search needs
+
+same-length-12 : tie.Need-same-length-12
+same-length-12 c = search needs
+
+same-length-13 : tie.Need-same-length-13
+same-length-13 c = search needs
+
+same-length-14 : tie.Need-same-length-14
+same-length-14 c = search needs
+
+same-length-15 : tie.Need-same-length-15
+same-length-15 c = search needs
+
+same-length-16 : tie.Need-same-length-16
+same-length-16 c = search needs
+
 returns-4 : tie.Need-returns-4
 returns-4 c =
-    let r = c .before .before .before .before .before .before .before .before .before .before .before .before .before .before .before .before .before .before in
+    let r = c .before .before .before .before .before .before .before .before .before .before .before .before .before .before .before .before .before .before .before .before .before .before .before .before .before .before .before in
     let s = entry r in
     let a = s .args in
-    let w = c .before .before .before .before .before .before .before .before .before .before .expand in
-    λ t f h. (
-      ahead-on t (f .valid) (a .nodes) (s .pre .1 .1 .1 .0 .few-nodes) (a .budget) (allStates t) (now (a .table)) (now (a .scan)) (a .run) h (node r)
-          (picked (r .before .before .before .before) .0) (long s) (r .before .before .if2 .left) (words r) (keyed r)
-          (w .result) (w .last .1 .1 .1 .1 .1 .1 .1 .1 .1 .1 .1 .1 .1 .1 .1 .0) (w .last .1 .1 .1 .1 .1 .1 .1 .1 .1 .1 .1 .1 .1 .1 .1 .1 .0) (w .ensures .1 t f) (c .if3 .left) (w .ensures .0 .2) (rw (row-on t (board s) (f .fits)) at (w .ensures .0 .3)),
-      w .ensures .0 .2,
+    let w = c .before .before .before .before .before .before .before .before .before .before .before .before .before .before .before .before .expand in (
+      (λ t f h. (
+        ahead-on t (f .valid) (a .nodes) (s .pre .1 .1 .1 .0 .few-nodes) (a .budget) (allStates t) (now (a .table)) (now (a .scan)) (a .run) h (node r)
+            (picked (r .before .before .before .before) .0) (long s) (r .before .before .if2 .left) (words r) (keyed r)
+            (w .result) (w .last .1 .1 .1 .1 .1 .1 .1 .1 .1 .1 .1 .1 .1 .1 .1 .1 .1 .0) (w .last .1 .1 .1 .1 .1 .1 .1 .1 .1 .1 .1 .1 .1 .1 .1 .1 .1 .1 .0) (w .ensures .1 .0 t f) (c .if3 .left) (w .ensures .0 .2) (rw (row-on t (board s) (f .fits)) at (w .ensures .0 .3)),
+        w .ensures .0 .2,
+      )),
+      w .ensures .1 .1,
     )
 
 pub next-round-spec : {M : Type 1} → statement M
@@ -175,15 +189,21 @@ next-round-spec =
     returns-2
     sub-u
     retire-requires
-    add-t36
+    add-t41
     expand-requires
     same-length-3
     same-length-4
     same-length-5
     same-length-6
-    returns-3
     same-length-7
     same-length-8
     same-length-9
+    returns-3
     same-length-10
+    same-length-11
+    same-length-12
+    same-length-13
+    same-length-14
+    same-length-15
+    same-length-16
     returns-4)

@@ -1,15 +1,16 @@
 -- `explore::offer` meets its contract: one law for each of its four ends. Assumes nothing.
 use mathlib.Core.Path.{_≡_, _∙_}
 use mathlib.Core.List.{List}
-use Prim.Native.Nat.{ℕ, _+_, _≤_}
+use Prim.Native.Nat.{ℕ, _+_, _≤_, _<_}
 use native.Mathlib.Omega.{arith}
 use denote.Ref.{now}
 use lib.ListN.{length}
-use borrow.Author.Needs.{needs}
 use Rattle.layer.specs.Board.{Board}
 use Rattle.layer.specs.Lent.{boardOf}
+use Rattle.nodes.specs.Chain.Laws.{class-lt}
 use Rattle.explore.specs.Held.Laws.{rows-fit, cut}
 use Rattle.explore.specs.Held.Turns.{offered-above, offered-dominated, offered-full, offered-kept}
+use borrow.Author.Needs.{needs}
 use Rattle.explore.proofs.offer.Statement.{statement}
 use Rattle.explore.proofs.offer.Tie as tie
 
@@ -19,16 +20,9 @@ board s =
     let a = s .args in
     boardOf (a .leaves) (a .actions) (now (a .bases)) (now (a .moves)) (now (a .costs)) (now (a .kinds)) (a .factors) (now (a .conditions))
 
--- where the dominance is tested: the function's start, and the scan words then
-abbrev entry : tie.After-is-dominated → tie.Start
-entry d = d .before .before .before .before .before .before .before .before .before .before .before .before .before .before .before .before .before
-
+-- the scan words behind the test of dominance
 abbrev words : tie.After-is-dominated → List ℕ
 words d = d .is-dominated .last .1 .1 .1 .0
-
--- they are as many as before
-words-long : (d : tie.After-is-dominated) → length (words d) ≡ length (now (entry d .args .scan))
-words-long d = d .is-dominated .kept .1 .1 .1 .0
 
 mul-states : tie.Need-mul-states
 mul-states c = search needs
@@ -38,28 +32,30 @@ shared-slice-read-states c = search needs
 
 returns : tie.Need-returns
 returns c =
-    let s = c .before .before .before .before .before .before .before .before .before .before .before .before in
-    let a = s .args in
-    offered-above (board s) (now (a .goals)) (a .goal) (a .nodes) (now (a .table)) (now (a .scan)) (a .run)
-    (a .spot) (a .paid) (now (a .begin)) (a .parent) (a .action) (s .pre .1 .1 .1 .few-nodes) (s .pre .1 .1 .1 .count-few)
-    (a .key) (s .pre .1 .1 .0 .0) (c .if1 .taken)
+    let s = c .before .before .before .before .before .before .before .before .before .before .before .before .before .before .before .before .before in
+    let a = s .args in (
+      offered-above (board s) (now (a .goals)) (a .goal) (a .nodes) (now (a .table)) (now (a .scan)) (a .run)
+          (a .spot) (a .paid) (now (a .begin)) (a .parent) (a .action) (s .pre .1 .1 .1 .1 .few-nodes) (s .pre .1 .1 .1 .1 .count-few)
+          (a .key) (s .pre .1 .1 .1 .0 .0) (c .if1 .taken),
+      s .pre .1 .0 .2,
+    )
 
 class-of-requires : tie.Need-class-of-requires
 class-of-requires c κs = search needs
 
 is-dominated-requires : tie.Need-is-dominated-requires
 is-dominated-requires c κs =
-    let s = c .before .before .before .before .before .before .before .before .before .before .before .before .before .before .before .before in
-    let room = s .pre .1 .1 .1 in
+    let s = c .before .before .before .before .before .before .before .before .before .before .before .before .before .before .before .before .before .before .before .before .before in
+    let room = s .pre .1 .1 .1 .1 in
     let some : s .args .run .count ≤ s .args .nodes + 1 = omega (arith, room .count-few) in (
       (
         room .few-states,
         omega (arith, room .few-nodes, room .count-few),
         rows-fit room (s .args .run .count) some,
-        s .pre .1 .0 .0 .fits,
+        s .pre .1 .1 .0 .0 .fits,
         room .chained,
       ),
-      (c .before .before .before .class-of .ensures, s .pre .1 .1 .0 .1),
+      (c .before .before .before .class-of .ensures, s .pre .1 .1 .1 .0 .1),
     )
 
 same-length : tie.Need-same-length
@@ -74,11 +70,13 @@ same-length-3 c = search needs
 returns-2 : tie.Need-returns-2
 returns-2 c =
     let d = c .before .before .before in
-    let s = entry d in
-    let a = s .args in
-    offered-dominated (board s) (now (a .goals)) (a .goal) (a .nodes) (now (a .table)) (now (a .scan)) (a .run)
-    (a .spot) (a .paid) (now (a .begin)) (a .parent) (a .action) (s .pre .1 .1 .1 .few-nodes) (s .pre .1 .1 .1 .count-few)
-    (a .key) (s .pre .1 .1 .0 .0) (d .before .before .before .before .before .if1 .left) (d .is-dominated .result) (d .is-dominated .ensures .0) (words d) (d .is-dominated .ensures .1) (c .if2 .taken)
+    let s = c .before .before .before .before .before .before .before .before .before .before .before .before .before .before .before .before .before .before .before .before .before .before .before .before .before in
+    let a = s .args in (
+      offered-dominated (board s) (now (a .goals)) (a .goal) (a .nodes) (now (a .table)) (now (a .scan)) (a .run)
+          (a .spot) (a .paid) (now (a .begin)) (a .parent) (a .action) (s .pre .1 .1 .1 .1 .few-nodes) (s .pre .1 .1 .1 .1 .count-few)
+          (a .key) (s .pre .1 .1 .1 .0 .0) (c .before .before .before .before .before .before .before .before .if1 .left) (d .is-dominated .result) (d .is-dominated .ensures .0) (words d) (d .is-dominated .ensures .1) (c .if2 .taken),
+      s .pre .1 .0 .2,
+    )
 
 same-length-4 : tie.Need-same-length-4
 same-length-4 c = search needs
@@ -92,29 +90,32 @@ same-length-6 c = search needs
 returns-3 : tie.Need-returns-3
 returns-3 c =
     let d = c .before .before .before .before in
-    let s = entry d in
-    let a = s .args in
-    offered-full (board s) (now (a .goals)) (a .goal) (a .nodes) (now (a .table)) (now (a .scan)) (a .run)
-    (a .spot) (a .paid) (now (a .begin)) (a .parent) (a .action) (s .pre .1 .1 .1 .few-nodes) (s .pre .1 .1 .1 .count-few)
-    (a .key) (s .pre .1 .1 .0 .0) (d .before .before .before .before .before .if1 .left) (d .is-dominated .result) (d .is-dominated .ensures .0) (words d) (d .is-dominated .ensures .1) (c .before .if2 .left) (c .if3 .taken)
+    let s = c .before .before .before .before .before .before .before .before .before .before .before .before .before .before .before .before .before .before .before .before .before .before .before .before .before .before in
+    let a = s .args in (
+      offered-full (board s) (now (a .goals)) (a .goal) (a .nodes) (now (a .table)) (now (a .scan)) (a .run)
+          (a .spot) (a .paid) (now (a .begin)) (a .parent) (a .action) (s .pre .1 .1 .1 .1 .few-nodes) (s .pre .1 .1 .1 .1 .count-few)
+          (a .key) (s .pre .1 .1 .1 .0 .0) (c .before .before .before .before .before .before .before .before .before .if1 .left) (d .is-dominated .result) (d .is-dominated .ensures .0) (words d) (d .is-dominated .ensures .1) (c .before .if2 .left) (c .if3 .taken),
+      s .pre .1 .0 .2,
+    )
 
-settle-layer-requires : tie.Need-settle-layer-requires
-settle-layer-requires c κs =
-    let s = entry (c .before .before .before .before .before) in
-    (s .pre .0, s .pre .1 .0 .0 .fits)
+settle-begin-requires : tie.Need-settle-begin-requires
+settle-begin-requires c κs =
+    let s = c .before .before .before .before .before .before .before .before .before .before .before .before .before .before .before .before .before .before .before .before .before .before .before .before .before .before .before .before .before in
+    (s .pre .0, (s .pre .1 .0 .0, s .pre .1 .0 .1, s .pre .1 .0 .2, omega (arith, class-lt (s .args .spot), c .before .before .before .before .before .before .before .before .before .before .before .class-of .ensures), s .pre .1 .0 .3, s .pre .1 .1 .0 .0 .fits))
 
 keep-requires : tie.Need-keep-requires
 keep-requires c κs =
-    let n = c .before .before .before .before .before .settle-layer in
-    let d = c .before .before .before .before .before .before .before .before .before .before .before in
-    let s = entry d in
-    let room = s .pre .1 .1 .1 in
-    let left = c .before .before .before .before .before .before .before .if3 .left in
-    let new = n .last .1 .1 .1 .1 .1 .1 .1 .1 .1 .0 in
-    let kept : length new ≡ length (now (s .args .begin)) = n .kept .1 .1 .1 .1 .1 .1 .1 .1 .1 .0 in
-    let fits = s .pre .1 .0 .0 .fits in (
-      (cut {n = length new} (s .pre .0) (omega arith), s .pre .1 .0 .1),
-      (room .few-states, omega (arith, room .few-nodes), rows-fit room (s .args .run .count + 1) (omega arith), words-long d ∙ room .scan-long),
+    let n = c .before .before .before .before .before .before .before .before .before .settle-begin in
+    let d = c .before .before .before .before .before .before .before .before .before .before .before .before .before .before .before .before .before in
+    let s = c .before .before .before .before .before .before .before .before .before .before .before .before .before .before .before .before .before .before .before .before .before .before .before .before .before .before .before .before .before .before .before .before .before .before .before .before .before .before .before in
+    let room = s .pre .1 .1 .1 .1 in
+    let left = c .before .before .before .before .before .before .before .before .before .before .before .before .before .if3 .left in
+    let new = n .last .1 .1 .1 .1 .1 .1 .1 .1 .1 .1 .1 .1 .1 .0 in
+    let kept : length new ≡ length (now (s .args .begin)) = n .kept .1 .1 .1 .1 .1 .1 .1 .1 .1 .1 .1 .1 .1 .0 in
+    let fits = s .pre .1 .1 .0 .0 .fits in
+    let long : length (words d) ≡ length (now (s .args .scan)) = d .is-dominated .kept .1 .1 .1 .0 in (
+      (cut {n = length new} (s .pre .0) (omega arith), s .pre .1 .1 .0 .1),
+      (room .few-states, omega (arith, room .few-nodes), rows-fit room (s .args .run .count + 1) (omega arith), long ∙ room .scan-long),
     )
 
 same-length-7 : tie.Need-same-length-7
@@ -125,22 +126,30 @@ same-length-8 c = search needs
 
 same-length-9 : tie.Need-same-length-9
 same-length-9 c =
-    let d = c .before .before .before .before .before .before .before .before .before .before .before .before .before .before .before .before in
+    let d = c .before .before .before .before .before .before .before .before .before .before .before .before .before .before .before .before .before .before .before .before .before .before in
     let w = c .before .before .before .before .keep in
     let kept : length (w .last .1 .1 .1 .1 .1 .1 .1 .1 .1 .1 .1 .1 .0) ≡ length (words d) = w .kept .1 .1 .1 .1 .1 .1 .1 .1 .1 .1 .1 .1 .0 in
-    kept ∙ words-long d
+    kept ∙ d .is-dominated .kept .1 .1 .1 .0
+
+same-length-10 : tie.Need-same-length-10
+same-length-10 c = search needs
+
+same-length-11 : tie.Need-same-length-11
+same-length-11 c = search needs
 
 returns-4 : tie.Need-returns-4
 returns-4 c =
     let w = c .before .before .before .before .keep in
-    let n = c .before .before .before .before .before .before .before .before .before .before .settle-layer in
-    let d = c .before .before .before .before .before .before .before .before .before .before .before .before .before .before .before .before in
-    let s = entry d in
-    let a = s .args in
-    offered-kept (board s) (now (a .goals)) (a .goal) (a .nodes) (now (a .table)) (now (a .scan)) (a .run)
-    (a .spot) (a .paid) (now (a .begin)) (a .parent) (a .action) (s .pre .1 .1 .1 .few-nodes) (s .pre .1 .1 .1 .count-few)
-    (a .key) (s .pre .1 .1 .0 .0) (d .before .before .before .before .before .if1 .left) (d .is-dominated .result) (d .is-dominated .ensures .0) (words d) (d .is-dominated .ensures .1) (c .before .before .before .before .before .before .before .before .before .before .before .before .before .if2 .left) (c .before .before .before .before .before .before .before .before .before .before .before .before .if3 .left)
-    (s .pre .1 .1 .1 .scan-long) (n .last .1 .1 .1 .1 .1 .1 .1 .1 .1 .0) (n .ensures) (w .last .1 .1 .1 .1 .1 .1 .1 .1 .1 .1 .1 .0) (w .last .1 .1 .1 .1 .1 .1 .1 .1 .1 .1 .1 .1 .0) (w .result) (w .ensures)
+    let n = c .before .before .before .before .before .before .before .before .before .before .before .before .before .before .settle-begin in
+    let d = c .before .before .before .before .before .before .before .before .before .before .before .before .before .before .before .before .before .before .before .before .before .before in
+    let s = c .before .before .before .before .before .before .before .before .before .before .before .before .before .before .before .before .before .before .before .before .before .before .before .before .before .before .before .before .before .before .before .before .before .before .before .before .before .before .before .before .before .before .before .before in
+    let a = s .args in (
+      offered-kept (board s) (now (a .goals)) (a .goal) (a .nodes) (now (a .table)) (now (a .scan)) (a .run)
+          (a .spot) (a .paid) (now (a .begin)) (a .parent) (a .action) (s .pre .1 .1 .1 .1 .few-nodes) (s .pre .1 .1 .1 .1 .count-few)
+          (a .key) (s .pre .1 .1 .1 .0 .0) (c .before .before .before .before .before .before .before .before .before .before .before .before .before .before .before .before .before .before .before .before .before .before .before .before .before .before .before .if1 .left) (d .is-dominated .result) (d .is-dominated .ensures .0) (words d) (d .is-dominated .ensures .1) (c .before .before .before .before .before .before .before .before .before .before .before .before .before .before .before .before .before .before .before .if2 .left) (c .before .before .before .before .before .before .before .before .before .before .before .before .before .before .before .before .before .before .if3 .left)
+          (s .pre .1 .1 .1 .1 .scan-long) (n .last .1 .1 .1 .1 .1 .1 .1 .1 .1 .1 .1 .1 .1 .0) (n .ensures .0) (w .last .1 .1 .1 .1 .1 .1 .1 .1 .1 .1 .1 .0) (w .last .1 .1 .1 .1 .1 .1 .1 .1 .1 .1 .1 .1 .0) (w .result) (w .ensures),
+      n .ensures .1,
+    )
 
 pub offer-spec : {M : Type 1} → statement M
 offer-spec =
@@ -159,9 +168,11 @@ offer-spec =
     same-length-5
     same-length-6
     returns-3
-    settle-layer-requires
+    settle-begin-requires
     keep-requires
     same-length-7
     same-length-8
     same-length-9
+    same-length-10
+    same-length-11
     returns-4)

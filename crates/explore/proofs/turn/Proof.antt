@@ -1,17 +1,16 @@
--- `explore::turn` meets its contract: the tables say whether the action is a centre action and its centre conditions hold, and its layer's begin is
--- offered. Assumes nothing.
-use mathlib.Core.Path.{_≡_, _∙_}
+-- `explore::turn` meets its contract: the tables say whether the action is a centre action, and its layer's begin is offered. Assumes nothing.
+use mathlib.Core.Path.{_≡_, refl, sym, _∙_}
+use mathlib.Core.Bool.{true}
 use native.Mathlib.Omega.{arith}
 use denote.Ref.{now}
 use lib.ListN.{length, getD, drop}
-use borrow.Author.Needs.{needs}
 use Rattle.layer.specs.Board.{Board, rowOn}
-use Rattle.layer.specs.First.{first-of}
 use Rattle.layer.specs.Lent.{boardOf}
 use Rattle.nodes.specs.Scan.{keyBy}
 use Rattle.explore.specs.Still.{key-more}
 use Rattle.explore.specs.Held.Laws.{cut}
-use Rattle.explore.specs.Held.Turns.{moved-leaf, moved-above, moved-unmet, moved-offered}
+use Rattle.explore.specs.Held.Turns.{moved-leaf, moved-above, moved-offered}
+use borrow.Author.Needs.{needs}
 use Rattle.explore.proofs.turn.Statement.{statement}
 use Rattle.explore.proofs.turn.Tie as tie
 
@@ -26,56 +25,43 @@ shared-slice-read-if1 c = search needs
 
 returns : tie.Need-returns
 returns c =
-    let s = c .before .before .before .before .before .before .before .before .before .before .before .before .before .before .before .before in
-    let a = s .args in
-    moved-leaf (board s) (now (a .effects)) (now (a .goals)) (a .goal) (a .nodes) (a .spot) (a .paid) (now (a .old)) (a .u) (a .a)
-    (now (a .table)) (now (a .scan)) (a .run) (s .pre .1 .1 .1 .1 .few-nodes) (s .pre .1 .1 .1 .1 .count-few) (s .pre .1 .1 .0 .5) (s .pre .1 .1 .0 .4)
-    (c .if1 .taken)
+    let s = c .before .before .before .before .before .before .before .before .before .before .before .before .before .before .before .before .before .before .before in
+    let a = s .args in (
+      moved-leaf (board s) (now (a .effects)) (now (a .goals)) (a .goal) (a .nodes) (a .spot) (a .paid) (now (a .old)) (a .u) (a .a)
+          (now (a .table)) (now (a .scan)) (a .run) (s .pre .1 .1 .1 .1 .few-nodes) (s .pre .1 .1 .1 .1 .count-few) (s .pre .1 .1 .0 .5) (s .pre .1 .1 .0 .4)
+          (c .if1 .taken),
+      s .pre .1 .0 .3,
+    )
 
 mul-cost : tie.Need-mul-cost
 mul-cost c =
-    let s = c .before .before .before .before .before .before .before .before .before .before .before .before .before .before .before .before in
+    let s = c .before .before .before .before .before .before .before .before .before .before .before .before .before .before .before .before .before .before .before in
     omega (arith, s .pre .0 .few-actions, s .pre .1 .1 .0 .5)
 
 shared-slice-read-cost : tie.Need-shared-slice-read-cost
 shared-slice-read-cost c =
-    let s = c .before .before .before .before .before .before .before .before .before .before .before .before .before .before .before .before .before in
+    let s = c .before .before .before .before .before .before .before .before .before .before .before .before .before .before .before .before .before .before .before .before in
     omega (arith, s .pre .0 .few-actions, s .pre .0 .costs-long, s .pre .1 .1 .0 .5)
 
 cast-cost : tie.Need-cast-cost
-cast-cost c =
-    let s = c .before .before .before .before .before .before .before .before .before .before .before .before .before .before .before .before .before in
-    omega (arith, c .shared-slice-known13 .given (s .args .a))
+cast-cost c = omega (arith, c .shared-slice-known14 .given (c .before .before .before .before .before .before .before .before .before .before .before .before .before .before .before .before .before .before .before .before .args .a))
 
 add-price-requires : tie.Need-add-price-requires
 add-price-requires c κs = search needs
 
 returns-2 : tie.Need-returns-2
 returns-2 c =
-    let s = c .before .before .before .before .before .before .before .before .before .before .before .before .before .before .before .before .before .before .before .before in
-    let a = s .args in
-    moved-above (board s) (now (a .effects)) (now (a .goals)) (a .goal) (a .nodes) (a .spot) (a .paid) (now (a .old)) (a .u) (a .a)
-    (now (a .table)) (now (a .scan)) (a .run) (s .pre .1 .1 .1 .1 .few-nodes) (s .pre .1 .1 .1 .1 .count-few) (s .pre .1 .1 .0 .5) (s .pre .1 .1 .0 .4)
-    (c .before .before .before .before .if1 .left) (c .before .before .add-price .result) (rw (s .pre .1 .1 .1 .0 .0) at (c .before .before .add-price .ensures)) (c .if2 .taken)
-
-met-by-requires : tie.Need-met-by-requires
-met-by-requires c κs =
-    let s = c .before .before .before .before .before .before .before .before .before .before .before .before .before .before .before .before .before .before .before .before in
-    let first = first-of (board s) (now (s .args .firsts)) (s .args .a) (s .pre .0) (s .pre .1 .0 .1) (s .pre .1 .1 .0 .5) in
-    (first .0, first .1, first .2, s .pre .1 .0 .2, s .pre .1 .0 .3)
-
-returns-3 : tie.Need-returns-3
-returns-3 c =
-    let t = c .before in
-    let s = c .before .before .before .before .before .before .before .before .before .before .before .before .before .before .before .before .before .before .before .before .before .before in
-    let a = s .args in
-    moved-unmet (board s) (now (a .effects)) (now (a .goals)) (a .goal) (a .nodes) (a .spot) (a .paid) (now (a .old)) (a .u) (a .a)
-    (now (a .table)) (now (a .scan)) (a .run) (s .pre .1 .1 .1 .1 .few-nodes) (s .pre .1 .1 .1 .1 .count-few) (s .pre .1 .1 .0 .5) (s .pre .1 .1 .0 .4)
-    (c .before .before .before .before .before .before .if1 .left) (t .met-by .result) (t .met-by .ensures) (c .if3 .taken)
+    let s = c .before .before .before .before .before .before .before .before .before .before .before .before .before .before .before .before .before .before .before .before .before .before .before in
+    let a = s .args in (
+      moved-above (board s) (now (a .effects)) (now (a .goals)) (a .goal) (a .nodes) (a .spot) (a .paid) (now (a .old)) (a .u) (a .a)
+          (now (a .table)) (now (a .scan)) (a .run) (s .pre .1 .1 .1 .1 .few-nodes) (s .pre .1 .1 .1 .1 .count-few) (s .pre .1 .1 .0 .5) (s .pre .1 .1 .0 .4)
+          (c .before .before .before .before .if1 .left) (c .before .before .add-price .result) (rw (s .pre .1 .1 .1 .0 .0) at (c .before .before .add-price .ensures)) (c .if2 .taken),
+      s .pre .1 .0 .3,
+    )
 
 pairs-of-requires : tie.Need-pairs-of-requires
 pairs-of-requires c κs =
-    let s = c .before .before .before .before .before .before .before .before .before .before .before .before .before .before .before .before .before .before .before .before .before .before in
+    let s = c .before .before .before .before .before .before .before .before .before .before .before .before .before .before .before .before .before .before .before .before .before .before .before in
     omega (arith, s .pre .0 .few-actions, s .pre .1 .1 .0 .0, s .pre .1 .1 .0 .5)
 
 after-requires : tie.Need-after-requires
@@ -86,11 +72,11 @@ add-price-requires-2 c κs = search needs
 
 begin-of-requires : tie.Need-begin-of-requires
 begin-of-requires c κs =
-    let s = c .before .before .before .before .before .before .before .before .before .before .before .before .before .before .before .before .before .before .before .before .before .before .before .before .before .before in
+    let s = c .before .before .before .before .before .before .before .before .before .before .before .before .before .before .before .before .before .before .before .before .before .before .before .before .before .before .before in
     let a = s .args in
     let all = s .pre .0 .few-all in
-    let low : c .before .before .before .before .before .before .before .before .add-price .result ≡ keyBy (a .leaves) (now (a .bases)) (c .before .add-price2 .result) (now (a .old)) =
-    c .before .before .before .before .before .before .before .before .add-price .ensures
+    let low : c .before .before .before .before .before .before .add-price .result ≡ keyBy (a .leaves) (now (a .bases)) (c .before .add-price2 .result) (now (a .old)) =
+    c .before .before .before .before .before .before .add-price .ensures
     ∙ rw (s .pre .1 .1 .1 .0 .0, c .before .add-price2 .ensures) (key-more (a .leaves) (now (a .bases)) (a .paid) (getD (now (a .costs)) (a .a) 0) (now (a .old))) in (
       s .pre .0,
       (
@@ -104,18 +90,21 @@ begin-of-requires c κs =
 
 offer-requires : tie.Need-offer-requires
 offer-requires c κs =
-    let n = c .before .before .before .before .before .begin-of in
-    let s = c .before .before .before .before .before .before .before .before .before .before .before .before .before .before .before .before .before .before .before .before .before .before .before .before .before .before .before .before .before .before .before .before in
+    let n = c .before .before .before .before .before .before .before .begin-of in
+    let s = c .before .before .before .before .before .before .before .before .before .before .before .before .before .before .before .before .before .before .before .before .before .before .before .before .before .before .before .before .before .before .before .before .before .before .before in
     let next = n .last .1 .1 .1 .1 .1 .1 .1 .1 .1 .1 .1 .1 .1 .1 .0 in
     let kept : length next ≡ length (now (s .args .next)) = n .kept .1 .1 .1 .1 .1 .1 .1 .1 .1 .1 .1 .1 .1 .1 .0 in
     let all = s .pre .0 .few-all in (
       s .pre .0,
       (
+        (s .pre .1 .0 .1, s .pre .1 .0 .2, s .pre .1 .0 .3, s .pre .1 .0 .5),
         (
-          cut {n = length next} (s .pre .0) (omega (arith, s .pre .1 .1 .0 .3)),
-          cut {n = length (now (s .args .goals))} (s .pre .0) (omega (arith, s .pre .1 .1 .0 .1)),
+          (
+            cut {n = length next} (s .pre .0) (omega (arith, s .pre .1 .1 .0 .3)),
+            cut {n = length (now (s .args .goals))} (s .pre .0) (omega (arith, s .pre .1 .1 .0 .1)),
+          ),
+          ((n .ensures .1, n .ensures .2), s .pre .1 .1 .1 .1),
         ),
-        ((n .ensures .1, n .ensures .2), s .pre .1 .1 .1 .1),
       ),
     )
 
@@ -128,22 +117,28 @@ same-length-2 c = search needs
 same-length-3 : tie.Need-same-length-3
 same-length-3 c = search needs
 
-returns-4 : tie.Need-returns-4
-returns-4 c =
-    let o = c .before .before .before .before .before .before .offer in
-    let n = c .before .before .before .before .before .before .before .before .before .before .before .before .begin-of in
-    let p = c .before .before .before .before .before .before .before .before .before .before .before .before .before .before .add-price2 in
-    let f = c .before .before .before .before .before .before .before .before .before .before .before .before .before .before .before .after in
-    let g = c .before .before .before .before .before .before .before .before .before .before .before .before .before .before .before .before .pairs-of in
-    let t = c .before .before .before .before .before .before .before .before .before .before .before .before .before .before .before .before .before .before .met-by in
-    let s = c .before .before .before .before .before .before .before .before .before .before .before .before .before .before .before .before .before .before .before .before .before .before .before .before .before .before .before .before .before .before .before .before .before .before .before .before .before .before .before in
-    let a = s .args in
-    moved-offered (board s) (now (a .effects)) (now (a .goals)) (a .goal) (a .nodes) (a .spot) (a .paid) (now (a .old)) (a .u) (a .a)
-    (now (a .table)) (now (a .scan)) (a .run) (s .pre .1 .1 .1 .1 .few-nodes) (s .pre .1 .1 .1 .1 .count-few) (s .pre .1 .1 .0 .5) (s .pre .1 .1 .0 .4)
-    (c .before .before .before .before .before .before .before .before .before .before .before .before .before .before .before .before .before .before .before .before .before .before .before .if1 .left) (t .result) (t .ensures) (c .before .before .before .before .before .before .before .before .before .before .before .before .before .before .before .before .before .if3 .left)
-    (g .result) (n .last .1 .1 .1 .1 .1 .1 .1 .1 .1 .1 .1 .1 .1 .1 .0) (drop (rowOn (board s)) (now (a .next))) (f .result) (p .result)
-    (g .ensures) (f .ensures) (n .ensures .0) (p .ensures)
-    (o .last .1 .1 .1 .1 .1 .1 .1 .1 .1 .1 .1 .1 .1 .1 .1 .1 .1 .1 .0) (o .last .1 .1 .1 .1 .1 .1 .1 .1 .1 .1 .1 .1 .1 .1 .1 .1 .1 .1 .1 .0) (o .result) (o .ensures)
+same-length-4 : tie.Need-same-length-4
+same-length-4 c = search needs
+
+same-length-5 : tie.Need-same-length-5
+same-length-5 c = search needs
+
+returns-3 : tie.Need-returns-3
+returns-3 c =
+    let o = c .before .before .before .before .before .before .before .before .before .before .offer in
+    let n = c .before .before .before .before .before .before .before .before .before .before .before .before .before .before .before .before .before .before .begin-of in
+    let p = c .before .before .before .before .before .before .before .before .before .before .before .before .before .before .before .before .before .before .before .before .add-price2 in
+    let f = c .before .before .before .before .before .before .before .before .before .before .before .before .before .before .before .before .before .before .before .before .before .after in
+    let g = c .before .before .before .before .before .before .before .before .before .before .before .before .before .before .before .before .before .before .before .before .before .before .pairs-of in
+    let s = c .before .before .before .before .before .before .before .before .before .before .before .before .before .before .before .before .before .before .before .before .before .before .before .before .before .before .before .before .before .before .before .before .before .before .before .before .before .before .before .before .before .before .before .before .before .before in
+    let a = s .args in (
+      moved-offered (board s) (now (a .effects)) (now (a .goals)) (a .goal) (a .nodes) (a .spot) (a .paid) (now (a .old)) (a .u) (a .a)
+          (now (a .table)) (now (a .scan)) (a .run) (s .pre .1 .1 .1 .1 .few-nodes) (s .pre .1 .1 .1 .1 .count-few) (s .pre .1 .1 .0 .5) (s .pre .1 .1 .0 .4)
+          (c .before .before .before .before .before .before .before .before .before .before .before .before .before .before .before .before .before .before .before .before .before .before .before .before .before .before .before .if1 .left) true (sym (s .pre .1 .0 .4)) refl
+          (g .result) (n .last .1 .1 .1 .1 .1 .1 .1 .1 .1 .1 .1 .1 .1 .1 .0) (drop (rowOn (board s)) (now (a .next))) (f .result) (p .result)
+          (g .ensures) (f .ensures) (n .ensures .0) (p .ensures) (o .last .1 .1 .1 .1 .1 .1 .1 .1 .1 .1 .1 .1 .1 .1 .1 .1 .1 .1 .1 .1 .1 .0) (o .last .1 .1 .1 .1 .1 .1 .1 .1 .1 .1 .1 .1 .1 .1 .1 .1 .1 .1 .1 .1 .1 .1 .0) (o .result) (o .ensures .0),
+      o .ensures .1,
+    )
 
 pub turn-spec : {M : Type 1} → statement M
 turn-spec =
@@ -156,8 +151,6 @@ turn-spec =
     cast-cost
     add-price-requires
     returns-2
-    met-by-requires
-    returns-3
     pairs-of-requires
     after-requires
     add-price-requires-2
@@ -166,4 +159,6 @@ turn-spec =
     same-length
     same-length-2
     same-length-3
-    returns-4)
+    same-length-4
+    same-length-5
+    returns-3)

@@ -32,7 +32,7 @@ use Rattle.search.specs.Explore.{nodeAt, belowBest, bestWith, keep}
 use Rattle.search.specs.Explore.Laws.{Base}
 use Rattle.nodes.specs.Chain.{signOf, classOf, linkedTo, Recalled}
 use Rattle.nodes.specs.Chain.Laws.{linked-key, chained-recalled, chained-more}
-use Rattle.nodes.specs.Row.{spotOf, nodeOf, nodeIn, nodesIn}
+use Rattle.nodes.specs.Row.{spotOf, nodeOf, nodeIn, nodesIn, Packed}
 use Rattle.nodes.specs.Row.Laws.{row-lent, row-kept, row-written, nodesIn-length, nodesIn-at}
 use Rattle.nodes.specs.Scan.{Cut, partBy, goalsBy, keyBy, goalSumBy, goalCostBy}
 use Rattle.explore.specs.declared.Run.{Run}
@@ -222,7 +222,7 @@ dominated-is t S T O r n m same =
 
 -- the node's row was written over the next row, and it was linked: Q is the row, cost the goal cost
 module _ (S : ℕ) (T O : List ℕ) (r : Run) (n : Node) (opens cost : ℕ) (Q rest : List ℕ) (fits : r .count * (40 + S) ≤ length T) (long : length Q ≡ 40 + S)
-    (holds : nodeOf S Q ≡ n) (few : r .count < 4096) (O′ : List ℕ) (sign class : ℕ) (isSign : sign ≡ signOf (n .prices)) (isClass : class ≡ classOf (n .spot))
+    (holds : nodeOf S Q ≡ n) (packs : Packed Q) (few : r .count < 4096) (O′ : List ℕ) (sign class : ℕ) (isSign : sign ≡ signOf (n .prices)) (isClass : class ≡ classOf (n .spot))
     (isLinked : O′ ≡ linkedTo O (r .count) opens sign class) (got : ℕ) (is : got ≡ cost) where
   -- the table afterwards
   abbrev written : List ℕ
@@ -244,8 +244,8 @@ module _ (S : ℕ) (T O : List ℕ) (r : Run) (n : Node) (opens cost : ℕ) (Q r
         keyed = λ u l. rw isLinked (linked-key O (r .count) opens sign class u l);
         counted = e;
         linked = λ c. rw (isLinked, isSign, isClass, add-one)
-            (chained-more S T written O (r .count) opens (n .spot) (n .prices) few kept-old
-            (ap (λ (x : Node). x .spot) kept-new) (ap (λ (x : Node). x .prices) kept-new) c);
+            (chained-more S T written O (r .count) opens (n .spot) (n .prices) few (λ u l. row-kept S u (r .count) T (Q ++ rest) l fits)
+            (ap (λ (x : Node). x .spot) kept-new) (ap (λ (x : Node). x .prices) kept-new) (rw (row-written S (r .count) T Q rest fits long) packs) c);
       }
 
   -- the node is the new best

@@ -2,7 +2,9 @@
 use mathlib.Core.Path.{_≡_, refl, sym, ap, _∙_}
 use mathlib.Core.Bool.{Bool, true, false, not, true≢false}
 use mathlib.Core.List.{List, _++_}
-use Prim.Native.Nat.{ℕ, suc, _+_, _-_, _*_, _≤_, _<_, min}
+use Prim.Native.Nat.{ℕ, zero, suc, _+_, _-_, _*_, _≤_, _<_, min}
+use native.Mathlib.Nat.{lt-of-lt-of-le}
+use native.Mathlib.Decide.{ℕ-discrete}
 use native.Mathlib.Omega.{arith}
 use borrow.Author.Tests.{lt-ltb, le-ltb, eq-eqb, ne-eqb}
 use lib.Dec.{ltb}
@@ -20,6 +22,7 @@ use Rattle.layer.specs.Layer.Laws.{next-length}
 use Rattle.layer.specs.Layer.Front.{part-front, after-list}
 use Rattle.layer.specs.Board.{Board, rowOn, metOn, beginOn, settledOn}
 use Rattle.layer.specs.Board.Laws.{joined-ext, row-on, met-on}
+use Rattle.mets.specs.Mets.{Mets}
 use Rattle.search.specs.Node.{Node, nextNode, dominates, key, isGoal, goalCost}
 use Rattle.search.specs.Made.{Made, made-next}
 use Rattle.search.specs.Small.{made-key, made-goal, made-paid}
@@ -34,7 +37,7 @@ use Rattle.nodes.specs.Scan.{keyBy, goalCostBy}
 use Rattle.explore.specs.declared.Run.{Run}
 use Rattle.explore.specs.declared.Turned.{Turned}
 use Rattle.explore.specs.Still.{key-rises}
-use Rattle.explore.specs.Held.{searchOf, Cached, Suits, Scans, Room, Has, Kept, expandedOf, Went, Stands, settledWords, begunNode, settledNode, Alike, Offered, Moved}
+use Rattle.explore.specs.Held.{searchOf, Cached, Suits, Scans, Room, Has, Kept, expandedOf, Went, Stands, settledWords, begunNode, settledNode, Alike, Offered, Moved, Grown, Done}
 use Rattle.explore.specs.Held.Laws.{kept-length, node-at, below-is, best-cap, key-any, goal-is, dominated-is, search-recalled, cached-recalled, kept-recalled, keep-is, keep-cached}
 
 -- ---- offer
@@ -179,7 +182,7 @@ module _ (b : Board) (goals goalPairs : List ℕ) (nodes : ℕ) (T O : List ℕ)
             }
 
         -- it is settled and kept
-        pub offered-kept : r .count < nodes → length O ≡ 20544 → (P′ : List ℕ) → P′ ≡ settledWords b spot P → (T′ O′ : List ℕ) (r′ : Run)
+        pub offered-kept : r .count < nodes → length O ≡ 36928 → (P′ : List ℕ) → P′ ≡ settledWords b spot P → (T′ O′ : List ℕ) (r′ : Run)
             → Kept S T M r (nodeWith spot paid (take S P′) parent action) opens (goalCostBy (b .leaves) (b .bases) goals (b .factors) goalPairs spot paid P′) T′ O′ r′
             → Offered b goals goalPairs nodes T O r spot paid P parent action T′ O′ (record { full = false; run = r′ })
         offered-kept k long P′ isWords T′ O′ r′ given =
@@ -416,6 +419,14 @@ module _ (t : Task) (nodes u : ℕ) where
   unfolding expand
   expand-full n a s h e = let z : n - a ≡ suc (n - (a + 1)) = omega arith in rw (z, expand, e)
 
+-- what goes on from each number to the next goes on from the first to the last
+climb : (P : ℕ → Type 0) (a n : ℕ) → a ≤ n → ((i : ℕ) → a ≤ i → i < n → P i → P (i + 1)) → P a → P n
+climb P a n h step p = let z : a + (n - a) ≡ n = omega arith in rw z at (go (n - a) (omega arith))
+  where
+    go : (k : ℕ) → a + k ≤ n → P (a + k)
+    go zero l = let z : a + 0 ≡ a = omega arith in rw z p
+    go (suc k) l = let z : a + suc k ≡ a + k + 1 = omega arith in rw z (step (a + k) (omega arith) (omega arith) (go k (omega arith)))
+
 -- what is left of the expansion from action a on is the whole, and node u is as it was
 pub record Left (t : Task) (nodes u S : ℕ) (T₀ O₀ : List ℕ) (r₀ : Run) (T O : List ℕ) (r : Run) (a : ℕ) : Type 0 where
   pub whole : expand t nodes u (t .actions) 0 (searchOf S T₀ O₀ r₀) ≡ expand t nodes u (t .actions - a) a (searchOf S T O r)
@@ -428,12 +439,6 @@ module _ (b : Board) (effects goals goalPairs : List ℕ) (nodes u : ℕ) (T₀ 
   abbrev pub Along : List ℕ → List ℕ → Run → ℕ → Type 0
   Along T O r a = (t : Task) → Suits t b effects goals goalPairs → Base t nodes (searchOf (rowOn b) T₀ O₀ r₀) → Cached t (rowOn b) T₀ O₀ r₀
       → Left t nodes u (rowOn b) T₀ O₀ r₀ T O r a
-
-  -- what an expansion ensures: the search says the same
-  abbrev pub Done : List ℕ → List ℕ → Turned → Type 0
-  Done T O w = (t : Task) → Suits t b effects goals goalPairs → Base t nodes (searchOf (allStates t) T₀ O₀ r₀) → Cached t (allStates t) T₀ O₀ r₀
-      → (expand t nodes u (t .actions) 0 (searchOf (allStates t) T₀ O₀ r₀) ≡ expandedOf w (searchOf (allStates t) T O (w .run)))
-      × Cached t (allStates t) T O (w .run)
 
   -- where the loop stands before action a
   pub record Passed (T O : List ℕ) (r : Run) (a : ℕ) : Type 0 where
@@ -527,15 +532,37 @@ module _ (b : Board) (effects goals goalPairs : List ℕ) (nodes u : ℕ) (T₀ 
 
     -- the table was full at it
     pub passed-full : w .full ≡ true
-        → ((r₀ .count ≤ w .run .count) × (w .run .count ≤ nodes) × (w .run .begun ≡ r₀ .begun) × Chained (rowOn b) T′ O′ (w .run .count)) × Done T′ O′ w
+        → Grown b nodes r₀ T′ O′ w × Done b effects goals goalPairs nodes u T₀ O₀ r₀ T′ O′ w
     passed-full e = (
       (omega (arith, l .more, m .went .more), m .went .room, m .went .begun-is ∙ l .begun-is, m .went .chained (l .room .chained)),
       λ t suits. rw (← row-on t b (suits .fits)) (λ v held. ended t suits v held e),
     )
 
+  -- actions whose centre conditions do not hold are passed by
+  module _ (spot : Centre) (paid : ℕ) (old : List ℕ) (has : Has (nodeIn (rowOn b) T₀ u) spot paid (take (rowOn b) old)) (within : u < r₀ .count)
+      (T O : List ℕ) (r : Run) where
+    passed-unmet : (a : ℕ) → a < b .actions → metOn b spot a ≡ false → Passed T O r a → Passed T O r (a + 1)
+    passed-unmet a known e l = passed-more spot paid old has within T O r a known l T O (record { full = false; run = r }) (moved (ℕ-discrete (getD (b .kinds) a 0) 0)) refl refl refl
+      where
+        few : nodes ≤ 4096
+        few = l .room .few-nodes
+
+        inside : u < r .count
+        inside = omega (arith, l .more)
+
+        moved : Dec (getD (b .kinds) a 0 ≡ 0) → Moved b effects goals goalPairs nodes spot paid old u a T O r T O (record { full = false; run = r })
+        moved (yes k) = moved-unmet b effects goals goalPairs nodes spot paid old u a T O r few (l .room .count-few) known inside k false (sym e) refl
+        moved (no k) = moved-leaf b effects goals goalPairs nodes spot paid old u a T O r few (l .room .count-few) known inside k
+
+    module _ (flags : List ℕ) (mets : Mets b spot flags) where
+      -- up to the next action whose flag is set
+      pub passed-skip : (a n : ℕ) → a ≤ n → n ≤ b .actions → ((i : ℕ) → a ≤ i → i < n → getD flags i 0 ≡ 0) → Passed T O r a → Passed T O r n
+      passed-skip a n h m e l =
+          climb (Passed T O r) a n h (λ i p q x. let known = lt-of-lt-of-le q m in passed-unmet i known (mets .unmet i known (e i p q)) x) l
+
   -- behind the last action
   pub passed-all : (T O : List ℕ) (r : Run) (a : ℕ) → b .actions ≤ a → Passed T O r a
-      → ((r₀ .count ≤ r .count) × (r .count ≤ nodes) × (r .begun ≡ r₀ .begun) × Chained (rowOn b) T O (r .count)) × Done T O (record { full = false; run = r })
+      → Grown b nodes r₀ T O (record { full = false; run = r }) × Done b effects goals goalPairs nodes u T₀ O₀ r₀ T O (record { full = false; run = r })
   passed-all T O r a end l = (
     (l .more, l .room .count-few, l .begun-is, l .room .chained),
     λ t suits. rw (← row-on t b (suits .fits)) (λ v held. last t suits (l .along t suits v held)),

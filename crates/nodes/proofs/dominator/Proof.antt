@@ -4,9 +4,8 @@ use Prim.Native.Nat.{ℕ, suc, _+_, _-_, _<_}
 use native.Mathlib.Omega.{arith}
 use lib.ListN.{getD, take}
 use borrow.Author.Needs.{needs}
-use Rattle.loops.specs.Count.Laws.{told}
-use Rattle.search.specs.Node.{Node, dominates}
-use Rattle.nodes.specs.Row.{nodeIn, nodeWith}
+use Rattle.search.specs.Node.{Node}
+use Rattle.nodes.specs.Row.{nodeIn, nodeWith, Tested}
 use Rattle.nodes.specs.Row.Laws.{row-in}
 use Rattle.nodes.specs.Chain.Laws.{class-lt, slot-lt}
 use Rattle.nodes.specs.Chain.Walk.{dominator-found}
@@ -29,27 +28,28 @@ mul-recent c = omega (arith, small c)
 shared-slice-read-recent : tie.Need-shared-slice-read-recent
 shared-slice-read-recent c = omega (arith, small (c .before), c .before .before .before .before .before .pre .0 .4 .long)
 
-sub-dominates-at : tie.Need-sub-dominates-at
-sub-dominates-at c = search needs
+-- one more than the node that is tried
+abbrev recent : tie.Then2 → ℕ
+recent c = getD (c .before .before .before .before .before .before .before .args .scan .now) (32832 + c .before .before .before .slot-of .result) 0
 
-dominates-at-requires : tie.Need-dominates-at-requires
-dominates-at-requires c κs =
+sub-test-at : tie.Need-sub-test-at
+sub-test-at c = search needs
+
+test-at-requires : tie.Need-test-at-requires
+test-at-requires c κs =
     let s = c .before .before .before .before .before .before .before in
     let a = s .args in
-    (row-in (a .states) (a .count) _ (a .table .now) (omega (arith, c .if2 .taken, c .before .if1 .taken)) (s .pre .0 .2), s .pre .0 .3)
+    let inside : recent c - 1 < a .count = omega (arith, c .if2 .taken, c .before .if1 .taken) in
+    (s .pre .0 .0, row-in (a .states) (a .count) (recent c - 1) (a .table .now) inside (s .pre .0 .2), s .pre .0 .3, omega arith, s .pre .0 .4 .packed (recent c - 1) inside)
 
 -- the new node
 abbrev fresh : tie.Start → Node
 fresh s = nodeWith (s .args .spot) (s .args .paid) (take (s .args .states) (s .args .prices .now)) 0 0
 
--- one more than the node that is tried
-abbrev recent : tie.Then2 → ℕ
-recent c = getD (c .before .before .before .before .before .before .before .args .scan .now) (16448 + c .before .before .before .slot-of .result) 0
-
 -- what the test of it tells
-tested : (c : tie.After-dominates-at) → let s = c .before .before .before .before .before .before .before .before in
-    c .dominates-at .result ≡ dominates (nodeIn (s .args .states) (s .args .table .now) (recent (c .before) - 1)) (fresh s)
-tested c = c .dominates-at .ensures
+tested : (c : tie.After-test-at) → let s = c .before .before .before .before .before .before .before .before in
+    Tested (s .args .states) (nodeIn (s .args .states) (s .args .table .now) (recent (c .before) - 1)) (fresh s) (c .test-at .result)
+tested c = c .test-at .ensures
 
 returns : tie.Need-returns
 returns c =
@@ -59,7 +59,7 @@ returns c =
     let e : recent t ≡ suc (recent t - 1) = omega (arith, t .before .if1 .taken) in
     rw e
     (dominator-found (a .states) (a .table .now) (a .count) (fresh s) (recent t - 1) (omega (arith, t .if2 .taken, t .before .if1 .taken))
-    (told (tested (c .before)) (c .if3 .taken)))
+    (tested (c .before) .found (c .if3 .taken)))
 
 walk-requires : tie.Need-walk-requires
 walk-requires c κs = search needs
@@ -75,8 +75,8 @@ dominator-spec =
     add-recent
     mul-recent
     shared-slice-read-recent
-    sub-dominates-at
-    dominates-at-requires
+    sub-test-at
+    test-at-requires
     returns
     walk-requires
     returns-2)

@@ -1,8 +1,9 @@
--- `nodes::link` meets its contract: five words are stored. Assumes nothing.
+-- `nodes::link` meets its contract: five words are stored, and then the further words. Assumes nothing.
+use mathlib.Core.Path.{_∙_}
 use native.Mathlib.Omega.{arith}
 use lib.ListN.{length-set}
 use borrow.Author.Needs.{needs}
-use Rattle.nodes.specs.Chain.{chainedTo, linkedTo}
+use Rattle.nodes.specs.Chain.{chainedTo, blockedTo, linkedTo}
 use Rattle.nodes.proofs.link.Statement.{statement}
 use Rattle.nodes.proofs.link.Tie as tie
 
@@ -69,12 +70,15 @@ mul-scan-5 c = search needs
 slice-write-scan-5 : tie.Need-slice-write-scan-5
 slice-write-scan-5 c = simp length-set (omega arith)
 
+link-further-requires : tie.Need-link-further-requires
+link-further-requires c κs = (simp length-set (omega arith), search needs)
+
 same-length : tie.Need-same-length
-same-length c = search needs
+same-length c = c .before .before .link-further .kept .0 ∙ simp length-set
 
 returns : tie.Need-returns
-unfolding linkedTo chainedTo
-returns c = rw (c .lesser .ensures)
+unfolding linkedTo blockedTo chainedTo
+returns c = c .before .before .link-further .ensures ∙ rw (c .before .before .before .before .lesser .ensures)
 
 pub link-spec : {M : Type 1} → statement M
 link-spec =
@@ -101,5 +105,6 @@ link-spec =
     slice-write-scan-4
     mul-scan-5
     slice-write-scan-5
+    link-further-requires
     same-length
     returns)

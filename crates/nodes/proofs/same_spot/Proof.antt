@@ -1,78 +1,101 @@
--- `nodes::same_spot` meets its contract. The invariant: the values so far are the same. Assumes nothing.
-use mathlib.Core.Path.{_≡_, refl, sym, _∙_}
-use mathlib.Core.Bool.{true}
-use Prim.Native.Nat.{_-_, _≤_}
+-- `nodes::same_spot` meets its contract: four packs are compared, and they are the same only where all values are. Assumes nothing.
+use mathlib.Core.Path.{_≡_, sym, _∙_}
+use mathlib.Core.Bool.{Bool, false}
+use Prim.Native.Nat.{ℕ, _≤_}
 use native.Mathlib.Omega.{arith}
 use lib.Dec.{eqb}
 use lib.ListN.{getD}
 use borrow.Author.Needs.{needs}
-use borrow.Author.Tests.{eq-eqb, ne-eqb}
+use mir.Syntax.{w8}
+use mir.Val.{Fits}
 use Rattle.loops.specs.Count.{all}
-use Rattle.loops.specs.Count.Laws.{all-more, all-not}
 use Rattle.task.specs.Centre.{valueIn}
-use Rattle.nodes.specs.Row.{spotOf}
-use Rattle.nodes.specs.Row.Laws.{spot-at}
+use Rattle.nodes.specs.Row.{spotOf, packOf}
+use Rattle.nodes.specs.Row.Laws.{spot-lt}
+use Rattle.nodes.specs.Row.Packs.{packs-same, packs-other}
 use Rattle.nodes.proofs.same_spot.Statement.{statement}
 use Rattle.nodes.proofs.same_spot.Tie as tie
 
-abbrev Inv-loop : tie.InvT-loop
-Inv-loop row values v₀ v = (v ≤ 32) × (all v (λ k. eqb (valueIn (spotOf row) k) (getD values k 0)) ≡ true)
-
-abbrev μ-loop : tie.MeasureT-loop
-μ-loop row values v₀ v = 32 - v
-
-loop-holds : tie.Need-loop-holds Inv-loop μ-loop
-unfolding all
-loop-holds c = (omega arith, refl)
-
-mul-if1 : tie.Need-mul-if1 Inv-loop μ-loop
-mul-if1 c = search needs
-
-shared-slice-read-if1 : tie.Need-shared-slice-read-if1 Inv-loop μ-loop
+shared-slice-read-if1 : tie.Need-shared-slice-read-if1
 shared-slice-read-if1 c = search needs
 
-array-read-if1 : tie.Need-array-read-if1 Inv-loop μ-loop
-array-read-if1 c = search needs
+pack-requires : tie.Need-pack-requires
+pack-requires c κs = search needs
 
-cast-if1 : tie.Need-cast-if1 Inv-loop μ-loop
-cast-if1 c = search needs
+-- whether all values are the same
+abbrev same : tie.Start → Bool
+same s = all 32 (λ v. eqb (valueIn (spotOf (s .args .row .now)) v) (valueIn (s .args .spot) v))
 
-returns : tie.Need-returns Inv-loop μ-loop
+-- a pack is not the same
+other : (s : tie.Start) (b : ℕ) → b ≤ 24 → (packOf (spotOf (s .args .row .now)) b ≡ packOf (s .args .spot) b → ⊥) → false ≡ same s
+other s b l d = sym (packs-other (spotOf (s .args .row .now) .values) (s .args .spot .values) b l d)
+
+returns : tie.Need-returns
 returns c =
-    let t = c .before .before in
-    let v = t .before .loop .v in
-    let here = spot-at (t .before .before .before .args .row .now) v (t .loop-test .taken) in
-    sym (all-not 32 _ v (t .loop-test .taken) (ne-eqb _ _ (λ e. c .if1 .taken (sym here ∙ e))))
+    let s = c .before .before .before .before in
+    other s 0 (omega arith) (λ e. c .if1 .taken (s .pre .1 .first ∙ e ∙ sym (c .before .pack .ensures)))
 
-add-v : tie.Need-add-v Inv-loop μ-loop
-add-v c = search needs
+shared-slice-read-if2 : tie.Need-shared-slice-read-if2
+shared-slice-read-if2 c = search needs
 
-loop-less : tie.Need-loop-less Inv-loop μ-loop
-loop-less c = search needs
+pack-requires-2 : tie.Need-pack-requires-2
+pack-requires-2 c κs = search needs
 
-loop-again : tie.Need-loop-again Inv-loop μ-loop
-loop-again c =
-    let t = c .before .before in
-    let l = t .before .loop in
-    let here = spot-at (t .before .before .before .args .row .now) (l .v) (t .loop-test .taken) in
-    (omega arith, all-more (l .v) _ (l .inv .1) (eq-eqb _ _ (here ∙ c .if1 .left)))
+returns-2 : tie.Need-returns-2
+returns-2 c =
+    let s = c .before .before .before .before .before .before .before in
+    other s 8 (omega arith) (λ e. c .if2 .taken (s .pre .1 .second ∙ e ∙ sym (c .before .pack2 .ensures)))
 
-returns-2 : tie.Need-returns-2 Inv-loop μ-loop
-returns-2 c = let e : c .before .loop .v ≡ 32 = omega arith in sym (rw e at (c .before .loop .inv .1))
+shared-slice-read-if3 : tie.Need-shared-slice-read-if3
+shared-slice-read-if3 c = search needs
+
+pack-requires-3 : tie.Need-pack-requires-3
+pack-requires-3 c κs = search needs
+
+returns-3 : tie.Need-returns-3
+returns-3 c =
+    let s = c .before .before .before .before .before .before .before .before .before .before in
+    other s 16 (omega arith) (λ e. c .if3 .taken (s .pre .1 .third ∙ e ∙ sym (c .before .pack3 .ensures)))
+
+shared-slice-read-if4 : tie.Need-shared-slice-read-if4
+shared-slice-read-if4 c = search needs
+
+pack-requires-4 : tie.Need-pack-requires-4
+pack-requires-4 c κs = search needs
+
+returns-4 : tie.Need-returns-4
+returns-4 c =
+    let s = c .before .before .before .before .before .before .before .before .before .before .before .before .before in
+    other s 24 (omega arith) (λ e. c .if4 .taken (s .pre .1 .fourth ∙ e ∙ sym (c .before .pack4 .ensures)))
+
+returns-5 : tie.Need-returns-5
+returns-5 c =
+    let e = c in
+    let d = e .before .before .before in
+    let b = d .before .before .before in
+    let a = b .before .before .before in
+    let s = a .before .before .before .before in
+    let r = s .pre .1 in
+    let small : (v : ℕ) → Fits w8 (getD (s .args .spot .values) v 0) = λ v. search needs in
+    sym
+    (packs-same (spotOf (s .args .row .now) .values) (s .args .spot .values) (spot-lt (s .args .row .now)) (λ v l. small v .fits)
+    (sym (r .first) ∙ a .if1 .left ∙ a .before .pack .ensures) (sym (r .second) ∙ b .if2 .left ∙ b .before .pack2 .ensures)
+    (sym (r .third) ∙ d .if3 .left ∙ d .before .pack3 .ensures) (sym (r .fourth) ∙ e .if4 .left ∙ e .before .pack4 .ensures))
 
 pub same-spot-spec : {M : Type 1} → statement M
 same-spot-spec =
     tie.close
     (tie.spec
-    Inv-loop
-    μ-loop
-    loop-holds
-    mul-if1
     shared-slice-read-if1
-    array-read-if1
-    cast-if1
+    pack-requires
     returns
-    add-v
-    loop-less
-    loop-again
-    returns-2)
+    shared-slice-read-if2
+    pack-requires-2
+    returns-2
+    shared-slice-read-if3
+    pack-requires-3
+    returns-3
+    shared-slice-read-if4
+    pack-requires-4
+    returns-4
+    returns-5)

@@ -69,10 +69,11 @@ module _ (C : List ℕ) (n : ℕ) (room : n ≤ length C) where
 
 -- the words of the other blocks and the open keys of their nodes are the same, and no node of them is new
 pub record Apart (C D : List ℕ) (n m b : ℕ) : Type 0 where
-  pub words : (i : ℕ) → (i ≡ b → ⊥) → blockAt D i ≡ blockAt C i
+  pub words : (i : ℕ) → i < 64 → (i ≡ b → ⊥) → blockAt D i ≡ blockAt C i
   pub keys : (u : ℕ) → u < m → (u / 64 ≡ b → ⊥) → getD D u 0 ≡ getD C u 0
   pub old : (u : ℕ) → u < m → (u / 64 ≡ b → ⊥) → u < n
   pub kept : n ≤ m
+  pub few : m ≤ 4096
 
 -- the block words are right again if that of the block is
 pub blocked-change : (C D : List ℕ) (n m b : ℕ) → Apart C D n m b → ((u : ℕ) → u < m → u / 64 ≡ b → blockAt D b ≤ getD D u 0)
@@ -84,22 +85,22 @@ blocked-change C D n m b a low one r = record {
   where
     lows : (u : ℕ) → u < m → Dec (u / 64 ≡ b) → blockAt D (u / 64) ≤ getD D u 0
     lows u l (yes e) = rw e (low u l e)
-    lows u l (no d) = omega (arith, a .words (u / 64) d, a .keys u l d, r .lower u (a .old u l d))
+    lows u l (no d) = omega (arith, a .words (u / 64) (omega (arith, a .few)) d, a .keys u l d, r .lower u (a .old u l d))
 
-    other : (i : ℕ) → (i ≡ b → ⊥) → (blockAt C i ≡ mark) ⊎ Held C n i (blockAt C i) → (blockAt D i ≡ mark) ⊎ Held D m i (blockAt D i)
-    other i d (inl e) = inl (a .words i d ∙ e)
-    other i d (inr h) =
+    other : (i : ℕ) → i < 64 → (i ≡ b → ⊥) → (blockAt C i ≡ mark) ⊎ Held C n i (blockAt C i) → (blockAt D i ≡ mark) ⊎ Held D m i (blockAt D i)
+    other i l d (inl e) = inl (a .words i l d ∙ e)
+    other i b d (inr h) =
         let l : h .node < m = omega (arith, h .inside, a .kept) in
         inr (record {
           node = h .node;
           inside = l;
           block = h .block;
-          key = a .keys (h .node) l (λ e. d (sym (h .block) ∙ e)) ∙ h .key ∙ sym (a .words i d);
+          key = a .keys (h .node) l (λ e. d (sym (h .block) ∙ e)) ∙ h .key ∙ sym (a .words i b d);
         })
 
     helds : (i : ℕ) → i < 64 → Dec (i ≡ b) → (blockAt D i ≡ mark) ⊎ Held D m i (blockAt D i)
     helds i l (yes e) = rw e one
-    helds i l (no d) = other i d (r .held i l)
+    helds i l (no d) = other i l d (r .held i l)
 
 -- no node: the block words are the mark
 pub blocked-none : (C : List ℕ) → ((b : ℕ) → b < 64 → blockAt C b ≡ mark) → Blocked C 0
@@ -146,7 +147,14 @@ pub retired-key : (C : List ℕ) (u n i : ℕ) → i < 16384 → getD (retiredTo
 unfolding retiredTo
 retired-key C u n i b = getD-set-other (set C u mark) (16384 + u / 64) i (leastOf (blockOf (set C u mark) n (u / 64))) 0 (λ e. omega arith)
 
-module _ (C : List ℕ) (u n : ℕ) (long : length C ≡ 20544) (few : n ≤ 4096) (inside : u < n) where
+-- the words behind the block words are the same
+pub retired-behind : (C : List ℕ) (u n i : ℕ) → u < 4096 → 16448 ≤ i → getD (retiredTo C u n) i 0 ≡ getD C i 0
+unfolding retiredTo
+retired-behind C u n i l b =
+    getD-set-other (set C u mark) (16384 + u / 64) i (leastOf (blockOf (set C u mark) n (u / 64))) 0 (λ e. omega arith)
+    ∙ getD-set-other C u i mark 0 (λ e. omega arith)
+
+module _ (C : List ℕ) (u n : ℕ) (long : length C ≡ 36928) (few : n ≤ 4096) (inside : u < n) where
   -- the words with the node's open key stored, and with its block's word too
   abbrev keyed : List ℕ
   keyed = set C u mark
@@ -189,13 +197,13 @@ module _ (C : List ℕ) (u n : ℕ) (long : length C ≡ 20544) (few : n ≤ 409
   -- the block words are right again
   pub blocked-retire : Blocked C n → Blocked (retiredTo C u n) n
   blocked-retire =
-      blocked-change C D n n (u / 64) (record { words = retired-words; keys = retired-keys; old = λ w l d. l; kept = omega arith })
+      blocked-change C D n n (u / 64) (record { words = λ i l. retired-words i; keys = retired-keys; old = λ w l d. l; kept = omega arith; few = few })
       (λ w l e. omega (arith, retired-block, block-low keyed n room (u / 64) w l e, retired-key C u n w (omega arith)))
       (retired-held (block-held keyed n room (u / 64)))
 
 -- ---- the choice by blocks
 
-module _ (bound : ℕ) (C : List ℕ) (n : ℕ) (long : length C ≡ 20544) (few : n ≤ 4096) (low : bound ≤ mark) (r : Blocked C n) where
+module _ (bound : ℕ) (C : List ℕ) (n : ℕ) (long : length C ≡ 36928) (few : n ≤ 4096) (low : bound ≤ mark) (r : Blocked C n) where
   -- a block word among the block words
   words-at : (b : ℕ) → b < 64 → getD (blockWords C) b 0 ≡ blockAt C b
   words-at b l = rw (getD-take, getD-drop)

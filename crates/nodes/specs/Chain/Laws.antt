@@ -21,11 +21,13 @@ use Rattle.task.specs.declared.Centre.{Centre}
 use Rattle.task.specs.Centre.{valueIn}
 use Rattle.layer.specs.Layer.{mark}
 use Rattle.search.specs.Node.{Node, dominates}
-use Rattle.nodes.specs.Row.{nodeOf, rowIn, nodeIn}
+use Rattle.nodes.specs.Row.{nodeOf, rowIn, nodeIn, packOf, Packed}
+use Rattle.nodes.specs.Row.Packs.{pack-same}
 use Rattle.nodes.specs.Row.Laws.{row-length}
 use Rattle.nodes.specs.Block.{blockAt, Held, Blocked, freshTo, retiredTo}
-use Rattle.nodes.specs.Block.Laws.{blocked-change, blocked-none, fresh-length, fresh-other, fresh-block, retired-length, retired-key, blocked-retire}
-use Rattle.nodes.specs.Chain.{signAt, linkAt, headAt, classTo, classOf, slotOf, signTo, signOf, chainedTo, linkedTo, Chained, Recalled}
+use Rattle.nodes.specs.Block.Laws.{blocked-change, blocked-none, fresh-length, fresh-other, fresh-block, retired-length, retired-key, retired-behind, blocked-retire}
+use Rattle.nodes.specs.Chain.{signAt, linkAt, headAt, furtherAt, backLink, backSign, backFurther, classOf, slotOf, signTo, signOf, chainedTo, blockedTo, linkedTo, Further, Chained, Recalled}
+use Rattle.nodes.specs.Chain.Back.{back-same, back-first, back-second, back-thrice, back-sign, back-sign-once, back-sign-twice, further-same, further-length, further-other, further-first, further-second, further-third, further-jump, further-more}
 
 -- ---- bits
 
@@ -98,29 +100,17 @@ sign-within P Q e h = rw e (sign-below P Q (length Q) h)
 
 -- ---- classes
 
--- a turn of the loop
-pub class-more : (xs : List ℕ) (b n : ℕ) → classTo xs b (n + 1) ≡ (classTo xs b n * 1637 + getD xs (b + n) 0) % 4096
-unfolding classTo
-class-more xs b n = rw add-one
-
 -- a class is below 4,096
 pub class-lt : (c : Centre) → classOf c < 4096
 unfolding classOf
 class-lt c = omega arith
 
 -- the same values have the same class
-class-same : (xs ys : List ℕ) (b n : ℕ) → ((v : ℕ) → v < b + n → getD xs v 0 ≡ getD ys v 0) → classTo xs b n ≡ classTo ys b n
-unfolding classTo
-class-same xs ys b zero h = refl
-class-same xs ys b (suc n) h =
-    ap₂ (λ (x y : ℕ). (x * 1637 + y) % 4096) (class-same xs ys b n (λ v l. h v (omega arith))) (h (b + n) (omega arith))
-
--- so of two centre states
 class-alike : (c d : Centre) → ((v : ℕ) → v < 32 → valueIn c v ≡ valueIn d v) → classOf c ≡ classOf d
 unfolding classOf
 class-alike c d h =
-    let same : (b : ℕ) → b ≤ 24 → classTo (c .values) b 8 ≡ classTo (d .values) b 8 =
-    λ b l. class-same (c .values) (d .values) b 8 (λ v k. h v (omega arith)) in
+    let same : (b : ℕ) → b ≤ 24 → packOf c b ≡ packOf d b =
+    λ b l. pack-same (c .values) (d .values) b 8 (λ v k. h v (omega arith)) in
     rw (same 0 (omega arith), same 8 (omega arith), same 16 (omega arith), same 24 (omega arith))
 
 -- ---- dominance
@@ -165,8 +155,17 @@ prices-length S u T h = length-take-le S (drop 40 (rowIn S T u)) (simp length-dr
 
 -- ---- chains
 
+-- no node has further words
+further-none : (C : List ℕ) → Further C 0
+further-none C = record {
+  firsts = λ u h. absurd (not-suc-le-zero h);
+  seconds = λ u h. absurd (not-suc-le-zero h);
+  thirds = λ u h. absurd (not-suc-le-zero h);
+  jumps = λ u h. absurd (not-suc-le-zero h);
+}
+
 -- no node
-pub chained-none : (S : ℕ) (T C : List ℕ) → length C ≡ 20544 → ((h : ℕ) → h < 4096 → headAt C h ≡ 0) → ((b : ℕ) → b < 64 → blockAt C b ≡ mark)
+pub chained-none : (S : ℕ) (T C : List ℕ) → length C ≡ 36928 → ((h : ℕ) → h < 4096 → headAt C h ≡ 0) → ((b : ℕ) → b < 64 → blockAt C b ≡ mark)
     → Chained S T C 0
 chained-none S T C l z m = record {
   long = l;
@@ -178,18 +177,20 @@ chained-none S T C l z m = record {
   last = λ h w b a k. absurd (not-suc-le-zero k);
   headed = λ h w b e. absurd (omega (arith, z h b));
   blocks = blocked-none C m;
+  further = further-none C;
+  packed = λ u h. absurd (not-suc-le-zero h);
 }
 
 -- no node, after all block words are set to the mark
-pub chained-fresh : (S : ℕ) (T C : List ℕ) → length C ≡ 20544 → ((h : ℕ) → h < 4096 → headAt C h ≡ 0) → Chained S T (freshTo C 64) 0
+pub chained-fresh : (S : ℕ) (T C : List ℕ) → length C ≡ 36928 → ((h : ℕ) → h < 4096 → headAt C h ≡ 0) → Chained S T (freshTo C 64) 0
 chained-fresh S T C l z =
     chained-none S T (freshTo C 64) (fresh-length C 64 ∙ l) (λ h b. fresh-other C 64 (12288 + h) (omega arith) ∙ z h b)
     (λ b k. fresh-block C 64 b (omega arith) k)
 
--- signatures, links and heads are the same, and the block words are right
+-- signatures, links, heads and further words are the same, and the block words are right
 chained-words : (S : ℕ) (T C C′ : List ℕ) (n : ℕ) → n ≤ 4096 → length C′ ≡ length C → ((i : ℕ) → 4096 ≤ i → i < 16384 → getD C′ i 0 ≡ getD C i 0)
-    → Blocked C′ n → Chained S T C n → Chained S T C′ n
-chained-words S T C C′ n few l s k r = record {
+    → ((i : ℕ) → 16448 ≤ i → i < 32832 → getD C′ i 0 ≡ getD C i 0) → Blocked C′ n → Chained S T C n → Chained S T C′ n
+chained-words S T C C′ n few l s f k r = record {
   long = l ∙ r .long;
   signs = λ u h. s (4096 + u) (omega arith) (omega arith) ∙ r .signs u h;
   links = λ u h. omega (arith, s (8192 + u) (omega arith) (omega arith), r .links u h);
@@ -199,13 +200,18 @@ chained-words S T C C′ n few l s k r = record {
   last = λ h w b a. r .last h w b (omega (arith, s (12288 + h) (omega arith) (omega arith)));
   headed = λ h w b e. r .headed h w b (sym (s (12288 + h) (omega arith) (omega arith)) ∙ e);
   blocks = k;
+  further =
+      further-same C C′ n few (r .links) (λ u h. s (4096 + u) (omega arith) (omega arith)) (λ u h. s (8192 + u) (omega arith) (omega arith))
+      (λ u i h b. f (16448 + 4 * u + i) (omega arith) (omega arith)) (r .further);
+  packed = r .packed;
 }
 
 -- a node is retired
 pub chained-retire : (S : ℕ) (T C : List ℕ) (n u : ℕ) → n ≤ 4096 → u < n → Chained S T C n → Chained S T (retiredTo C u n) n
 chained-retire S T C n u few inside r =
     chained-words S T C (retiredTo C u n) n few (retired-length C u n)
-    (λ i l h. retired-key C u n i h ∙ getD-set-other C u i mark 0 (λ e. omega arith)) (blocked-retire C u n (r .long) few inside (r .blocks)) r
+    (λ i l h. retired-key C u n i h ∙ getD-set-other C u i mark 0 (λ e. omega arith)) (λ i l h. retired-behind C u n i (omega arith) l)
+    (blocked-retire C u n (r .long) few inside (r .blocks)) r
 
 -- ---- recent words
 
@@ -214,7 +220,7 @@ pub recalled-none : (C : List ℕ) → Recalled C C
 recalled-none C = record { long = refl; same = λ i l. refl }
 
 -- one recent word is stored
-pub recalled-set : (C : List ℕ) (i v : ℕ) → 16448 ≤ i → Recalled C (set C i v)
+pub recalled-set : (C : List ℕ) (i v : ℕ) → 32832 ≤ i → Recalled C (set C i v)
 recalled-set C i v h = record { long = length-set C i v; same = λ k l. getD-set-other C i k v 0 (λ e. omega arith) }
 
 -- the block words do not go by recent words
@@ -237,10 +243,10 @@ blocked-recalled C D n few k r = record {
 -- nor do the chains
 pub chained-recalled : (S : ℕ) (T C D : List ℕ) (n : ℕ) → n ≤ 4096 → Recalled C D → Chained S T C n → Chained S T D n
 chained-recalled S T C D n few k r =
-    chained-words S T C D n few (k .long) (λ i l h. k .same i (omega arith)) (blocked-recalled C D n few k (r .blocks)) r
+    chained-words S T C D n few (k .long) (λ i l h. k .same i (omega arith)) (λ i l h. k .same i h) (blocked-recalled C D n few k (r .blocks)) r
 
 -- the same where one recent word is stored
-pub chained-recent : (S : ℕ) (T C : List ℕ) (n i v : ℕ) → n ≤ 4096 → 16448 ≤ i → Chained S T C n → Chained S T (set C i v) n
+pub chained-recent : (S : ℕ) (T C : List ℕ) (n i v : ℕ) → n ≤ 4096 → 32832 ≤ i → Chained S T C n → Chained S T (set C i v) n
 chained-recent S T C n i v few h = chained-recalled S T C (set C i v) n few (recalled-set C i v h)
 
 -- the place of a recent word is below 4,096
@@ -250,11 +256,11 @@ slot-lt h s = omega arith
 
 -- ---- another table
 
--- another table with the same nodes
-pub chained-same : (S : ℕ) (T T′ C : List ℕ) (n : ℕ) → ((u : ℕ) → u < n → nodeIn S T′ u ≡ nodeIn S T u) → Chained S T C n → Chained S T′ C n
+-- another table with the same rows
+pub chained-same : (S : ℕ) (T T′ C : List ℕ) (n : ℕ) → ((u : ℕ) → u < n → rowIn S T′ u ≡ rowIn S T u) → Chained S T C n → Chained S T′ C n
 chained-same S T T′ C n s r = record {
   long = r .long;
-  signs = λ u h. r .signs u h ∙ ap (λ (m : Node). signOf (m .prices)) (sym (s u h));
+  signs = λ u h. r .signs u h ∙ ap (λ (row : List ℕ). signOf (nodeOf S row .prices)) (sym (s u h));
   links = r .links;
   skips = λ u w h a b e. r .skips u w h a b (sym (class w (omega arith)) ∙ e ∙ class u h);
   linked = λ u w h e. class w (omega (arith, r .links u h)) ∙ r .linked u w h e ∙ sym (class u h);
@@ -262,10 +268,12 @@ chained-same S T T′ C n s r = record {
   last = λ h w b a k e. r .last h w b a k (sym (class w k) ∙ e);
   headed = λ h w b e. class w (omega (arith, r .heads h b)) ∙ r .headed h w b e;
   blocks = r .blocks;
+  further = r .further;
+  packed = λ u h. rw (s u h) (r .packed u h);
 }
   where
     class : (u : ℕ) → u < n → classOf (nodeIn S T′ u .spot) ≡ classOf (nodeIn S T u .spot)
-    class u h = ap (λ (m : Node). classOf (m .spot)) (s u h)
+    class u h = ap (λ (row : List ℕ). classOf (nodeOf S row .spot)) (s u h)
 
 -- ---- a node is linked
 
@@ -275,15 +283,27 @@ unfolding chainedTo
 chain-length C n key s h = simp length-set
 
 -- also with the block's word
+block-length : (C : List ℕ) (n key s h : ℕ) → length (blockedTo C n key s h) ≡ length C
+unfolding blockedTo
+block-length C n key s h =
+    length-set (chainedTo C n key s h) (16384 + n / 64) (min (blockAt C (n / 64)) key) ∙ chain-length C n key s h
+
+-- and with further words
 pub linked-length : (C : List ℕ) (n key s h : ℕ) → length (linkedTo C n key s h) ≡ length C
 unfolding linkedTo
-linked-length C n key s h =
-    length-set (chainedTo C n key s h) (16384 + n / 64) (min (blockAt C (n / 64)) key) ∙ chain-length C n key s h
+linked-length C n key s h = further-length (blockedTo C n key s h) n (headAt C h) ∙ block-length C n key s h
+
+-- before the further words, those of the chains and blocks
+linked-before : (C : List ℕ) (n key s h i : ℕ) → i < 16448 → getD (linkedTo C n key s h) i 0 ≡ getD (blockedTo C n key s h) i 0
+unfolding linkedTo
+linked-before C n key s h i b = further-other (blockedTo C n key s h) n (headAt C h) i (λ l k. omega arith)
 
 -- before the block words, those of the chains
 linked-chain : (C : List ℕ) (n key s h i : ℕ) → i < 16384 → getD (linkedTo C n key s h) i 0 ≡ getD (chainedTo C n key s h) i 0
-unfolding linkedTo
-linked-chain C n key s h i b = getD-set-other (chainedTo C n key s h) (16384 + n / 64) i (min (blockAt C (n / 64)) key) 0 (λ e. omega arith)
+unfolding blockedTo
+linked-chain C n key s h i b =
+    linked-before C n key s h i (omega arith)
+    ∙ getD-set-other (chainedTo C n key s h) (16384 + n / 64) i (min (blockAt C (n / 64)) key) 0 (λ e. omega arith)
 
 -- a word that is none of the four
 chain-other : (C : List ℕ) (n key s h i : ℕ) → (i ≡ n → ⊥) → (i ≡ 4096 + n → ⊥) → (i ≡ 8192 + n → ⊥) → (i ≡ 12288 + h → ⊥)
@@ -304,7 +324,7 @@ linked-key C n key s h u b =
     ∙ getD-set-other (set (set C n key) (4096 + n) s) (8192 + n) u (headAt C h) 0 (λ e. omega arith)
     ∙ getD-set-other (set C n key) (4096 + n) u s 0 (λ e. omega arith)
 
-module _ (C : List ℕ) (n key s h : ℕ) (long : length C ≡ 20544) (few : n < 4096) (small : h < 4096) where
+module _ (C : List ℕ) (n key s h : ℕ) (long : length C ≡ 36928) (few : n < 4096) (small : h < 4096) where
   -- the node's signature
   linked-sign : signAt (linkedTo C n key s h) n ≡ s
   unfolding chainedTo
@@ -329,18 +349,27 @@ module _ (C : List ℕ) (n key s h : ℕ) (long : length C ≡ 20544) (few : n <
       linked-chain C n key s h (12288 + h) (omega arith)
       ∙ getD-set-same (set (set (set C n key) (4096 + n) s) (8192 + n) (headAt C h)) (12288 + h) (n + 1) 0 (simp length-set (omega arith))
 
+  -- behind the block words nothing is stored before the further words are
+  block-behind : (i : ℕ) → 16448 ≤ i → getD (blockedTo C n key s h) i 0 ≡ getD C i 0
+  unfolding blockedTo
+  block-behind i b =
+      getD-set-other (chainedTo C n key s h) (16384 + n / 64) i (min (blockAt C (n / 64)) key) 0 (λ e. omega arith)
+      ∙ chain-other C n key s h i (λ e. omega arith) (λ e. omega arith) (λ e. omega arith) (λ e. omega arith)
+
   -- the words of the other blocks
-  linked-words : (i : ℕ) → (i ≡ n / 64 → ⊥) → blockAt (linkedTo C n key s h) i ≡ blockAt C i
-  unfolding linkedTo
-  linked-words i d =
-      getD-set-other (chainedTo C n key s h) (16384 + n / 64) (16384 + i) (min (blockAt C (n / 64)) key) 0 (λ e. d (omega arith))
+  linked-words : (i : ℕ) → i < 64 → (i ≡ n / 64 → ⊥) → blockAt (linkedTo C n key s h) i ≡ blockAt C i
+  unfolding blockedTo
+  linked-words i b d =
+      linked-before C n key s h (16384 + i) (omega arith)
+      ∙ getD-set-other (chainedTo C n key s h) (16384 + n / 64) (16384 + i) (min (blockAt C (n / 64)) key) 0 (λ e. d (omega arith))
       ∙ chain-other C n key s h (16384 + i) (λ e. omega arith) (λ e. omega arith) (λ e. omega arith) (λ e. omega arith)
 
   -- the word of its block
   linked-word : blockAt (linkedTo C n key s h) (n / 64) ≡ min (blockAt C (n / 64)) key
-  unfolding linkedTo
+  unfolding blockedTo
   linked-word =
-      getD-set-same (chainedTo C n key s h) (16384 + n / 64) (min (blockAt C (n / 64)) key) 0 (omega (arith, chain-length C n key s h))
+      linked-before C n key s h (16384 + n / 64) (omega arith)
+      ∙ getD-set-same (chainedTo C n key s h) (16384 + n / 64) (min (blockAt C (n / 64)) key) 0 (omega (arith, chain-length C n key s h))
 
   -- the open keys of the nodes before it
   linked-old : (u : ℕ) → u < n → getD (linkedTo C n key s h) u 0 ≡ getD C u 0
@@ -354,7 +383,7 @@ module _ (C : List ℕ) (n key s h : ℕ) (long : length C ≡ 20544) (few : n <
   pub blocked-link : Blocked C n → Blocked (linkedTo C n key s h) (suc n)
   blocked-link r =
       blocked-change C (linkedTo C n key s h) n (suc n) (n / 64)
-      (record { words = linked-words; keys = λ u l d. linked-old u (older u d (below-cases l)); old = λ u l d. older u d (below-cases l); kept = omega arith })
+      (record { words = linked-words; keys = λ u l d. linked-old u (older u d (below-cases l)); old = λ u l d. older u d (below-cases l); kept = omega arith; few = omega arith })
       (λ u l e. low u e (below-cases l)) (one (decLe (blockAt C (n / 64)) key) (r .held (n / 64) (omega arith))) r
     where
       older : (u : ℕ) → (u / 64 ≡ n / 64 → ⊥) → (u < n) ⊎ (u ≡ n) → u < n
@@ -377,8 +406,15 @@ module _ (C : List ℕ) (n key s h : ℕ) (long : length C ≡ 20544) (few : n <
           })
       one (no d) k = inr (record { node = n; inside = omega arith; block = refl; key = omega (arith, linked-new, linked-word) })
 
+  -- further words, of the nodes before it as they were
+  linked-further : (u k : ℕ) → u < n → k < 4 → furtherAt (linkedTo C n key s h) u k ≡ furtherAt C u k
+  unfolding linkedTo
+  linked-further u k l b =
+      further-other (blockedTo C n key s h) n (headAt C h) (16448 + 4 * u + k) (λ p q. omega arith)
+      ∙ block-behind (16448 + 4 * u + k) (omega arith)
+
 -- node n of the table is linked behind the first n
-module _ (S : ℕ) (T C : List ℕ) (n key : ℕ) (few : n < 4096) (r : Chained S T C n) where
+module _ (S : ℕ) (T C : List ℕ) (n key : ℕ) (few : n < 4096) (own : Packed (rowIn S T n)) (r : Chained S T C n) where
   -- its signature, its class, and the words
   abbrev s : ℕ
   s = signOf (nodeIn S T n .prices)
@@ -474,6 +510,68 @@ module _ (S : ℕ) (T C : List ℕ) (n key : ℕ) (few : n < 4096) (r : Chained 
           ap (λ (u : ℕ). classOf (nodeIn S T u .spot)) q ∙ sym e
       go (no d) = r .headed i w b (sym (head-old i b d) ∙ a)
 
+  -- the words before the further words are stored, and the link of the node
+  abbrev E : List ℕ
+  E = blockedTo C n key s h
+
+  abbrev b : ℕ
+  b = headAt C h
+
+  sign-mid : (u : ℕ) → u < n → signAt E u ≡ signAt C u
+  sign-mid u l = sym (linked-before C n key s h (4096 + u) (omega arith)) ∙ sign-old u l
+
+  link-mid : (u : ℕ) → u < n → linkAt E u ≡ linkAt C u
+  link-mid u l = sym (linked-before C n key s h (8192 + u) (omega arith)) ∙ link-old u l
+
+  back-mid : (k : ℕ) → k < 4 → backFurther E k b ≡ backFurther C k b
+  back-mid k l =
+      back-same C E (λ u. 16448 + 4 * u + k) n b (omega arith)
+      (λ u i. block-behind C n key s h (r .long) few small (16448 + 4 * u + k) (omega arith)) (r .heads h small)
+
+  room : 16448 + 4 * n + 4 ≤ length E
+  room = omega (arith, block-length C n key s h, r .long)
+
+  -- the further words of the node itself
+  first-new : furtherAt D n 0 ≡ backSign D (linkAt D n)
+  unfolding linkedTo
+  first-new =
+      further-first E n b room
+      ∙ back-sign C E n (omega arith) (r .links) sign-mid link-mid b (r .heads h small)
+      ∙ sym (ap (backSign D) link-new ∙ back-sign C D n (omega arith) (r .links) sign-old link-old b (r .heads h small))
+
+  second-new : furtherAt D n 1 ≡ backSign D (backLink D (linkAt D n))
+  unfolding linkedTo
+  second-new =
+      further-second E n b room ∙ back-mid 0 (omega arith) ∙ back-first C n (omega arith) (r .further) b (r .heads h small)
+      ∙ sym (ap (λ (x : ℕ). backSign D (backLink D x)) link-new ∙ back-sign-once C D n (omega arith) (r .links) sign-old link-old b (r .heads h small))
+
+  third-new : furtherAt D n 2 ≡ backSign D (backLink D (backLink D (linkAt D n)))
+  unfolding linkedTo
+  third-new =
+      further-third E n b room ∙ back-mid 1 (omega arith) ∙ back-second C n (omega arith) (r .further) b (r .heads h small)
+      ∙ sym (ap (λ (x : ℕ). backSign D (backLink D (backLink D x))) link-new
+      ∙ back-sign-twice C D n (omega arith) (r .links) sign-old link-old b (r .heads h small))
+
+  jump-new : furtherAt D n 3 ≡ backLink D (backLink D (backLink D (linkAt D n)))
+  unfolding linkedTo
+  jump-new =
+      further-jump E n b room
+      ∙ back-thrice C E n (omega arith) (r .links) sign-mid link-mid b (r .heads h small)
+      ∙ sym (ap (λ (x : ℕ). backLink D (backLink D (backLink D x))) link-new
+      ∙ back-thrice C D n (omega arith) (r .links) sign-old link-old b (r .heads h small))
+
+  further-new : Further D (suc n)
+  further-new =
+      further-more D n first-new second-new third-new jump-new
+      (further-same C D n (omega arith) (r .links) sign-old link-old (linked-further C n key s h (r .long) few small) (r .further))
+
+  packed-more : (u : ℕ) → u < suc n → Packed (rowIn S T u)
+  packed-more u b = go (below-cases b)
+    where
+      go : (u < n) ⊎ (u ≡ n) → Packed (rowIn S T u)
+      go (inl l) = r .packed u l
+      go (inr e) = rw e own
+
   chained-link : Chained S T (linkedTo C n key (signOf (nodeIn S T n .prices)) (classOf (nodeIn S T n .spot))) (suc n)
   chained-link = record {
     long = linked-length C n key s h ∙ r .long;
@@ -485,9 +583,12 @@ module _ (S : ℕ) (T C : List ℕ) (n key : ℕ) (few : n < 4096) (r : Chained 
     last = last-more;
     headed = headed-more;
     blocks = blocked-link C n key s h (r .long) few small (r .blocks);
+    further = further-new;
+    packed = packed-more;
   }
 
--- node n, of centre state c and prices P, is linked; the table's nodes before it are the same
-pub chained-more : (S : ℕ) (T T′ C : List ℕ) (n key : ℕ) (c : Centre) (P : List ℕ) → n < 4096 → ((u : ℕ) → u < n → nodeIn S T′ u ≡ nodeIn S T u)
-    → nodeIn S T′ n .spot ≡ c → nodeIn S T′ n .prices ≡ P → Chained S T C n → Chained S T′ (linkedTo C n key (signOf P) (classOf c)) (suc n)
-chained-more S T T′ C n key c P few same p q r = rw (← p, ← q) (chained-link S T′ C n key few (chained-same S T T′ C n same r))
+-- node n, of centre state c and prices P, is linked; its row has its packs, and the table's rows before it are the same
+pub chained-more : (S : ℕ) (T T′ C : List ℕ) (n key : ℕ) (c : Centre) (P : List ℕ) → n < 4096 → ((u : ℕ) → u < n → rowIn S T′ u ≡ rowIn S T u)
+    → nodeIn S T′ n .spot ≡ c → nodeIn S T′ n .prices ≡ P → Packed (rowIn S T′ n) → Chained S T C n
+    → Chained S T′ (linkedTo C n key (signOf P) (classOf c)) (suc n)
+chained-more S T T′ C n key c P few same p q own r = rw (← p, ← q) (chained-link S T′ C n key few own (chained-same S T T′ C n same r))

@@ -1,22 +1,25 @@
 -- Laws of rows: what stands in a row that was written, and rows of a table. Assumes nothing.
 use mathlib.Core.Path.{_≡_, refl, sym, ap, ap₂, _∙_}
 use mathlib.Core.Logic.{_⊎_, inl, inr}
-use mathlib.Core.Bool.{Bool, _&&_}
+use mathlib.Core.Bool.{Bool, true, false, _&&_, and-false}
 use mathlib.Core.List.{List, [], _∷_, _++_, append-assoc}
 use Prim.Native.Nat.{ℕ, zero, suc, _+_, _-_, _*_, _%_, _≤_, _<_}
 use native.Mathlib.Nat.{not-suc-le-zero, suc-mul, mul-le-mul-right}
 use native.Mathlib.Omega.{arith}
+use native.Mathlib.Decide.{ℕ-discrete}
+use borrow.Author.Tests.{le-leb, lt-leb}
 use lib.Dec.{leb, eqb}
 use lib.ListN.{length, getD, set, take, drop, length-append, length-drop, length-set, take-append-drop, List·getD-append}
 use lib.Seq.{length-take-le, getD-take, getD-drop, getD-set-same, getD-set-other, getD-at, ext-getD, take-at, drop-at, take-append-le, drop-append-le}
 use Rattle.loops.specs.Count.{all, list}
-use Rattle.loops.specs.Count.Laws.{below-cases, all-ext, list-length, list-at}
+use Rattle.loops.specs.Count.Laws.{below-cases, all-in, all-not, all-ext, list-length, list-at}
 use Rattle.task.specs.declared.Centre.{Centre}
 use Rattle.task.specs.Centre.{valueIn}
 use Rattle.layer.specs.Layer.{mark}
 use Rattle.layer.specs.Settle.Turns.{at-any}
 use Rattle.search.specs.Node.{Node, dominates}
-use Rattle.nodes.specs.Row.{spotOf, nodeOf, rowIn, nodeIn, nodesIn, nodeWith}
+use Rattle.nodes.specs.Four.{fourTo, four-length, four-other, four-first, four-second, four-third, four-fourth}
+use Rattle.nodes.specs.Row.{spotOf, nodeOf, rowIn, nodeIn, nodesIn, nodeWith, packOf, Packed, Above, Tested}
 
 -- ---- one row
 
@@ -25,9 +28,30 @@ pub spot-at : (row : List ℕ) (v : ℕ) → v < 32 → valueIn (spotOf row) v �
 unfolding spotOf
 spot-at row v h = list-at 32 (λ k. getD row k 0 % 256) v h
 
+-- it is a byte
+pub spot-lt : (row : List ℕ) (v : ℕ) → v < 32 → valueIn (spotOf row) v < 256
+spot-lt row v h = omega (arith, spot-at row v h)
+
 -- price k of a row is no higher than price k of a list
 abbrev pub notHigher : List ℕ → List ℕ → ℕ → Bool
 notHigher row P k = leb (getD row (40 + k) 0) (getD P k 0)
+
+-- no price so far is higher, nor is price k
+pub higher-more : (row P : List ℕ) (k : ℕ) → ((i : ℕ) → i < k → getD row (40 + i) 0 ≤ getD P i 0) → getD row (40 + k) 0 ≤ getD P k 0
+    → (i : ℕ) → i < k + 1 → getD row (40 + i) 0 ≤ getD P i 0
+higher-more row P k h e i l = go (ℕ-discrete i k)
+  where
+    go : Dec (i ≡ k) → getD row (40 + i) 0 ≤ getD P i 0
+    go (yes q) = rw q e
+    go (no d) = h i (omega arith)
+
+-- a place where the price is higher
+pub above-at : (S : ℕ) (row P : List ℕ) (k : ℕ) → k < S → getD P k 0 < getD row (40 + k) 0 → Above S row P k
+above-at S row P k l h = record { inside = omega arith; higher = λ _. h; none = λ e. absurd (omega arith) }
+
+-- there is none
+pub above-none : (S : ℕ) (row P : List ℕ) → ((i : ℕ) → i < S → getD row (40 + i) 0 ≤ getD P i 0) → Above S row P S
+above-none S row P h = record { inside = omega arith; higher = λ l. absurd (omega arith); none = λ _. h }
 
 -- dominance of the node in a row, by what stands in the row
 pub dominates-is : (S paid : ℕ) (row P : List ℕ) (c : Centre) → length row ≡ 40 + S → S ≤ length P
@@ -44,19 +68,57 @@ dominates-is S paid row P c h l =
     other : (k : ℕ) → k < S → getD (take S P) k mark ≡ getD P k 0
     other k b = getD-take S P k mark b ∙ at-any P k mark 0 (omega arith)
 
+-- what a test of the row's node finds
+module _ (S paid : ℕ) (row P : List ℕ) (c : Centre) (long : length row ≡ 40 + S) (many : S ≤ length P) where
+  -- whether the centre states are the same, and whether the node dominates
+  abbrev same : Bool
+  same = all 32 (λ v. eqb (valueIn (spotOf row) v) (valueIn c v))
+
+  abbrev answer : Bool
+  answer = dominates (nodeOf S row) (nodeWith c paid (take S P) 0 0)
+
+  -- no answer: the hint stays
+  missed : (r : ℕ) → r ≤ S → answer ≡ false → Tested S (nodeOf S row) (nodeWith c paid (take S P) 0 0) r
+  missed r l e = record { found = λ k. absurd (omega arith); missed = λ k. e }
+
+  -- the centre cost is higher
+  pub test-paid : (r : ℕ) → r ≤ S → paid < getD row 32 0 → Tested S (nodeOf S row) (nodeWith c paid (take S P) 0 0) r
+  test-paid r l h = missed r l (dominates-is S paid row P c long many ∙ rw (lt-leb (getD row 32 0) paid h) (and-false same))
+
+  -- a price is higher
+  pub test-price : (k : ℕ) → k < S → getD P k 0 < getD row (40 + k) 0 → Tested S (nodeOf S row) (nodeWith c paid (take S P) 0 0) k
+  test-price k l h =
+      let higher = all-not S (notHigher row P) k l (lt-leb _ _ h) in
+      missed k (omega arith) (dominates-is S paid row P c long many ∙ rw (higher, and-false (leb (getD row 32 0) paid)) (and-false same))
+
+  -- the centre state is another
+  pub test-spot : (r : ℕ) → r ≤ S → same ≡ false → Tested S (nodeOf S row) (nodeWith c paid (take S P) 0 0) r
+  test-spot r l e = missed r l (dominates-is S paid row P c long many ∙ rw e)
+
+  -- nothing is against it
+  pub test-found : getD row 32 0 ≤ paid → ((i : ℕ) → i < S → getD row (40 + i) 0 ≤ getD P i 0) → same ≡ true
+      → Tested S (nodeOf S row) (nodeWith c paid (take S P) 0 0) (S + 1)
+  test-found p q e =
+      let low = all-in S (notHigher row P) (λ k l. le-leb _ _ (q k l)) in
+      record { found = λ k. dominates-is S paid row P c long many ∙ rw (e, le-leb (getD row 32 0) paid p, low); missed = λ k. absurd (omega arith) }
+
 -- a centre cost, a parent and an action stored in a row
 abbrev pub withNumbers : List ℕ → ℕ → ℕ → ℕ → List ℕ
 withNumbers W paid parent action = set (set (set W 32 paid) 33 parent) 34 action
 
--- a row that is written: the centre state's values, then the three numbers, then the prices Q behind the first 40 words
-module _ (S paid parent action : ℕ) (c : Centre) (row W Q X Y P : List ℕ) (wide : length (c .values) ≡ 32)
-    (small : (v : ℕ) → getD (c .values) v 0 < 256) (long : length row ≡ 40 + S) (many : S ≤ length P) (spots : W ≡ c .values ++ drop 32 row) (copied : Q ≡ take S P ++ Y) where
+-- a row that is written: the centre state's values, then its packs, then the three numbers, then the prices Q behind the first 40 words
+module _ (S paid parent action : ℕ) (c : Centre) (row U W Q X Y P : List ℕ) (wide : length (c .values) ≡ 32)
+    (small : (v : ℕ) → getD (c .values) v 0 < 256) (long : length row ≡ 40 + S) (many : S ≤ length P) (spots : U ≡ c .values ++ drop 32 row)
+    (packs : W ≡ fourTo U 35 (packOf c 0) (packOf c 8) (packOf c 16) (packOf c 24)) (copied : Q ≡ take S P ++ Y) where
   -- the row before the prices are copied, and its lengths
   abbrev L : List ℕ
   L = withNumbers W paid parent action
 
+  first-whole : length U ≡ 40 + S
+  first-whole = rw spots (simp (length-append, length-drop) (omega arith))
+
   whole : length W ≡ 40 + S
-  whole = rw spots (simp (length-append, length-drop) (omega arith))
+  whole = ap length packs ∙ four-length U 35 (packOf c 0) (packOf c 8) (packOf c 16) (packOf c 24) ∙ first-whole
 
   front : length (take 40 L) ≡ 40
   front = length-take-le 40 L (simp length-set (omega (arith, whole)))
@@ -71,6 +133,8 @@ module _ (S paid parent action : ℕ) (c : Centre) (row W Q X Y P : List ℕ) (w
       getD-set-other (set (set W 32 paid) 33 parent) 34 v action 0 (λ e. omega arith)
       ∙ getD-set-other (set W 32 paid) 33 v parent 0 (λ e. omega arith)
       ∙ getD-set-other W 32 v paid 0 (λ e. omega arith)
+      ∙ ap (λ (xs : List ℕ). getD xs v 0) packs
+      ∙ four-other U 35 (packOf c 0) (packOf c 8) (packOf c 16) (packOf c 24) v (λ a b. omega arith)
       ∙ rw spots (List·getD-append (c .values) (drop 32 row) 0 v (omega arith))
 
   -- the centre state
@@ -106,6 +170,31 @@ module _ (S paid parent action : ℕ) (c : Centre) (row W Q X Y P : List ℕ) (w
   pub node-written : nodeOf S (take 40 (withNumbers W paid parent action) ++ (Q ++ X)) ≡ nodeWith c paid (take S P) parent action
   unfolding nodeOf
   node-written = cc (spot-is, prices-are, paid-is, parent-is, action-is)
+
+  -- a word behind the numbers
+  behind : (v : ℕ) → 35 ≤ v → v < 40 → getD (take 40 L ++ (Q ++ X)) v 0 ≡ getD (fourTo U 35 (packOf c 0) (packOf c 8) (packOf c 16) (packOf c 24)) v 0
+  behind v a b =
+      word v b
+      ∙ getD-set-other (set (set W 32 paid) 33 parent) 34 v action 0 (λ e. omega arith)
+      ∙ getD-set-other (set W 32 paid) 33 v parent 0 (λ e. omega arith)
+      ∙ getD-set-other W 32 v paid 0 (λ e. omega arith)
+      ∙ ap (λ (xs : List ℕ). getD xs v 0) packs
+
+  -- the row has the packs
+  pub packs-written : Packed (take 40 (withNumbers W paid parent action) ++ (Q ++ X))
+  packs-written =
+      record {
+        first = behind 35 (omega arith) (omega arith) ∙ four-first U 35 _ _ _ _ room ∙ same 0;
+        second = behind 36 (omega arith) (omega arith) ∙ four-second U 35 _ _ _ _ room ∙ same 8;
+        third = behind 37 (omega arith) (omega arith) ∙ four-third U 35 _ _ _ _ room ∙ same 16;
+        fourth = behind 38 (omega arith) (omega arith) ∙ four-fourth U 35 _ _ _ _ room ∙ same 24;
+      }
+    where
+      room : 35 + 4 ≤ length U
+      room = omega (arith, first-whole)
+
+      same : (b : ℕ) → packOf c b ≡ packOf (spotOf (take 40 L ++ (Q ++ X))) b
+      same b = ap (λ (d : Centre). packOf d b) (sym spot-is)
 
 -- ---- rows of a table
 

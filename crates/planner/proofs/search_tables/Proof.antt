@@ -1,11 +1,11 @@
--- `planner::search_tables` meets its contract: the moves have room either way. Assumes nothing.
+-- `planner::search_tables` meets its contract: moves and edges have room either way. Assumes nothing.
 use mathlib.Core.Path.{_≡_}
 use Prim.Native.Nat.{_*_, _≤_}
 use native.Mathlib.Omega.{arith}
 use lib.ListN.{getD}
-use borrow.Author.Needs.{needs}
 use Rattle.task.specs.Factors.{allStates}
 use Rattle.tables.specs.Fit.{row-of, moves-fit}
+use borrow.Author.Needs.{needs}
 use Rattle.planner.proofs.search_tables.Statement.{statement}
 use Rattle.planner.proofs.search_tables.Tie as tie
 
@@ -35,11 +35,14 @@ mul-if1-2 c = omega (arith, small (c .before .before .before .before))
 slice-aggregate-search-with : tie.Need-slice-aggregate-search-with
 slice-aggregate-search-with c = search needs
 
+slice-aggregate-search-with-2 : tie.Need-slice-aggregate-search-with-2
+slice-aggregate-search-with-2 c = search needs
+
 search-with-requires : tie.Need-search-with-requires
 search-with-requires c κs =
-    let s = c .before .before .before .before .before .before .before .before in
-    let room : s .args .task .actions * allStates (s .args .task) ≤ 16384 = rw (row s) at (c .before .before .before .if1 .taken) in
-    (s .pre .0, (s .pre .1 .0, s .pre .1 .1, s .pre .1 .2, s .pre .1 .3, room))
+    let s = c .before .before .before .before .before .before .before .before .before in
+    let room : s .args .task .actions * allStates (s .args .task) ≤ 16384 = rw (row s) at (c .before .before .before .before .if1 .taken) in
+    (s .pre .0, (s .pre .1 .0, s .pre .1 .1, s .pre .1 .2, s .pre .1 .3, room, room))
 
 same-length : tie.Need-same-length
 same-length c = search needs
@@ -50,13 +53,17 @@ same-length-2 c = search needs
 returns : tie.Need-returns
 returns c = search needs
 
-slice-aggregate-search-with-2 : tie.Need-slice-aggregate-search-with-2
-slice-aggregate-search-with-2 c = search needs
+slice-aggregate-search-with-3 : tie.Need-slice-aggregate-search-with-3
+slice-aggregate-search-with-3 c = search needs
+
+slice-aggregate-search-with-4 : tie.Need-slice-aggregate-search-with-4
+slice-aggregate-search-with-4 c = search needs
 
 search-with-requires-2 : tie.Need-search-with-requires-2
 search-with-requires-2 c κs =
-    let s = c .before .before .before .before .before .before .before .before in
-    (s .pre .0, (s .pre .1 .0, s .pre .1 .1, s .pre .1 .2, s .pre .1 .3, moves-fit (s .args .task) (s .pre .0)))
+    let s = c .before .before .before .before .before .before .before .before .before in
+    let room = moves-fit (s .args .task) (s .pre .0) in
+    (s .pre .0, (s .pre .1 .0, s .pre .1 .1, s .pre .1 .2, s .pre .1 .3, room, room))
 
 same-length-3 : tie.Need-same-length-3
 same-length-3 c = search needs
@@ -77,11 +84,13 @@ search-tables-spec =
     array-read-if1
     mul-if1-2
     slice-aggregate-search-with
+    slice-aggregate-search-with-2
     search-with-requires
     same-length
     same-length-2
     returns
-    slice-aggregate-search-with-2
+    slice-aggregate-search-with-3
+    slice-aggregate-search-with-4
     search-with-requires-2
     same-length-3
     same-length-4

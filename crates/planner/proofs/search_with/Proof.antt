@@ -1,23 +1,25 @@
 -- `planner::search_with` meets its contract: the tables are the task's, and what the search stops with is answered. Assumes nothing.
 use mathlib.Core.Path.{_≡_, refl, sym, _∙_}
 use mathlib.Core.List.{[]}
-use Prim.Native.Nat.{_+_}
+use Prim.Native.Nat.{_+_, _*_, _≤_}
+use native.Mathlib.Nat.{mul-comm}
 use native.Mathlib.Omega.{arith}
 use denote.Ref.{now}
 use lib.ListN.{length}
-use borrow.Author.Needs.{needs}
+use Rattle.task.specs.Factors.{allStates}
 use Rattle.layer.specs.Settle.Steps.{replicate-at}
 use Rattle.tables.specs.Tables.{Tabled}
 use Rattle.planner.specs.Planner.{tableWords}
 use Rattle.planner.specs.Planner.Stops.{Sound, stop-is, stop-sound}
+use borrow.Author.Needs.{needs}
 use Rattle.planner.proofs.search_with.Statement.{statement}
 use Rattle.planner.proofs.search_with.Tie as tie
 
 -- the tables are the task's
-tabled : (c : tie.After-leaf-goals) → let s = c .before .before .before .before .before .before .before .before .before .before .before in
+tabled : (c : tie.After-leaf-goals) → let s = c .before .before .before .before .before .before .before .before .before .before .before .before in
     Tabled (s .args .task) (s .args .t2) (c .before .before .before .before .before .before .fill-moves .last .1 .1 .0) (c .before .before .before .action-costs .result) (c .before .before .action-kinds .result) (c .before .leaf-starts .result)
 tabled c =
-    let s = c .before .before .before .before .before .before .before .before .before .before .before in
+    let s = c .before .before .before .before .before .before .before .before .before .before .before .before in
     let kept : length (c .before .before .before .before .before .before .fill-moves .last .1 .1 .0) ≡ length (now (s .args .moves)) = c .before .before .before .before .before .before .fill-moves .kept .1 .1 .0 in
     record {
       is-bases = s .pre .1 .0;
@@ -29,15 +31,15 @@ tabled c =
     }
 
 -- what the search stops with is sound
-sound : (c : tie.After-explore) → let s = c .before .before .before .before .before .before .before .before .before .before .before .before .before .before .before .before .before .before .before .before in Sound (s .args .task) (c .explore .last .1 .1 .1 .1 .1 .1 .1 .1 .1 .0) (c .explore .result .run)
+sound : (c : tie.After-explore) → let s = c .before .before .before .before .before .before .before .before .before .before .before .before .before .before .before .before .before .before .before .before .before .before in Sound (s .args .task) (c .explore .last .1 .1 .1 .1 .1 .1 .1 .1 .1 .1 .0) (c .explore .result .run)
 sound c =
-    let s = c .before .before .before .before .before .before .before .before .before .before .before .before .before .before .before .before .before .before .before .before in
-    let kept : length (c .explore .last .1 .1 .1 .1 .1 .1 .1 .1 .1 .0) ≡ length (now (s .args .table)) = c .explore .kept .1 .1 .1 .1 .1 .1 .1 .1 .1 .0 in
-    stop-sound (s .args .task) (s .args .nodes) (s .args .budget) (c .explore .last .1 .1 .1 .1 .1 .1 .1 .1 .1 .0) (c .explore .last .1 .1 .1 .1 .1 .1 .1 .1 .1 .1 .0) (c .explore .result) (c .explore .ensures .0)
+    let s = c .before .before .before .before .before .before .before .before .before .before .before .before .before .before .before .before .before .before .before .before .before .before in
+    let kept : length (c .explore .last .1 .1 .1 .1 .1 .1 .1 .1 .1 .1 .0) ≡ length (now (s .args .table)) = c .explore .kept .1 .1 .1 .1 .1 .1 .1 .1 .1 .1 .0 in
+    stop-sound (s .args .task) (s .args .nodes) (s .args .budget) (c .explore .last .1 .1 .1 .1 .1 .1 .1 .1 .1 .1 .0) (c .explore .last .1 .1 .1 .1 .1 .1 .1 .1 .1 .1 .1 .0) (c .explore .result) (c .explore .ensures .0)
     (s .pre .1 .1) (s .pre .1 .2) (omega (arith, kept, s .pre .1 .3)) (c .explore .ensures .1 .some)
 
 fill-moves-requires : tie.Need-fill-moves-requires
-fill-moves-requires c κs = let s = c .before .before .before .before in (s .pre .0, (s .pre .1 .0, s .pre .1 .4))
+fill-moves-requires c κs = search needs
 
 action-costs-requires : tie.Need-action-costs-requires
 action-costs-requires c κs = search needs
@@ -72,18 +74,19 @@ slice-aggregate-explore-6 c = search needs
 explore-requires : tie.Need-explore-requires
 unfolding tableWords
 explore-requires c κs =
-    let g = c .before .before .before .before .before .before .before .before in
-    let s = g .before .before .before .before .before .before .before .before .before .before .before in
-    (s .pre .0, ((tabled g, g .leaf-goals .ensures), (s .pre .1 .1, s .pre .1 .2, s .pre .1 .3, refl, λ h _. replicate-at 20544 0 (12288 + h))))
+    let g = c .before .before .before .before .before .before .before .before .before in
+    let s = c .before .before .before .before .before .before .before .before .before .before .before .before .before .before .before .before .before .before .before .before .before in
+    let room : allStates (s .args .task) * s .args .task .actions ≤ length (now (s .args .edges)) = rw (mul-comm (allStates (s .args .task)) (s .args .task .actions)) (s .pre .1 .5) in
+    (s .pre .0, ((tabled g, g .leaf-goals .ensures), (room, (s .pre .1 .1, s .pre .1 .2, s .pre .1 .3, refl, λ h _. replicate-at 36928 0 (12288 + h)))))
 
 slice-aggregate-answer-of : tie.Need-slice-aggregate-answer-of
-slice-aggregate-answer-of c = sym (c .before .before .before .before .before .before .before .before .before .before .before .before .before .before .before .before .before .before .before .before .before .before .before .before .pre .1 .0 .long)
+slice-aggregate-answer-of c = sym (c .before .before .before .before .before .before .before .before .before .before .before .before .before .before .before .before .before .before .before .before .before .before .before .before .before .before .before .before .pre .1 .0 .long)
 
 slice-aggregate-answer-of-2 : tie.Need-slice-aggregate-answer-of-2
-slice-aggregate-answer-of-2 c = search needs
+slice-aggregate-answer-of-2 c = sym (c .before .before .before .before .before .before .before .before .before .before .before .before .before .before .before .before .before .before .before .before .before .action-costs .ensures .long)
 
 slice-aggregate-answer-of-3 : tie.Need-slice-aggregate-answer-of-3
-slice-aggregate-answer-of-3 c = search needs
+slice-aggregate-answer-of-3 c = sym (c .before .before .before .before .before .before .before .before .before .before .before .before .before .before .before .before .before .before .before .before .before .action-kinds .ensures .long)
 
 slice-aggregate-answer-of-4 : tie.Need-slice-aggregate-answer-of-4
 slice-aggregate-answer-of-4 c = search needs
@@ -93,12 +96,11 @@ slice-aggregate-answer-of-5 c = search needs
 
 answer-of-requires : tie.Need-answer-of-requires
 answer-of-requires c κs =
-    let g = c .before .before .before .before .before .before .before .before .before .before .before .before .before .before .before .before .before .before .before .before in
-    let s = g .before .before .before .before .before .before .before .before .before .before .before in
-    (s .pre .0, ((tabled g, g .leaf-goals .ensures), sound (c .before .before .before .before .before .before .before .before .before .before .before)))
+    let g = c .before .before .before .before .before .before .before .before .before .before .before .before .before .before .before .before .before .before .before .before .before .before .before in
+    ((c .before .before .before .before .before .before .before .before .before .before .before .before .before .before .before .before .before .before .before .before .before .before .before .before .before .before .before .before .before .before .before .before .before .before .before) .pre .0, ((tabled g, g .leaf-goals .ensures), sound (c .before .before .before .before .before .before .before .before .before .before .before .before .before)))
 
 same-length : tie.Need-same-length
-same-length c = c .before .before .before .before .before .before .before .before .before .before .before .before .before .before .before .before .before .before .before .before .before .before .before .before .before .before .before .before .before .fill-moves .kept .1 .1 .0
+same-length c = c .before .before .before .before .before .before .before .before .before .before .before .before .before .before .before .before .before .before .before .before .before .before .before .before .before .before .before .before .before .before .before .before .fill-moves .kept .1 .1 .0
 
 same-length-2 : tie.Need-same-length-2
 same-length-2 c = search needs
@@ -106,12 +108,15 @@ same-length-2 c = search needs
 same-length-3 : tie.Need-same-length-3
 same-length-3 c = search needs
 
+same-length-4 : tie.Need-same-length-4
+same-length-4 c = search needs
+
 returns : tie.Need-returns
 returns c =
-    let e = c .before .before .before .before .before .before .before .before .before .before .before .before .before .before in
-    let s = e .before .before .before .before .before .before .before .before .before .before .before .before .before .before .before .before .before .before .before .before in
+    let e = c .before .before .before .before .before .before .before .before .before .before .before .before .before .before .before .before in
+    let s = c .before .before .before .before .before .before .before .before .before .before .before .before .before .before .before .before .before .before .before .before .before .before .before .before .before .before .before .before .before .before .before .before .before .before .before .before .before .before in
     c .before .before .answer-of .ensures
-    ∙ stop-is (s .args .task) (s .args .nodes) (s .args .budget) (e .explore .last .1 .1 .1 .1 .1 .1 .1 .1 .1 .0) (e .explore .last .1 .1 .1 .1 .1 .1 .1 .1 .1 .1 .0) (e .explore .result) (e .explore .ensures .0) (now (s .args .plan)) []
+    ∙ stop-is (s .args .task) (s .args .nodes) (s .args .budget) (e .explore .last .1 .1 .1 .1 .1 .1 .1 .1 .1 .1 .0) (e .explore .last .1 .1 .1 .1 .1 .1 .1 .1 .1 .1 .1 .0) (e .explore .result) (e .explore .ensures .0) (now (s .args .plan)) []
 
 pub search-with-spec : {M : Type 1} → statement M
 search-with-spec =
@@ -138,4 +143,5 @@ search-with-spec =
     same-length
     same-length-2
     same-length-3
+    same-length-4
     returns)

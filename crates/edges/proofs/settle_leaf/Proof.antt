@@ -1,0 +1,150 @@
+-- `edges::settle_leaf` meets its contract. The invariant: for any actions that lead where the leaf's edges do, no price is above its start price,
+-- each is what a walk costs, and no action leads from a clean state to one at less than its price. The enabled actions are such actions. The sum of
+-- the prices falls with each turn. Assumes nothing.
+use mathlib.Core.Path.{_≡_, refl, _∙_}
+use mathlib.Core.List.{List}
+use Prim.Native.Nat.{ℕ}
+use native.Mathlib.Omega.{arith}
+use lib.ListN.{length}
+use borrow.Author.Needs.{needs}
+use Rattle.layer.specs.Settle.Turns.{at-most}
+use Rattle.layer.specs.Settle.Sweeps.{total, Sweeping, sweeping-start, sweeping-end}
+use Rattle.layer.specs.Layer.{mark}
+use Rattle.layer.specs.Board.{Board, rowOn, baseOn, enabledOn}
+use Rattle.layer.specs.Board.Turns.{leaf-settled}
+use Rattle.layer.specs.Lent.{boardOf, costBy, moveBy}
+use Rattle.edges.specs.Edges.{Meant}
+use Rattle.edges.specs.Edges.Leaf.{leaf-ways, leaf-meant}
+use Rattle.edges.proofs.settle_leaf.Statement.{statement}
+use Rattle.edges.proofs.settle_leaf.Tie as tie
+
+abbrev Inv-loop : tie.InvT-loop
+Inv-loop leaves actions bases moves costs kinds conditions mets edges ends i prices₀ row at dirty₀ prices dirty =
+    (length prices ≡ length prices₀) × (length dirty ≡ 256)
+    × ((m : ℕ) (cost : ℕ → ℕ) (to : ℕ → ℕ → ℕ) → Meant moves row at costs mets edges ends (length prices₀) m cost to
+    → Sweeping mark (length prices₀) m cost to prices₀ prices dirty)
+
+abbrev μ-loop : tie.MeasureT-loop
+μ-loop leaves actions bases moves costs kinds conditions mets edges ends i prices₀ row at dirty₀ prices dirty = total prices
+
+mul-row : tie.Need-mul-row Inv-loop μ-loop
+mul-row c = search needs
+
+shared-slice-read-row : tie.Need-shared-slice-read-row Inv-loop μ-loop
+shared-slice-read-row c = search needs
+
+mul-at : tie.Need-mul-at Inv-loop μ-loop
+mul-at c = search needs
+
+shared-slice-read-at : tie.Need-shared-slice-read-at Inv-loop μ-loop
+shared-slice-read-at c = search needs
+
+-- where the function starts, the Board that is lent, and the enabled actions of the leaf
+abbrev start : tie.At-loop Inv-loop μ-loop → tie.Start Inv-loop μ-loop
+start t = t .before .before .before .before .before .before .before .before .before .before .before .before
+
+abbrev board : tie.Start Inv-loop μ-loop → Board
+board s =
+    let a = s .args in
+    boardOf (a .leaves) (a .actions) (a .bases .now) (a .moves .now) (a .costs .now) (a .kinds .now) (a .factors) (a .conditions .now)
+
+abbrev acts : tie.Start Inv-loop μ-loop → List ℕ
+acts s = enabledOn (board s) (s .args .i) (s .args .centre) (s .args .actions)
+
+-- the enabled actions lead where the leaf's edges do
+meant : (s : tie.Start Inv-loop μ-loop) →
+    let a = s .args in
+    let b = board s in
+    Meant (a .moves .now) (rowOn b) (baseOn b (a .i)) (a .costs .now) (a .mets .now) (a .edges .now) (a .ends .now) (length (a .prices .now))
+    (length (acts s)) (costBy (a .costs .now) (acts s)) (moveBy (a .moves .now) (rowOn b) (baseOn b (a .i)) (acts s))
+meant s =
+    let a = s .args in
+    rw (s .pre .4) (leaf-meant (board s) (s .pre .0) (a .edges .now) (a .ends .now) (s .pre .2) (a .i) (s .pre .3) (a .centre) (a .mets .now) (s .pre .1))
+
+loop-holds : tie.Need-loop-holds Inv-loop μ-loop
+loop-holds c =
+    let known = c .before .before in
+    let s = known .before .before .before .before .before .before .before .before .before in
+    let P = s .args .prices .now in (
+      refl,
+      refl,
+      λ m cost to _. sweeping-start mark _ _ _ _ P 256 refl (omega (arith, s .pre .4, s .pre .0 .few-states (s .args .i) (s .pre .3)))
+          (at-most mark P (λ i. omega (arith, known .slice-known .given i))),
+    )
+
+slice-aggregate-sweep : tie.Need-slice-aggregate-sweep Inv-loop μ-loop
+slice-aggregate-sweep c = omega (arith, c .before .before .loop .inv .1)
+
+sweep-requires : tie.Need-sweep-requires Inv-loop μ-loop
+sweep-requires c κs =
+    let l = c .before .before .loop in
+    let s = start (c .before .before) in
+    let a = s .args in
+    let ways = leaf-ways (board s) (s .pre .0) (a .edges .now) (a .ends .now) (s .pre .2) (a .i) (s .pre .3) (a .mets .now) (s .pre .1 .long) in
+    (omega (arith, l .inv .0, l .inv .1, s .pre .4, s .pre .0 .few-states (a .i) (s .pre .3)), rw (l .inv .0, s .pre .4) ways)
+
+loop-less : tie.Need-loop-less Inv-loop μ-loop
+loop-less c =
+    let called = c .before .before .before .before in
+    let t = called .before .before .before in
+    (rw (t .loop .inv .0) at (called .sweep .ensures)) _ _ _ (meant (start t)) .falls (c .if1 .taken)
+
+loop-again : tie.Need-loop-again Inv-loop μ-loop
+loop-again c =
+    let called = c .before .before .before .before in
+    let l = called .before .before .before .loop in
+    let told = rw (l .inv .0) at (called .sweep .ensures) in (
+      called .sweep .kept .0 ∙ l .inv .0,
+      called .sweep .kept .1 .0 ∙ l .inv .1,
+      λ m cost to h. told m cost to h .keeps _ (l .inv .2 m cost to h),
+    )
+
+same-length : tie.Need-same-length Inv-loop μ-loop
+same-length c =
+    let called = c .before .before .before .before in
+    called .sweep .kept .0 ∙ called .before .before .before .loop .inv .0
+
+returns : tie.Need-returns Inv-loop μ-loop
+returns c =
+    let called = c .before .before .before .before in
+    let t = called .before .before .before in
+    let known = t .before .before .before in
+    let s = start t in
+    let P = s .args .prices .now in
+    let told = rw (t .loop .inv .0) at (called .sweep .ensures) in
+    let end = sweeping-end
+    mark
+    _
+    _
+    _
+    _
+    (meant s .ranged)
+    P
+    _
+    _
+    _
+    _
+    refl
+    (at-most mark P (λ i. omega (arith, known .slice-known .given i)))
+    (t .loop .inv .2 _ _ _ (meant s))
+    (told _ _ _ (meant s))
+    (c .if1 .left) in
+    end ∙ leaf-settled (board s) (s .args .i) (s .args .centre) (acts s) _ refl refl P
+
+pub settle-leaf-spec : {M : Type 1} → statement M
+settle-leaf-spec =
+    tie.close
+    (tie.spec
+    Inv-loop
+    μ-loop
+    mul-row
+    shared-slice-read-row
+    mul-at
+    shared-slice-read-at
+    loop-holds
+    slice-aggregate-sweep
+    sweep-requires
+    loop-less
+    loop-again
+    same-length
+    returns)

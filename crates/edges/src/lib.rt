@@ -1,0 +1,358 @@
+// The edges of each leaf state: the leaf actions that move it, in a table made once. A leaf's prices settle along them.
+use layer::MARK;
+use layer::add_price;
+use task::Centre;
+ghost use mathlib.Core.Path.{_≡_};
+ghost use mathlib.Core.List.{_++_};
+ghost use Prim.Native.Nat.{ℕ, _+_, _*_, _-_, _<_, _≤_, min};
+ghost use lib.ListN.{length, getD, set, drop};
+ghost use Rattle.layer.specs.Settle.{lower, relax};
+ghost use Rattle.layer.specs.Settle.Sweeps.{Fell, Visited, Swept};
+ghost use Rattle.layer.specs.Layer.{mark};
+ghost use Rattle.layer.specs.Board.{Sound, settleOn, settledOn};
+ghost use Rattle.layer.specs.Lent.{Front, boardOf, costBy};
+ghost use Rattle.mets.specs.Mets.{Mets};
+ghost use Rattle.edges.specs.Edges.{those, edgeBy, EdgesTo, Edges, Wrote, gated, moveMet, Along, Ways, Meant};
+
+// Whether an action is a leaf action of the leaf behind i leaves and moves state s, counted over all leaves.
+fn is_edge(moves: &[u16], row: usize, kinds: &[u8], i: usize, s: usize, action: usize) -> bool
+    requires { ⌜ (i < 8) × (action < length (now kinds)) × (action * row + s < length (now moves)) ⌝ }
+    ensures { λ r. ⌜ r ≡ edgeBy (now (moves .entry)) row (now (kinds .entry)) i s action ⌝ }
+{
+    if kinds[action] as usize != i + 1 {
+        return false;
+    }
+    moves[action * row + s] != 0
+}
+
+// The edges of state s, which is of the leaf behind i leaves, at the front of `acts`. How many there are.
+fn edges_of(
+    actions: usize,
+    moves: &[u16],
+    row: usize,
+    kinds: &[u8],
+    i: usize,
+    s: usize,
+    acts: &mut [u8],
+) -> usize
+    requires { ⌜ (i < 8) × (actions ≤ 255) × (actions ≤ length (now kinds)) × (actions ≤ length (now acts))
+        × ((a : ℕ) → a < actions → a * row + s < length (now moves)) ⌝ }
+    ensures { λ r. ⌜ Front (those (edgeBy (now (moves .entry)) row (now (kinds .entry)) i s) actions) (now (acts .entry)) r (now (acts .exit)) ⌝ }
+{
+    let mut count = 0;
+    for a in 0..actions {
+        if is_edge(moves, row, kinds, i, s, a) {
+            acts[count] = a as u8;
+            count += 1;
+        }
+    }
+    count
+}
+
+// The edges of state s stand in the table behind those of the states before it.
+fn fill_state(
+    actions: usize,
+    moves: &[u16],
+    row: usize,
+    kinds: &[u8],
+    i: usize,
+    s: usize,
+    edges: &mut [u8],
+    ends: &mut [usize],
+)
+    requires { ⌜ (i < 8) × (actions ≤ 255) × (actions ≤ length (now kinds)) × (s + 1 < length (now ends))
+        × (getD (now ends) s 0 + actions ≤ length (now edges)) × ((a : ℕ) → a < actions → a * row + s < length (now moves)) ⌝ }
+    ensures { λ _. ⌜ Wrote (those (edgeBy (now (moves .entry)) row (now (kinds .entry)) i s) actions) (getD (now (ends .entry)) s 0)
+        (now (edges .entry)) (now (edges .exit))
+        × (now (ends .exit) ≡ set (now (ends .entry)) (s + 1)
+        (getD (now (ends .entry)) s 0 + length (those (edgeBy (now (moves .entry)) row (now (kinds .entry)) i s) actions))) ⌝ }
+{
+    let from = ends[s];
+    let count = edges_of(actions, moves, row, kinds, i, s, &mut edges[from..]);
+    ends[s + 1] = from + count;
+}
+
+// The edges of the states of the leaf behind i leaves stand in the table.
+fn fill_leaf(
+    leaves: usize,
+    actions: usize,
+    bases: &[usize],
+    moves: &[u16],
+    costs: &[u16],
+    kinds: &[u8],
+    factors: [u8; 32],
+    conditions: &[u8],
+    i: usize,
+    edges: &mut [u8],
+    ends: &mut [usize],
+)
+    requires { ⌜ Sound (boardOf leaves actions (now bases) (now moves) (now costs) (now kinds) factors (now conditions)) × (i < leaves)
+        × EdgesTo (boardOf leaves actions (now bases) (now moves) (now costs) (now kinds) factors (now conditions))
+        (getD (now bases) i 0) (now edges) (now ends) ⌝ }
+    ensures { λ _. ⌜ EdgesTo (boardOf leaves actions (now (bases .entry)) (now (moves .entry)) (now (costs .entry)) (now (kinds .entry))
+        factors (now (conditions .entry))) (getD (now (bases .entry)) (i + 1) 0) (now (edges .exit)) (now (ends .exit)) ⌝ }
+{
+    let row = bases[leaves];
+    let from = bases[i];
+    let to = bases[i + 1];
+    for s in from..to {
+        fill_state(actions, moves, row, kinds, i, s, edges, ends);
+    }
+}
+
+// The table of the edges of all leaf states. The edges of state s stand from `ends[s]` to `ends[s + 1]`.
+pub fn fill_edges(
+    leaves: usize,
+    actions: usize,
+    bases: &[usize],
+    moves: &[u16],
+    costs: &[u16],
+    kinds: &[u8],
+    factors: [u8; 32],
+    conditions: &[u8],
+    edges: &mut [u8],
+    ends: &mut [usize],
+)
+    requires { ⌜ Sound (boardOf leaves actions (now bases) (now moves) (now costs) (now kinds) factors (now conditions))
+        × (getD (now bases) leaves 0 * actions ≤ length (now edges)) × (getD (now bases) leaves 0 < length (now ends)) ⌝ }
+    ensures { λ _. ⌜ Edges (boardOf leaves actions (now (bases .entry)) (now (moves .entry)) (now (costs .entry)) (now (kinds .entry))
+        factors (now (conditions .entry))) (now (edges .exit)) (now (ends .exit)) ⌝ }
+{
+    ends[0] = 0;
+    for i in 0..leaves {
+        fill_leaf(
+            leaves,
+            actions,
+            bases,
+            moves,
+            costs,
+            kinds,
+            factors,
+            conditions,
+            i,
+            edges,
+            ends,
+        );
+    }
+}
+
+// The price of the state k - 1 is v where that is lower, and the state is then dirty; k is 0 for no state. Whether it fell.
+fn lowered(prices: &mut [u64], dirty: &mut [u8], k: usize, v: u64) -> bool
+    requires { ⌜ (k ≤ length (now prices)) × (length (now prices) ≤ length (now dirty)) ⌝ }
+    ensures { λ r. ⌜ (now (prices .exit) ≡ lower mark (now (prices .entry)) k v)
+        × Fell mark (now (prices .entry)) (now (dirty .entry)) r (now (prices .exit)) (now (dirty .exit)) ⌝ }
+{
+    if k == 0 {
+        return false;
+    }
+    let t = k - 1;
+    if v >= prices[t] {
+        return false;
+    }
+    prices[t] = v;
+    dirty[t] = 1;
+    true
+}
+
+// An action whose flag is set lowers the price of what it makes of a state with price d. Its move of the state stands at `place`. Whether it fell.
+fn follow(
+    prices: &mut [u64],
+    dirty: &mut [u8],
+    moves: &[u16],
+    costs: &[u16],
+    mets: &[u8],
+    action: usize,
+    place: usize,
+    d: u64,
+) -> bool
+    requires { ⌜ (action < length (now costs)) × (action < length (now mets)) × (place < length (now moves))
+        × (getD (now moves) place 0 ≤ length (now prices)) × (length (now prices) ≤ length (now dirty)) ⌝ }
+    ensures { λ r. ⌜ (now (prices .exit) ≡ lower mark (now (prices .entry))
+        (gated (getD (now (mets .entry)) action 0) (getD (now (moves .entry)) place 0)) (min (d + getD (now (costs .entry)) action 0) mark))
+        × Fell mark (now (prices .entry)) (now (dirty .entry)) r (now (prices .exit)) (now (dirty .exit)) ⌝ }
+{
+    if mets[action] == 0 {
+        return false;
+    }
+    let k = moves[place] as usize;
+    let v = add_price(d, costs[action] as u64);
+    lowered(prices, dirty, k, v)
+}
+
+// These actions, where their flags are set, lower the prices of what they make of state x, and a state whose price fell is dirty. Whether one fell.
+fn relax_along(
+    prices: &mut [u64],
+    dirty: &mut [u8],
+    moves: &[u16],
+    row: usize,
+    at: usize,
+    costs: &[u16],
+    mets: &[u8],
+    acts: &[u8],
+    x: usize,
+) -> bool
+    requires { ⌜ (x < length (now prices)) × (length (now prices) ≤ length (now dirty))
+        × Along (now moves) row at (now costs) (now mets) (now acts) x (length (now prices)) ⌝ }
+    ensures { λ r. ⌜ (now (prices .exit)
+        ≡ relax mark (costBy (now (costs .entry)) (now (acts .entry))) (moveMet (now (moves .entry)) row at (now (mets .entry)) (now (acts .entry)))
+        x (getD (now (prices .entry)) x mark) (now (prices .entry)) (length (now (acts .entry))))
+        × Fell mark (now (prices .entry)) (now (dirty .entry)) r (now (prices .exit)) (now (dirty .exit)) ⌝ }
+{
+    let d = prices[x];
+    let mut fell = false;
+    for j in 0..acts.len() {
+        let a = acts[j] as usize;
+        if follow(prices, dirty, moves, costs, mets, a, a * row + (at + x), d) {
+            fell = true;
+        }
+    }
+    fell
+}
+
+// State x, where it is dirty, is clean afterwards and has lowered the prices of what its edges lead to. Whether one fell.
+fn visit(
+    prices: &mut [u64],
+    dirty: &mut [u8],
+    moves: &[u16],
+    row: usize,
+    at: usize,
+    costs: &[u16],
+    mets: &[u8],
+    edges: &[u8],
+    ends: &[usize],
+    x: usize,
+) -> bool
+    requires { ⌜ (x < length (now prices)) × (length (now prices) ≤ length (now dirty))
+        × Ways (now moves) row at (now costs) (now mets) (now edges) (now ends) (length (now prices)) ⌝ }
+    ensures { λ r. ⌜ ((m : ℕ) (cost : ℕ → ℕ) (to : ℕ → ℕ → ℕ)
+        → Meant (now (moves .entry)) row at (now (costs .entry)) (now (mets .entry)) (now (edges .entry)) (now (ends .entry))
+        (length (now (prices .entry))) m cost to
+        → Visited mark (length (now (prices .entry))) m cost to
+        x (now (prices .entry)) (now (dirty .entry)) r (now (prices .exit)) (now (dirty .exit))) ⌝ }
+{
+    if dirty[x] == 0 {
+        return false;
+    }
+    dirty[x] = 0;
+    if prices[x] >= MARK {
+        return false;
+    }
+    let from = ends[at + x];
+    let to = ends[at + x + 1];
+    relax_along(
+        prices,
+        dirty,
+        moves,
+        row,
+        at,
+        costs,
+        mets,
+        &edges[from..to],
+        x,
+    )
+}
+
+// Every dirty state once, by rising number. Whether a price fell.
+fn sweep(
+    prices: &mut [u64],
+    dirty: &mut [u8],
+    moves: &[u16],
+    row: usize,
+    at: usize,
+    costs: &[u16],
+    mets: &[u8],
+    edges: &[u8],
+    ends: &[usize],
+) -> bool
+    requires { ⌜ (length (now prices) ≤ length (now dirty))
+        × Ways (now moves) row at (now costs) (now mets) (now edges) (now ends) (length (now prices)) ⌝ }
+    ensures { λ r. ⌜ ((m : ℕ) (cost : ℕ → ℕ) (to : ℕ → ℕ → ℕ)
+        → Meant (now (moves .entry)) row at (now (costs .entry)) (now (mets .entry)) (now (edges .entry)) (now (ends .entry))
+        (length (now (prices .entry))) m cost to
+        → Swept mark (length (now (prices .entry))) m cost to
+        (length (now (prices .entry))) (now (prices .entry)) (now (dirty .entry)) r (now (prices .exit)) (now (dirty .exit))) ⌝ }
+{
+    let mut fell = false;
+    for x in 0..prices.len() {
+        if visit(prices, dirty, moves, row, at, costs, mets, edges, ends, x) {
+            fell = true;
+        }
+    }
+    fell
+}
+
+// The prices of the leaf behind i leaves settle: every state is dirty at first, and sweeps go on as long as a price falls.
+fn settle_leaf(
+    leaves: usize,
+    actions: usize,
+    bases: &[usize],
+    moves: &[u16],
+    costs: &[u16],
+    kinds: &[u8],
+    factors: [u8; 32],
+    conditions: &[u8],
+    mets: &[u8],
+    edges: &[u8],
+    ends: &[usize],
+    centre: Centre,
+    i: usize,
+    prices: &mut [u64],
+)
+    requires { ⌜ Sound (boardOf leaves actions (now bases) (now moves) (now costs) (now kinds) factors (now conditions))
+        × Mets (boardOf leaves actions (now bases) (now moves) (now costs) (now kinds) factors (now conditions)) centre (now mets)
+        × Edges (boardOf leaves actions (now bases) (now moves) (now costs) (now kinds) factors (now conditions)) (now edges) (now ends)
+        × (i < leaves) × (length (now prices) ≡ getD (now bases) (i + 1) 0 - getD (now bases) i 0) ⌝ }
+    ensures { λ _. ⌜ now (prices .exit) ≡ settleOn (boardOf leaves actions (now (bases .entry)) (now (moves .entry)) (now (costs .entry)) (now (kinds .entry))
+        factors (now (conditions .entry))) i centre (now (prices .entry)) ⌝ }
+{
+    let row = bases[leaves];
+    let at = bases[i];
+    let mut dirty = [1u8; 256];
+    while sweep(prices, &mut dirty, moves, row, at, costs, mets, edges, ends) {}
+}
+
+// The prices at the front of `new` settle along the edges, leaf by leaf; `centre` is the layer's centre state, and `mets` flags the actions whose
+// centre conditions hold there.
+pub fn settle_edges(
+    leaves: usize,
+    actions: usize,
+    bases: &[usize],
+    moves: &[u16],
+    costs: &[u16],
+    kinds: &[u8],
+    factors: [u8; 32],
+    conditions: &[u8],
+    mets: &[u8],
+    edges: &[u8],
+    ends: &[usize],
+    centre: Centre,
+    new: &mut [u64],
+)
+    requires { ⌜ Sound (boardOf leaves actions (now bases) (now moves) (now costs) (now kinds) factors (now conditions))
+        × Mets (boardOf leaves actions (now bases) (now moves) (now costs) (now kinds) factors (now conditions)) centre (now mets)
+        × Edges (boardOf leaves actions (now bases) (now moves) (now costs) (now kinds) factors (now conditions)) (now edges) (now ends)
+        × (getD (now bases) leaves 0 ≤ length (now new)) ⌝ }
+    ensures { λ _. ⌜ now (new .exit) ≡ settledOn (boardOf leaves actions (now (bases .entry)) (now (moves .entry)) (now (costs .entry)) (now (kinds .entry))
+        factors (now (conditions .entry))) centre (now (new .entry)) ++ drop (getD (now (bases .entry)) leaves 0) (now (new .entry)) ⌝ }
+{
+    for i in 0..leaves {
+        let from = bases[i];
+        let to = bases[i + 1];
+        settle_leaf(
+            leaves,
+            actions,
+            bases,
+            moves,
+            costs,
+            kinds,
+            factors,
+            conditions,
+            mets,
+            edges,
+            ends,
+            centre,
+            i,
+            &mut new[from..to],
+        );
+    }
+}
