@@ -4,7 +4,7 @@ pub mod Turns
 use mathlib.Core.Path.{_≡_}
 use mathlib.Core.Bool.{true, false, _&&_}
 use mathlib.Core.List.{List, [], _++_, reverse}
-use Prim.Native.Nat.{ℕ, zero, suc, _+_, _*_, _≤_, _<_}
+use Prim.Native.Nat.{ℕ, zero, suc, _+_, _-_, _*_, _≤_, _<_}
 use lib.Dec.{eqb, leb}
 use lib.ListN.{length, getD, set, drop, replicate}
 use Rattle.layer.specs.Layer.{mark}
@@ -73,6 +73,10 @@ goalOn bases goals P i =
 -- the row of node u lies within the table
 abbrev pub RowIn : ℕ → List ℕ → ℕ → Type 0
 RowIn S T u = u * (40 + S) + (40 + S) ≤ length T
+
+-- k entries are room for the edges of each leaf: one for each action and state
+abbrev pub Roomy : ℕ → ℕ → List ℕ → ℕ → Type 0
+Roomy leaves actions bases k = (i : ℕ) → i < leaves → actions * (getD bases (i + 1) 0 - getD bases i 0) ≤ k
 
 -- the tables can be indexed, each leaf begins in one of its states, the rows of node u and of its parent lie within the table, and its action is known
 pub record Standing (b : Board) (starts T : List ℕ) (u : ℕ) : Type 0 where

@@ -30,7 +30,7 @@ ghost use Rattle.search.specs.Plan.Real.{Real};
 ghost use Rattle.nodes.specs.Row.{nodeIn};
 ghost use Rattle.nodes.specs.Scan.{Cut, goalsBy};
 ghost use Rattle.wayback.specs.Walked.{Walked};
-ghost use Rattle.plans.specs.Walk.{heldIn, beginsOn, backFrom, backOn, WalkableFrom, WalkableOn, overOn, goalOn, RowIn, Standing, LayerWalked, NodeWalked, written};
+ghost use Rattle.plans.specs.Walk.{heldIn, beginsOn, backFrom, backOn, WalkableFrom, WalkableOn, overOn, goalOn, RowIn, Roomy, Standing, LayerWalked, NodeWalked, written};
 ghost use Rattle.plans.specs.Steps.{Priced};
 
 // ---- goal states
@@ -156,7 +156,7 @@ fn leaf_walk(
     requires { ⌜ Sound (boardOf leaves actions (now bases) (now moves) (now costs) (now kinds) factors (now conditions)) × (i < leaves)
         × RowIn (getD (now bases) leaves 0) (now table) node ⌝ }
     requires { ⌜ WalkableFrom (boardOf leaves actions (now bases) (now moves) (now costs) (now kinds) factors (now conditions)) (now table) i node (now begins) state ⌝ }
-    requires { ⌜ (65280 ≤ length (now tight)) × (total ≤ length (now plan)) × (place + 256 ≤ mark) ⌝ }
+    requires { ⌜ (actions * (getD (now bases) (i + 1) 0 - getD (now bases) i 0) ≤ length (now tight)) × (total ≤ length (now plan)) × (place + 256 ≤ mark) ⌝ }
     ensures { λ r. ⌜ Walked (backFrom (boardOf leaves actions (now (bases .entry)) (now (moves .entry)) (now (costs .entry)) (now (kinds .entry)) factors
         (now (conditions .entry))) (now (table .entry)) i node (now (begins .entry)) state) total place (now (plan .entry)) r (now (plan .exit)) ⌝ }
 {
@@ -210,7 +210,7 @@ fn leaf_step(
 ) -> Ended
     requires { ⌜ Standing (boardOf leaves actions (now bases) (now moves) (now costs) (now kinds) factors (now conditions)) (now starts) (now table) node × (i < leaves) ⌝ }
     requires { ⌜ WalkableOn (boardOf leaves actions (now bases) (now moves) (now costs) (now kinds) factors (now conditions)) (now starts) (now table) i node state ⌝ }
-    requires { ⌜ (65280 ≤ length (now tight)) × (total ≤ length (now plan)) × (place + 256 ≤ mark) ⌝ }
+    requires { ⌜ (actions * (getD (now bases) (i + 1) 0 - getD (now bases) i 0) ≤ length (now tight)) × (total ≤ length (now plan)) × (place + 256 ≤ mark) ⌝ }
     ensures { λ r. ⌜ Walked (backOn (boardOf leaves actions (now (bases .entry)) (now (moves .entry)) (now (costs .entry)) (now (kinds .entry)) factors
         (now (conditions .entry))) (now (starts .entry)) (now (table .entry)) i node state) total place (now (plan .entry)) r (now (plan .exit)) ⌝ }
 {
@@ -277,7 +277,7 @@ fn layer_back(
     requires { ⌜ Standing (boardOf leaves actions (now bases) (now moves) (now costs) (now kinds) factors (now conditions)) (now starts) (now table) node ⌝ }
     requires { ⌜ ((i : ℕ) → i < leaves → WalkableOn (boardOf leaves actions (now bases) (now moves) (now costs) (now kinds) factors (now conditions)) (now starts) (now table) i node
         (getD (now ends) i 0)) ⌝ }
-    requires { ⌜ (leaves ≤ length (now ends)) × (65280 ≤ length (now tight)) × (total ≤ length (now plan)) × (place + 2048 ≤ mark) ⌝ }
+    requires { ⌜ (leaves ≤ length (now ends)) × Roomy leaves actions (now bases) (length (now tight)) × (total ≤ length (now plan)) × (place + 2048 ≤ mark) ⌝ }
     ensures { λ r. ⌜ LayerWalked leaves (λ i. backOn (boardOf leaves actions (now (bases .entry)) (now (moves .entry)) (now (costs .entry)) (now (kinds .entry)) factors
         (now (conditions .entry))) (now (starts .entry)) (now (table .entry)) i node (getD (now (ends .entry)) i 0)) total place (now (plan .entry)) r (now (ends .exit))
         (now (plan .exit)) ⌝ }
@@ -412,7 +412,7 @@ fn node_back(
         (getD (now ends) i 0)) ⌝ }
     requires { ⌜ ((i : ℕ) → i < leaves → backOn (boardOf leaves actions (now bases) (now moves) (now costs) (now kinds) factors (now conditions)) (now starts) (now table) i node
         (getD (now ends) i 0) .from < getD (now bases) (i + 1) 0 - getD (now bases) i 0) ⌝ }
-    requires { ⌜ (leaves ≤ length (now ends)) × (65280 ≤ length (now tight)) × (total ≤ length (now plan)) × (place + 2049 ≤ mark) ⌝ }
+    requires { ⌜ (leaves ≤ length (now ends)) × Roomy leaves actions (now bases) (length (now tight)) × (total ≤ length (now plan)) × (place + 2049 ≤ mark) ⌝ }
     ensures { λ r. ⌜ NodeWalked leaves (λ i. backOn (boardOf leaves actions (now (bases .entry)) (now (moves .entry)) (now (costs .entry)) (now (kinds .entry)) factors
         (now (conditions .entry))) (now (starts .entry)) (now (table .entry)) i node (getD (now (ends .entry)) i 0))
         (nodeIn (getD (now (bases .entry)) leaves 0) (now (table .entry)) node .action) (λ i z. overOn (boardOf leaves actions (now (bases .entry)) (now (moves .entry)) (now (costs .entry)) (now (kinds .entry)) factors
@@ -470,12 +470,14 @@ pub fn walk_back(
     count: usize,
     node: usize,
     ends: [usize; 8],
+    tight: &mut [u16],
     plan: &mut [u8],
     total: usize,
 ) -> usize
     requires { ⌜ Valid task × Tabled task (now bases) (now moves) (now costs) (now kinds) (now starts) ⌝ }
     requires { ⌜ Real task (heldIn (allStates task) (now table) count) × Priced task (heldIn (allStates task) (now table) count) node (λ i. getD ends i 0) ⌝ }
-    requires { ⌜ (node < count) × (count ≤ 4096) × (count * (40 + allStates task) ≤ length (now table)) × (total ≤ length (now plan)) ⌝ }
+    requires { ⌜ (node < count) × (count ≤ 4096) × (count * (40 + allStates task) ≤ length (now table)) × (total ≤ length (now plan))
+        × Roomy (task .leaves) (task .actions) (now bases) (length (now tight)) ⌝ }
     ensures { λ r. ⌜ (r ≡ length (planBack task (heldIn (allStates task) (now (table .entry)) count) node node (λ i. getD ends i 0)))
         × (now (plan .exit) ≡ laid total 0 (planBack task (heldIn (allStates task) (now (table .entry)) count) node node (λ i. getD ends i 0)) (now (plan .entry))) ⌝ }
 {
@@ -483,7 +485,6 @@ pub fn walk_back(
     let actions = task.actions as usize;
     let factors = task.factors;
     let conditions = task.conditions;
-    let mut tight = [0u16; 65280];
     let mut states = ends;
     let mut u = node;
     let mut place = 0;
@@ -501,7 +502,7 @@ pub fn walk_back(
             table,
             u,
             &mut states,
-            &mut tight,
+            tight,
             plan,
             total,
             place,
@@ -521,14 +522,77 @@ pub fn walk_back(
         table,
         u,
         &mut states,
-        &mut tight,
+        tight,
         plan,
         total,
         place,
     )
 }
 
-// The plan of a goal node at the front of the lent buffer, where it has room: how many actions it has.
+// The plan of a goal node at the front of the lent buffer, where it has room: how many actions it has. `tight` is only lent to work in. The plan
+// is walked once to count its actions, and once more to write them.
+fn write_with(
+    task: Task,
+    bases: &[usize],
+    moves: &[u16],
+    costs: &[u16],
+    kinds: &[u8],
+    starts: &[usize],
+    goals: &[u16],
+    table: &[u64],
+    count: usize,
+    node: usize,
+    tight: &mut [u16],
+    plan: &mut [u8],
+) -> usize
+    requires { ⌜ Valid task × Tabled task (now bases) (now moves) (now costs) (now kinds) (now starts) × Goals task (now goals) ⌝ }
+    requires { ⌜ Real task (heldIn (allStates task) (now table) count) × (isGoal task (nodeAt task (heldIn (allStates task) (now table) count) node) ≡ true) ⌝ }
+    requires { ⌜ (node < count) × (count ≤ 4096) × (count * (40 + allStates task) ≤ length (now table))
+        × Roomy (task .leaves) (task .actions) (now bases) (length (now tight)) ⌝ }
+    ensures { λ r. ⌜ (r ≡ length (planOf task (heldIn (allStates task) (now (table .entry)) count) node))
+        × (now (plan .exit) ≡ written (planOf task (heldIn (allStates task) (now (table .entry)) count) node) (now (plan .entry))) ⌝ }
+{
+    let leaves = task.leaves as usize;
+    let row = bases[leaves];
+    let from = node * (40 + row) + 40;
+    let ends = goal_ends(leaves, bases, goals, &table[from..from + row]);
+    let length = walk_back(
+        task,
+        bases,
+        moves,
+        costs,
+        kinds,
+        starts,
+        table,
+        count,
+        node,
+        ends,
+        tight,
+        plan,
+        0,
+    );
+    if length > plan.len() {
+        return length;
+    }
+    walk_back(
+        task,
+        bases,
+        moves,
+        costs,
+        kinds,
+        starts,
+        table,
+        count,
+        node,
+        ends,
+        tight,
+        plan,
+        length,
+    )
+}
+
+// The plan of a goal node at the front of the lent buffer, where it has room: how many actions it has. What it works in is
+// small for a small task, since it takes time to make.
 pub fn write_plan(
     task: Task,
     bases: &[usize],
@@ -549,38 +613,37 @@ pub fn write_plan(
         × (now (plan .exit) ≡ written (planOf task (heldIn (allStates task) (now (table .entry)) count) node) (now (plan .entry))) ⌝ }
 {
     let leaves = task.leaves as usize;
-    let row = bases[leaves];
-    let from = node * (40 + row) + 40;
-    let ends = goal_ends(leaves, bases, goals, &table[from..from + row]);
-    let length = walk_back(
-        task,
-        bases,
-        moves,
-        costs,
-        kinds,
-        starts,
-        table,
-        count,
-        node,
-        ends,
-        plan,
-        0,
-    );
-    if length > plan.len() {
-        return length;
+    let actions = task.actions as usize;
+    if actions * bases[leaves] <= 4096 {
+        let mut tight = [0u16; 4096];
+        return write_with(
+            task,
+            bases,
+            moves,
+            costs,
+            kinds,
+            starts,
+            goals,
+            table,
+            count,
+            node,
+            &mut tight,
+            plan,
+        );
     }
-    walk_back(
+    let mut tight = [0u16; 65280];
+    write_with(
         task,
         bases,
         moves,
         costs,
         kinds,
         starts,
+        goals,
         table,
         count,
         node,
-        ends,
+        &mut tight,
         plan,
-        length,
     )
 }

@@ -2,6 +2,7 @@ pub mod Steps
 pub mod Lowest
 pub mod Sources
 pub mod Tight
+pub mod Joined
 pub mod Rows
 pub mod On
 pub mod First

@@ -3,7 +3,6 @@ use mathlib.Core.Path.{_≡_, refl, _∙_}
 use mathlib.Core.Bool.{cond, _&&_}
 use mathlib.Core.List.{List}
 use Prim.Native.Nat.{ℕ, _*_, _≤_, _<_}
-use native.Mathlib.Nat.{mul-le-mul}
 use native.Mathlib.Omega.{arith}
 use lib.Dec.{ltb, eqb}
 use lib.ListN.{length, getD}
@@ -59,13 +58,9 @@ module _ (moves : List ℕ) (row at : ℕ) (costs acts : List ℕ) (m : ℕ) (B 
       let none : getD (tableDepths moves row at costs acts m B P) y mark ≡ 0 = omega (arith, depths-below (tightBy moves row at costs acts P) m B P y) in
       rw (none, backBy) (record { state = refl; place = omega arith; plan = refl })
 
-  -- a table of 255 rows of 256 entries is long enough
-  pub room : (table : List ℕ) → 65280 ≤ length table → m * length P ≤ length table
-  room table l = omega (arith, mul-le-mul (w .few-actions) (w .few-states))
-
   module _ (table : List ℕ) (same : (j x : ℕ) → j < m → x < length P → rowsOf (length P) table j x ≡ tightBy moves row at costs acts P j x) where
     -- a table of the tight edges will do
-    pub edges-tabled : 65280 ≤ length table → Tabled table acts m B P y
+    pub edges-tabled : m * length P ≤ length table → Tabled table acts m B P y
     edges-tabled l =
         record {
           acts-long = w .lent .acts-long;
@@ -73,13 +68,13 @@ module _ (moves : List ℕ) (row at : ℕ) (costs acts : List ℕ) (m : ℕ) (B 
           few-states = w .few-states;
           same = w .same;
           inside = w .inside;
-          long = room table l;
+          long = l;
           stay = λ j x h k. omega (arith, same j x h k, tight-le P x (costBy costs acts j) (moveBy moves row at acts j x), w .lent .moves-in j x h k);
           deep = rw (depths-ext _ m B P (tightBy moves row at costs acts P) same) (w .deep);
         }
 
     -- its way is the one by the lent tables
-    pub edges-way : 65280 ≤ length table → wayBy (rowsOf (length P) table) acts m B P y ≡ tableBack moves row at costs acts m B P y
+    pub edges-way : m * length P ≤ length table → wayBy (rowsOf (length P) table) acts m B P y ≡ tableBack moves row at costs acts m B P y
     unfolding wayBy
     edges-way l =
         let R = rowsOf (length P) table in

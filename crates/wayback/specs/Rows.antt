@@ -78,22 +78,22 @@ module _ (table acts : List ℕ) (m : ℕ) (these : acts ≡ list 256 (λ j. j))
   own : (j : ℕ) → j < m → getD acts j 0 ≡ j
   own j h = rw these (list-at 256 (λ i. i) j (omega arith))
 
-  -- its rows are what settling is lent
-  pub rows-lent : (n : ℕ) → m * n ≤ length table → ((j x : ℕ) → j < m → x < n → rowsOf n table j x ≤ n)
-      → Lent table n 0 (replicate 256 1) acts m n
-  rows-lent n long stay =
+  -- its rows, of `row` entries, are what settling is lent
+  pub rows-lent : (row n : ℕ) → ((j x : ℕ) → j < m → x < n → j * row + x < length table) → ((j x : ℕ) → j < m → x < n → rowsOf row table j x ≤ n)
+      → Lent table row 0 (replicate 256 1) acts m n
+  rows-lent row n long stay =
       record {
         acts-long = omega (arith, list-length 256 (λ j. j), ap length these);
         costs-long = λ j h. omega (arith, own j h, length-replicate {A = ℕ} 256 1);
-        moves-long = λ j x h k. rw (own j h, zero-add) (omega (arith, row-in m n j h));
+        moves-long = λ j x h k. rw (own j h, zero-add) (long j x h k);
         moves-in = λ j x h k. rw (own j h, zero-add) (stay j x h k);
       }
 
   -- settling by it gives the depths
-  pub rows-settled : (B P : List ℕ) → settled mark m (costBy (replicate 256 1) acts) (moveBy table (length P) 0 acts) (depth0 B P)
-      ≡ depthsBy (rowsOf (length P) table) m B P
+  pub rows-settled : (row : ℕ) (B P : List ℕ) → settled mark m (costBy (replicate 256 1) acts) (moveBy table row 0 acts) (depth0 B P)
+      ≡ depthsBy (rowsOf row table) m B P
   unfolding depthsBy
-  rows-settled B P =
+  rows-settled row B P =
       settled-ext mark m (length P) _ _ _ _ cost (λ j x h k. rw (own j h, zero-add)) (depth0 B P) (list-length (length P) _)
     where
       cost : (j : ℕ) → j < m → costBy (replicate 256 1) acts j ≡ 1

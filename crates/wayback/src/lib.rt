@@ -6,7 +6,7 @@ ghost use mathlib.Core.Path.{_≡_};
 ghost use mathlib.Core.Bool.{cond, _&&_};
 ghost use Prim.Native.Nat.{ℕ, suc, _+_, _*_, _<_, _≤_};
 ghost use lib.Dec.{ltb, eqb};
-ghost use lib.ListN.{length, getD};
+ghost use lib.ListN.{length, getD, replicate};
 ghost use Rattle.loops.specs.Count.{list};
 ghost use Rattle.layer.specs.Layer.{mark};
 ghost use Rattle.layer.specs.Lent.{Lent};
@@ -15,6 +15,7 @@ ghost use Rattle.search.specs.Plan.Laid.{put};
 ghost use Rattle.search.specs.Plan.Depths.{depth0};
 ghost use Rattle.wayback.specs.Steps.{tightAt, tightBy, rowsOf, depthsBy, backBy, wayBy, tableBack, Walkable, Tabled};
 ghost use Rattle.wayback.specs.Sources.{Sourced};
+ghost use Rattle.wayback.specs.Joined.{Added, RowJoined, Joined};
 ghost use Rattle.wayback.specs.First.{keep, EdgeMet, RowMet, RowsMet, Passable};
 ghost use Rattle.wayback.specs.Walked.{Walked};
 
@@ -43,19 +44,56 @@ fn tight_move(prices: &[u64], x: usize, cost: u64, to: u16) -> u16
     to
 }
 
-// The edges of one action, whose moves begin at `from`.
-fn tight_row(prices: &[u64], moves: &[u16], from: usize, cost: u64, out: &mut [u16])
-    requires { ⌜ (length (now out) ≡ length (now prices)) × (from + length (now prices) ≤ length (now moves))
-        × ((x : ℕ) → x < length (now prices) → getD (now moves) (from + x) 0 ≤ length (now prices)) ⌝ }
-    ensures { λ _. ⌜ now (out .exit)
-        ≡ list (length (now (prices .entry))) (λ x. tightAt (now (prices .entry)) x cost (getD (now (moves .entry)) (from + x) 0)) ⌝ }
+// An edge from state x to the state before `to` goes into the first row that has none from x. How many rows there are; 17 where 16 are too few.
+fn add_edge(joined: &mut [u16], degrees: &mut [u8], rows: usize, x: usize, to: u16) -> usize
+    requires { ⌜ (x < 256) × (4096 ≤ length (now joined)) × (x < length (now degrees)) ⌝ }
+    ensures { λ r. ⌜ Added (now (joined .entry)) (now (degrees .entry)) rows x to (now (joined .exit)) (now (degrees .exit)) r ⌝ }
 {
-    for x in 0..prices.len() {
-        out[x] = tight_move(prices, x, cost, moves[from + x]);
+    if to == 0 {
+        return rows;
     }
+    let d = degrees[x] as usize;
+    if d >= 16 {
+        return 17;
+    }
+    joined[d * 256 + x] = to;
+    degrees[x] = (d + 1) as u8;
+    if rows > d {
+        return rows;
+    }
+    d + 1
 }
 
-// The edges of the first `count` actions of a list, one row for each, at the front of `tight`.
+// The edges of one action, whose moves begin at `from`. They go into the joined rows too: how many there are then.
+fn tight_row(
+    prices: &[u64],
+    moves: &[u16],
+    from: usize,
+    cost: u64,
+    out: &mut [u16],
+    joined: &mut [u16],
+    degrees: &mut [u8],
+    rows: usize,
+) -> usize
+    requires { ⌜ (length (now out) ≡ length (now prices)) × (from + length (now prices) ≤ length (now moves))
+        × ((x : ℕ) → x < length (now prices) → getD (now moves) (from + x) 0 ≤ length (now prices)) ⌝ }
+    requires { ⌜ (length (now prices) ≤ 256) × (4096 ≤ length (now joined)) × (length (now prices) ≤ length (now degrees)) ⌝ }
+    ensures { λ _. ⌜ now (out .exit)
+        ≡ list (length (now (prices .entry))) (λ x. tightAt (now (prices .entry)) x cost (getD (now (moves .entry)) (from + x) 0)) ⌝ }
+    ensures { λ r. ⌜ RowJoined (length (now (prices .entry))) (λ x. tightAt (now (prices .entry)) x cost (getD (now (moves .entry)) (from + x) 0))
+        (length (now (prices .entry))) (now (joined .entry)) (now (degrees .entry)) rows (now (joined .exit)) (now (degrees .exit)) r ⌝ }
+{
+    let mut r = rows;
+    for x in 0..prices.len() {
+        let to = tight_move(prices, x, cost, moves[from + x]);
+        out[x] = to;
+        r = add_edge(joined, degrees, r, x, to);
+    }
+    r
+}
+
+// The edges of the first `count` actions of a list, one row for each, at the front of `tight`, and all in few joined rows, where 16 are enough:
+// how many there are.
 fn tight_table(
     prices: &[u64],
     moves: &[u16],
@@ -65,25 +103,35 @@ fn tight_table(
     acts: &[u8],
     count: usize,
     tight: &mut [u16],
-)
+    joined: &mut [u16],
+) -> usize
     requires { ⌜ Lent (now moves) row at (now costs) (now acts) count (length (now prices)) × (0 < length (now prices))
         × (count * length (now prices) ≤ length (now tight)) ⌝ }
+    requires { ⌜ (length (now prices) ≤ 256) × (now joined ≡ replicate 4096 0) ⌝ }
     ensures { λ _. ⌜ ((j x : ℕ) → j < count → x < length (now (prices .entry)) → rowsOf (length (now (prices .entry))) (now (tight .exit)) j x
         ≡ tightBy (now (moves .entry)) row at (now (costs .entry)) (now (acts .entry)) (now (prices .entry)) j x) ⌝ }
+    ensures { λ r. ⌜ (r ≤ 16 → Joined (length (now (prices .entry))) count
+        (tightBy (now (moves .entry)) row at (now (costs .entry)) (now (acts .entry)) (now (prices .entry))) (now (joined .exit)) r) ⌝ }
 {
     let n = prices.len();
+    let mut degrees = [0u8; 256];
+    let mut rows = 0;
     for j in 0..count {
         let a = acts[j] as usize;
         let cost = costs[a] as u64;
         let from = j * n;
-        tight_row(
+        rows = tight_row(
             prices,
             moves,
             a * row + at,
             cost,
             &mut tight[from..from + n],
+            joined,
+            &mut degrees,
+            rows,
         );
     }
+    rows
 }
 
 // The depth of state x where depths begin: 0 where it has kept its price, else the mark.
@@ -123,17 +171,30 @@ fn numbers() -> [u8; 256]
     all
 }
 
-// The depths of all states, by the edges of `count` actions.
-fn depths_of(begins: &[u64], prices: &[u64], tight: &[u16], count: usize, depths: &mut [u64])
+// The depths of all states, by the edges of `count` actions: along the joined rows where 16 are enough, else along all rows.
+fn depths_of(
+    begins: &[u64],
+    prices: &[u64],
+    tight: &[u16],
+    count: usize,
+    joined: &[u16],
+    rows: usize,
+    depths: &mut [u64],
+)
     requires { ⌜ (length (now begins) ≡ length (now prices)) × (length (now depths) ≡ length (now prices)) × (length (now prices) ≤ 256)
         × (count ≤ 255) × (count * length (now prices) ≤ length (now tight))
         × ((j x : ℕ) → j < count → x < length (now prices) → rowsOf (length (now prices)) (now tight) j x ≤ length (now prices)) ⌝ }
+    requires { ⌜ (rows ≤ 16 → Joined (length (now prices)) count (rowsOf (length (now prices)) (now tight)) (now joined) rows) ⌝ }
     ensures { λ _. ⌜ now (depths .exit)
         ≡ depthsBy (rowsOf (length (now (prices .entry))) (now (tight .entry))) count (now (begins .entry)) (now (prices .entry)) ⌝ }
 {
     first_depths(begins, prices, depths);
     let ones = [1u16; 256];
     let acts = numbers();
+    if rows <= 16 {
+        settle(depths, joined, 256, 0, &ones, &acts, rows);
+        return;
+    }
     settle(depths, tight, prices.len(), 0, &ones, &acts, count);
 }
 
@@ -261,13 +322,16 @@ fn walk(
     Ended { state: y, place: p }
 }
 
-// From a state back to one of depth 0, by a table of the edges; the depths are written over what is lent for them.
+// From a state back to one of depth 0, by a table of the edges and the rows that they are joined in; the depths are written over what is lent for
+// them.
 fn table_back(
     begins: &[u64],
     prices: &[u64],
     tight: &[u16],
     acts: &[u8],
     count: usize,
+    joined: &[u16],
+    rows: usize,
     state: usize,
     depths: &mut [u64],
     plan: &mut [u8],
@@ -276,10 +340,11 @@ fn table_back(
 ) -> Ended
     requires { ⌜ Tabled (now tight) (now acts) count (now begins) (now prices) state × (length (now depths) ≡ length (now prices))
         × (total ≤ length (now plan)) × (place + 256 ≤ mark) ⌝ }
+    requires { ⌜ (rows ≤ 16 → Joined (length (now prices)) count (rowsOf (length (now prices)) (now tight)) (now joined) rows) ⌝ }
     ensures { λ r. ⌜ Walked (wayBy (rowsOf (length (now (prices .entry))) (now (tight .entry))) (now (acts .entry)) count (now (begins .entry))
         (now (prices .entry)) state) total place (now (plan .entry)) r (now (plan .exit)) ⌝ }
 {
-    depths_of(begins, prices, tight, count, depths);
+    depths_of(begins, prices, tight, count, joined, rows, depths);
     walk(tight, acts, count, &depths[..], state, plan, total, place)
 }
 
@@ -300,14 +365,25 @@ pub fn leaf_back(
     place: usize,
 ) -> Ended
     requires { ⌜ Walkable (now moves) row at (now costs) (now acts) count (now begins) (now prices) state
-        × (65280 ≤ length (now tight)) × (total ≤ length (now plan)) × (place + 256 ≤ mark) ⌝ }
+        × (count * length (now prices) ≤ length (now tight)) × (total ≤ length (now plan)) × (place + 256 ≤ mark) ⌝ }
     ensures { λ r. ⌜ Walked (tableBack (now (moves .entry)) row at (now (costs .entry)) (now (acts .entry)) count (now (begins .entry))
         (now (prices .entry)) state) total place (now (plan .entry)) r (now (plan .exit)) ⌝ }
 {
     if first_depth(begins, prices, state) == 0 {
         return Ended { state, place };
     }
-    tight_table(prices, moves, row, at, costs, acts, count, tight);
+    let mut joined = [0u16; 4096];
+    let rows = tight_table(
+        prices,
+        moves,
+        row,
+        at,
+        costs,
+        acts,
+        count,
+        tight,
+        &mut joined,
+    );
     let mut depths = [0u64; 256];
     let n = prices.len();
     table_back(
@@ -316,6 +392,8 @@ pub fn leaf_back(
         &tight[..],
         acts,
         count,
+        &joined,
+        rows,
         state,
         &mut depths[..n],
         plan,

@@ -71,7 +71,7 @@ leaf-step-requires c κs =
     let l = t .before .loop in
     let place : l .p + 256 ≤ mark = omega (arith, s .pre .1 .1 .3, l .inv .4 .room, l .inv .0, s .pre .0 .sound .few-leaves, t .loop-test .taken) in (
       (s .pre .0, omega (arith, l .inv .0)),
-      (walks t, (omega (arith, s .pre .1 .1 .1, l .inv .2), omega (arith, s .pre .1 .1 .2, l .inv .3), place)),
+      (walks t, (omega (arith, s .pre .1 .1 .1 (l .i - 1) (omega (arith, l .inv .0, t .loop-test .taken)), l .inv .2), omega (arith, s .pre .1 .1 .2, l .inv .3), place)),
     )
 
 mul-ends : tie.Need-mul-ends Inv-loop μ-loop

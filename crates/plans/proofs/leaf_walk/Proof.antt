@@ -10,7 +10,7 @@ use Rattle.layer.specs.Board.{Board, baseOn, rowOn, statesOn, enabledOn}
 use Rattle.layer.specs.Board.Turns.{base-in, enabled-part, front-these, front-many}
 use Rattle.layer.specs.Lent.{boardOf}
 use Rattle.plans.specs.Walk.{pricesOn, actsOn}
-use Rattle.plans.specs.Walk.Laws.{spot-at, slice-is, slice-length, kept-here, walkable-here, walked-here}
+use Rattle.plans.specs.Walk.Laws.{spot-at, slice-is, slice-length, kept-here, walkable-here, walked-here, room-here}
 use Rattle.plans.proofs.leaf_walk.Statement.{statement}
 use Rattle.plans.proofs.leaf_walk.Tie as tie
 
@@ -168,7 +168,8 @@ leaf-back-requires c κs =
     let s = start e in
     let a = s .args in (
       walkable-here (board s) (a .table .now) (a .i) (a .node) (a .begins .now) _ _ _ (a .state) (front e) (counted e) (lent s) (s .pre .1 .0),
-      s .pre .1 .1 .0,
+      room-here (board s) (a .table .now) (a .i) (a .node) _ _ _ _ (front e) (counted e) (lent s) (sym (s .pre .1 .0 .same) ∙ room s .2)
+          (s .pre .1 .1 .0),
       s .pre .1 .1 .1,
       s .pre .1 .1 .2,
     )

@@ -13,21 +13,21 @@ use Rattle.layer.specs.Lent.{boardOf}
 use Rattle.search.specs.Plan.Backwards.{planBack}
 use Rattle.search.specs.Plan.Laid.{laid}
 use Rattle.nodes.specs.Row.{nodeIn}
-use Rattle.plans.specs.Walk.{heldIn, Standing}
+use Rattle.plans.specs.Walk.{heldIn, Roomy, Standing}
 use Rattle.plans.specs.Fit.{Grounds, searchOn, grounds-on, standing-on}
 use Rattle.plans.specs.Steps.{Priced, walks, lands, Along, along-none, along-more, along-few, along-end}
 use Rattle.plans.proofs.walk_back.Statement.{statement}
 use Rattle.plans.proofs.walk_back.Tie as tie
 
 abbrev Inv-loop : tie.InvT-loop
-Inv-loop bases moves costs kinds starts table count node plan₀ total leaves actions factors conditions tight₀ states₀ u₀ place₀ plan tight states u place =
+Inv-loop bases moves costs kinds starts table count node tight₀ plan₀ total leaves actions factors conditions states₀ u₀ place₀ tight plan states u place =
     let b = boardOf leaves actions bases moves costs kinds factors conditions in
-    (u < count) × (length states ≡ 8) × (length tight ≡ 65280) × (length plan ≡ length plan₀) × (place + u * 2049 ≤ node * 2049)
+    (u < count) × (length states ≡ 8) × (length tight ≡ length tight₀) × (length plan ≡ length plan₀) × (place + u * 2049 ≤ node * 2049)
     × ((t : Task) → Grounds t b starts table count → Priced t (searchOn b table count) node (λ i. getD states₀ i 0)
     → Along t (searchOn b table count) node states₀ total plan₀ u states place plan)
 
 abbrev μ-loop : tie.MeasureT-loop
-μ-loop bases moves costs kinds starts table count node plan₀ total leaves actions factors conditions tight₀ states₀ u₀ place₀ plan tight states u place =
+μ-loop bases moves costs kinds starts table count node tight₀ plan₀ total leaves actions factors conditions states₀ u₀ place₀ tight plan states u place =
     u
 
 -- the Board of the task
@@ -54,7 +54,7 @@ row s = row-on (s .args .task) (board s) (grounds s .fits)
 
 -- where the function starts, seen from the loop
 abbrev start : tie.At-loop Inv-loop μ-loop → tie.Start Inv-loop μ-loop
-start c = c .before .before .before .before .before .before .before .before .before .before .before .before
+start c = c .before .before .before .before .before .before .before .before .before .before .before .before .before
 
 -- where the walk is
 along : (c : tie.At-loop Inv-loop μ-loop) → let a = start c .args in
@@ -77,11 +77,15 @@ standing c =
 
 -- what is lent is long enough, and the place cannot wrap
 room : (c : tie.At-loop Inv-loop μ-loop) → let a = start c .args in
-    (a .task .leaves ≤ length (c .loop .states)) × (65280 ≤ length (c .loop .tight)) × (a .total ≤ length (c .loop .plan)) × (c .loop .place + 2049 ≤ mark)
+    (a .task .leaves ≤ length (c .loop .states)) × Roomy (a .task .leaves) (a .task .actions) (a .bases .now) (length (c .loop .tight)) × (a .total ≤ length (c .loop .plan)) × (c .loop .place + 2049 ≤ mark)
 room c =
     let s = start c in
-    let i = c .loop .inv in
-    omega (arith, i .1, s .pre .0 .0 .fields .few-leaves, i .2, i .3, s .pre .1 .1 .3, i .4, s .pre .1 .1 .0, s .pre .1 .1 .1)
+    let i = c .loop .inv in (
+      omega (arith, i .1, s .pre .0 .0 .fields .few-leaves),
+      λ j h. omega (arith, i .2, s .pre .1 .1 .4 j h),
+      omega (arith, i .3, s .pre .1 .1 .3),
+      omega (arith, i .4, s .pre .1 .1 .0, s .pre .1 .1 .1),
+    )
 
 cast-leaves : tie.Need-cast-leaves Inv-loop μ-loop
 cast-leaves c = search needs
@@ -91,17 +95,14 @@ cast-actions c = search needs
 
 loop-holds : tie.Need-loop-holds Inv-loop μ-loop
 loop-holds c =
-    let s = c .before .before .before .before .before .before .before .before .before .before .before in
-    (s .pre .1 .1 .0, lists s .2, length-replicate {A = ℕ} 65280 0, refl, omega arith, λ t g q. along-none t _ _ _ _ _ q)
+    let s = c .before .before .before .before .before .before .before .before .before .before .before .before in
+    (s .pre .1 .1 .0, lists s .2, refl, refl, omega arith, λ t g q. along-none t _ _ _ _ _ q)
 
 slice-aggregate-node-back : tie.Need-slice-aggregate-node-back Inv-loop μ-loop
 slice-aggregate-node-back c = sym (lists (start (c .before .before)) .1)
 
 slice-aggregate-node-back-2 : tie.Need-slice-aggregate-node-back-2 Inv-loop μ-loop
 slice-aggregate-node-back-2 c = sym (c .before .before .before .loop .inv .1)
-
-slice-aggregate-node-back-3 : tie.Need-slice-aggregate-node-back-3 Inv-loop μ-loop
-slice-aggregate-node-back-3 c = sym (c .before .before .before .before .loop .inv .2)
 
 node-back-requires : tie.Need-node-back-requires Inv-loop μ-loop
 node-back-requires c κs =
@@ -124,15 +125,15 @@ node-back-requires c κs =
     )
 
 mul-parent-of : tie.Need-mul-parent-of Inv-loop μ-loop
-mul-parent-of c = omega (arith, start (c .before .before .before .before .before .before .before .before .before .before) .pre .0 .0 .fields .few-leaves)
+mul-parent-of c = omega (arith, start (c .before .before .before .before .before .before .before .before .before .before .before) .pre .0 .0 .fields .few-leaves)
 
 shared-slice-read-parent-of : tie.Need-shared-slice-read-parent-of Inv-loop μ-loop
 shared-slice-read-parent-of c =
-    let s = start (c .before .before .before .before .before .before .before .before .before .before .before) in
+    let s = start (c .before .before .before .before .before .before .before .before .before .before .before .before) in
     omega (arith, s .pre .0 .0 .fields .few-leaves, s .pre .0 .1 .is-bases .long)
 
 parent-of-requires : tie.Need-parent-of-requires Inv-loop μ-loop
-parent-of-requires c κs = standing (c .before .before .before .before .before .before .before .before .before .before .before) .here
+parent-of-requires c κs = standing (c .before .before .before .before .before .before .before .before .before .before .before .before) .here
 
 -- a turn leads to a lower node, by few actions
 turn : (c : tie.After-node-back Inv-loop μ-loop) (v : ℕ) → let l = c .before .before .before .before .before .before in let a = start l .args in
@@ -147,11 +148,11 @@ turn c v e =
     _ _ _ (c .before .before .before .before .before .loop-test .taken) v e (c .node-back .ensures)
 
 loop-less : tie.Need-loop-less Inv-loop μ-loop
-loop-less c = omega (arith, turn (c .before .before .before .before .before .before) _ (c .parent-of .ensures))
+loop-less c = omega (arith, turn (c .before .before .before .before .before .before .before) _ (c .parent-of .ensures))
 
 loop-again : tie.Need-loop-again Inv-loop μ-loop
 loop-again c =
-    let e = c .before .before .before .before .before .before in
+    let e = c .before .before .before .before .before .before .before in
     let l = e .before .before .before .before .before .before in
     let low = turn e _ (c .parent-of .ensures) in (
       omega (arith, low, l .loop .inv .0),
@@ -169,9 +170,6 @@ slice-aggregate-layer-back c = sym (lists (start (c .before .before)) .1)
 slice-aggregate-layer-back-2 : tie.Need-slice-aggregate-layer-back-2 Inv-loop μ-loop
 slice-aggregate-layer-back-2 c = sym (c .before .before .before .loop .inv .1)
 
-slice-aggregate-layer-back-3 : tie.Need-slice-aggregate-layer-back-3 Inv-loop μ-loop
-slice-aggregate-layer-back-3 c = sym (c .before .before .before .before .loop .inv .2)
-
 layer-back-requires : tie.Need-layer-back-requires Inv-loop μ-loop
 layer-back-requires c κs =
     let l = c .before .before .before .before .before in
@@ -186,11 +184,14 @@ layer-back-requires c κs =
     )
 
 same-length : tie.Need-same-length Inv-loop μ-loop
-same-length c = c .before .before .before .before .layer-back .kept .1 .1 .1 .1 .1 .1 .1 .1 .1 .1 .1 .1 .1 .0 ∙ c .before .before .before .before .before .before .before .before .before .before .loop .inv .3
+same-length c = c .before .before .before .before .before .layer-back .kept .1 .1 .1 .1 .1 .1 .1 .1 .1 .1 .1 .1 .0 ∙ c .before .before .before .before .before .before .before .before .before .before .before .loop .inv .2
+
+same-length-2 : tie.Need-same-length-2 Inv-loop μ-loop
+same-length-2 c = c .before .before .before .before .before .layer-back .kept .1 .1 .1 .1 .1 .1 .1 .1 .1 .1 .1 .1 .1 .0 ∙ c .before .before .before .before .before .before .before .before .before .before .before .loop .inv .3
 
 returns : tie.Need-returns Inv-loop μ-loop
 returns c =
-    let w = c .before .before .before .before in
+    let w = c .before .before .before .before .before in
     let l = w .before .before .before .before .before .before in
     let s = start l in
     let a = s .args in
@@ -214,7 +215,6 @@ walk-back-spec =
     loop-holds
     slice-aggregate-node-back
     slice-aggregate-node-back-2
-    slice-aggregate-node-back-3
     node-back-requires
     mul-parent-of
     shared-slice-read-parent-of
@@ -223,7 +223,7 @@ walk-back-spec =
     loop-again
     slice-aggregate-layer-back
     slice-aggregate-layer-back-2
-    slice-aggregate-layer-back-3
     layer-back-requires
     same-length
+    same-length-2
     returns)
