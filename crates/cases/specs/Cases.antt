@@ -14,9 +14,10 @@ use Rattle.parts.specs.Grammar.{headOf, variableOf, pairOf, pairsFrom, countedP
 use Rattle.whole.specs.Whole.{factorsUsed, statesFew, allStar, wholeOf}
 use Rattle.record.specs.Example.{fetchRecord, withoutTake, emptyGoal}
 use Rattle.record.specs.Record.{filledOf, readRecord}
-use Rattle.layer.specs.Settle.{lower, key as priceKey, keyAt, keyOf, pick, relax, settle, settled}
-use Rattle.layer.specs.Pass.{pass}
-use Rattle.layer.specs.Layer.{mark, enabledTo, settleLeaf, startLeaf, passLeaf, passes, base, leafPart, joined, firstPrices, nextPrices, appliesTo}
+use Rattle.leaf.specs.Price.{mark}
+use Rattle.leaf.specs.Settle.{lower, key as priceKey, keyAt, keyOf, pick, relax, settle, settled}
+use Rattle.leaf.specs.Pass.{pass}
+use Rattle.layer.specs.Layer.{enabledTo, settleLeaf, startLeaf, passLeaf, passes, base, leafPart, joined, firstPrices, nextPrices, appliesTo}
 use Rattle.price.specs.Path.{nextLayer, walk}
 use Rattle.price.specs.Ways.{weave}
 use Rattle.pricer.specs.declared.PriceAnswer.the-variants.{Prices}

@@ -10,9 +10,9 @@ use mathlib.Core.List.{List, [], _∷_, _++_}
 use Prim.Native.Nat.{ℕ, zero, suc, _+_, _-_, _*_, _≤_, _<_}
 use lib.Dec.{eqb}
 use lib.ListN.{length, getD, take, drop}
-use Rattle.layer.specs.Settle.Walks.{Ranged}
+use Rattle.leaf.specs.Settle.Walks.{Ranged}
+use Rattle.leaf.specs.Lent.{costBy, moveBy}
 use Rattle.layer.specs.Board.{Board, rowOn}
-use Rattle.layer.specs.Lent.{costBy, moveBy}
 
 -- the numbers below n that pass a test, by rising number
 unfoldable pub those : (ℕ → Bool) → ℕ → List ℕ

@@ -1,16 +1,18 @@
 // The edges of each leaf state: the leaf actions that move it, in a table made once. A leaf's prices settle along them.
-use layer::MARK;
-use layer::add_price;
+use leaf::MARK;
+use leaf::add_price;
+use leaf::lowered;
 use task::Centre;
 ghost use mathlib.Core.Path.{_≡_};
 ghost use mathlib.Core.List.{_++_};
 ghost use Prim.Native.Nat.{ℕ, _+_, _*_, _-_, _<_, _≤_, min};
 ghost use lib.ListN.{length, getD, set, drop};
-ghost use Rattle.layer.specs.Settle.{lower, relax};
-ghost use Rattle.layer.specs.Settle.Sweeps.{Fell, Visited, Swept};
-ghost use Rattle.layer.specs.Layer.{mark};
+ghost use Rattle.leaf.specs.Price.{mark};
+ghost use Rattle.leaf.specs.Settle.{lower, relax};
+ghost use Rattle.leaf.specs.Settle.Sweeps.{Fell, Visited, Swept};
+ghost use Rattle.leaf.specs.Lent.{costBy};
 ghost use Rattle.layer.specs.Board.{Sound, settleOn, settledOn};
-ghost use Rattle.layer.specs.Lent.{Front, boardOf, costBy};
+ghost use Rattle.layer.specs.Lent.{Front, boardOf};
 ghost use Rattle.mets.specs.Mets.{Mets};
 ghost use Rattle.edges.specs.Edges.{those, edgeBy, EdgesTo, Edges, Wrote, gated, moveMet, Along, Ways, Meant};
 
@@ -134,24 +136,6 @@ pub fn fill_edges(
             ends,
         );
     }
-}
-
-// The price of the state k - 1 is v where that is lower, and the state is then dirty; k is 0 for no state. Whether it fell.
-fn lowered(prices: &mut [u64], dirty: &mut [u8], k: usize, v: u64) -> bool
-    requires { ⌜ (k ≤ length (now prices)) × (length (now prices) ≤ length (now dirty)) ⌝ }
-    ensures { λ r. ⌜ (now (prices .exit) ≡ lower mark (now (prices .entry)) k v)
-        × Fell mark (now (prices .entry)) (now (dirty .entry)) r (now (prices .exit)) (now (dirty .exit)) ⌝ }
-{
-    if k == 0 {
-        return false;
-    }
-    let t = k - 1;
-    if v >= prices[t] {
-        return false;
-    }
-    prices[t] = v;
-    dirty[t] = 1;
-    true
 }
 
 // An action whose flag is set lowers the price of what it makes of a state with price d. Its move of the state stands at `place`. Whether it fell.

@@ -15,7 +15,8 @@ use Rattle.task.specs.declared.Task.{Task}
 use Rattle.task.specs.declared.Centre.{Centre}
 use Rattle.task.specs.Factors.{allStates}
 use Rattle.task.specs.Valid.{Valid}
-use Rattle.layer.specs.Layer.{mark, base}
+use Rattle.leaf.specs.Price.{mark}
+use Rattle.layer.specs.Layer.{base}
 use Rattle.layer.specs.Board.{Board, Fits, rowOn, settledOn}
 use Rattle.tables.specs.Tables.{Goals}
 use Rattle.search.specs.Node.{Node, key, goalCost, dominates}

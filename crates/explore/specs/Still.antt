@@ -15,11 +15,12 @@ use Rattle.loops.specs.Count.Laws.{below-cases, sum-ext}
 use Rattle.task.specs.declared.Task.{Task}
 use Rattle.task.specs.declared.Centre.{Centre}
 use Rattle.task.specs.Meaning.{cost}
-use Rattle.layer.specs.Settle.Turns.{at-any}
-use Rattle.layer.specs.Settle.Walks.{Capped}
-use Rattle.layer.specs.Pass.{pass}
-use Rattle.layer.specs.Pass.Laws.{pass-length, pass-cap, pass-hit, pass-from}
-use Rattle.layer.specs.Layer.{mark, leafPart, passLeaf, joined}
+use Rattle.leaf.specs.Price.{mark}
+use Rattle.leaf.specs.Settle.Turns.{at-any}
+use Rattle.leaf.specs.Settle.Walks.{Capped}
+use Rattle.leaf.specs.Pass.{pass}
+use Rattle.leaf.specs.Pass.Laws.{pass-length, pass-cap, pass-hit, pass-from}
+use Rattle.layer.specs.Layer.{leafPart, passLeaf, joined}
 use Rattle.layer.specs.Layer.Leaf.{passLeaf-floor}
 use Rattle.layer.specs.Layer.Front.{part-take}
 use Rattle.layer.specs.Board.{Board, Sound, baseOn, rowOn, statesOn, toOn, passOn, partOn, beginOn}

@@ -1,12 +1,12 @@
 // The exploration over the lent table.
 use edges::fill_edges;
 use edges::settle_edges;
-use layer::MARK;
-use layer::add_price;
 use layer::begin_layer;
 use layer::first_conditions;
 use layer::first_layer;
 use layer::pairs_of;
+use leaf::MARK;
+use leaf::add_price;
 use mets::mets_of;
 use mets::next_met;
 use nodes::choose;

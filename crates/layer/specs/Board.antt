@@ -15,9 +15,10 @@ use Rattle.task.specs.declared.Centre.{Centre}
 use Rattle.task.specs.Meaning.{Partial, initial, factor, condition, cost}
 use Rattle.task.specs.Factors.{centreAction, leafAction, number, states, allStates, to}
 use Rattle.task.specs.Centre.{centreMeets}
-use Rattle.layer.specs.Settle.{settled}
-use Rattle.layer.specs.Pass.{pass}
-use Rattle.layer.specs.Layer.{mark, base, joined}
+use Rattle.leaf.specs.Price.{mark}
+use Rattle.leaf.specs.Settle.{settled}
+use Rattle.leaf.specs.Pass.{pass}
+use Rattle.layer.specs.Layer.{base, joined}
 
 -- the tables: where each leaf's states begin (and S behind the last leaf), what each action makes of each leaf state, costs, the leaf of each
 -- leaf action (0 for a centre action), factors, conditions

@@ -14,12 +14,9 @@ use Rattle.task.specs.declared.Centre.{Centre}
 use Rattle.task.specs.Meaning.{initial, factor, condition, effect, cost}
 use Rattle.task.specs.Factors.{leafAction, number, states, to}
 use Rattle.task.specs.Centre.{centre, centreAfter, centreMeets}
-use Rattle.layer.specs.Settle.{settled}
-use Rattle.layer.specs.Pass.{pass}
-
--- "unreachable is 2^64 − 1"
-abbrev pub mark : ℕ
-mark = 18446744073709551615
+use Rattle.leaf.specs.Price.{mark}
+use Rattle.leaf.specs.Settle.{settled}
+use Rattle.leaf.specs.Pass.{pass}
 
 -- ---- one leaf
 

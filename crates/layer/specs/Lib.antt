@@ -1,5 +1,3 @@
-pub mod Settle
-pub mod Pass
 pub mod Layer
 pub mod Board
 pub mod Lent

@@ -17,7 +17,7 @@ use lib.Dec.{ltb, eqb}
 use lib.ListN.{length, getD, set}
 use Rattle.loops.specs.Count.{any}
 use Rattle.task.specs.declared.Centre.{Centre}
-use Rattle.layer.specs.Layer.{mark}
+use Rattle.leaf.specs.Price.{mark}
 use Rattle.search.specs.Node.{Node, dominates}
 use Rattle.nodes.specs.Row.{rowIn, nodeIn, packOf, Packed}
 use Rattle.nodes.specs.Block.{blockAt, Blocked}

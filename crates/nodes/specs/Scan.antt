@@ -11,7 +11,7 @@ use lib.ListN.{length, getD, take, drop}
 use Rattle.loops.specs.Count.{list, sum}
 use Rattle.task.specs.declared.Centre.{Centre}
 use Rattle.task.specs.Centre.{centreMeets}
-use Rattle.layer.specs.Layer.{mark}
+use Rattle.leaf.specs.Price.{mark}
 use Rattle.search.specs.Node.{leastOf}
 
 -- n entries can be cut into leaves by the bases

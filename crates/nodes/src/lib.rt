@@ -1,6 +1,6 @@
 // Rows of nodes in the lent table, and what the search scans: keys, goal costs, chains, blocks, dominance, the choice of the next node.
-use layer::MARK;
-use layer::add_price;
+use leaf::MARK;
+use leaf::add_price;
 use task::Centre;
 use words::copy_words;
 ghost use mathlib.Core.Path.{_≡_};
@@ -10,7 +10,7 @@ ghost use lib.Dec.{eqb};
 ghost use lib.ListN.{length, take, drop};
 ghost use Rattle.loops.specs.Count.{all, any};
 ghost use Rattle.task.specs.Centre.{valueIn};
-ghost use Rattle.layer.specs.Layer.{mark};
+ghost use Rattle.leaf.specs.Price.{mark};
 ghost use Rattle.search.specs.Node.{leastOf, dominates};
 ghost use Rattle.nodes.specs.Row.{spotOf, nodeOf, rowIn, nodeIn, nodeWith, packOf, Packed, Above, Tested};
 ghost use Rattle.nodes.specs.Four.{fourTo};

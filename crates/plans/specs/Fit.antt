@@ -10,7 +10,8 @@ use Rattle.task.specs.Meaning.{initial}
 use Rattle.task.specs.Factors.{number, states, allStates}
 use Rattle.task.specs.Valid.{Valid}
 use Rattle.task.specs.Star.{number-lt}
-use Rattle.layer.specs.Layer.{mark, enabled, startLeaf, leafPart}
+use Rattle.leaf.specs.Price.{mark}
+use Rattle.layer.specs.Layer.{enabled, startLeaf, leafPart}
 use Rattle.layer.specs.Layer.Leaf.{leaf-length}
 use Rattle.layer.specs.Board.{Board, Fits, Sound, baseOn, rowOn, enabledOn}
 use Rattle.layer.specs.Board.Laws.{states-on, row-on, part-on, enabled-on, pass-on}

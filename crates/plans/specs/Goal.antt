@@ -12,7 +12,8 @@ use Rattle.loops.specs.Count.Laws.{list-ext}
 use Rattle.task.specs.declared.Task.{Task}
 use Rattle.task.specs.Meaning.{goal}
 use Rattle.task.specs.Factors.{states, valuesOf, meetsIn}
-use Rattle.layer.specs.Layer.{mark, base, leafPart}
+use Rattle.leaf.specs.Price.{mark}
+use Rattle.layer.specs.Layer.{base, leafPart}
 use Rattle.layer.specs.Layer.Front.{cond-not}
 use Rattle.layer.specs.Board.{Board}
 use Rattle.layer.specs.Board.Laws.{part-on}

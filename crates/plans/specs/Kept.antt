@@ -4,7 +4,8 @@ use mathlib.Core.List.{List, []}
 use Prim.Native.Nat.{ℕ, zero, suc}
 use lib.ListN.{getD}
 use Rattle.task.specs.declared.Task.{Task}
-use Rattle.layer.specs.Layer.{mark, enabled, leafPart}
+use Rattle.leaf.specs.Price.{mark}
+use Rattle.layer.specs.Layer.{enabled, leafPart}
 use Rattle.search.specs.Node.{Node}
 use Rattle.search.specs.Explore.{Search, nodeAt}
 use Rattle.search.specs.Plan.{Back, depths, back, begins, backIn, over, stages, pathTo, goalState, planOf}

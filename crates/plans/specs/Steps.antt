@@ -7,8 +7,9 @@ use native.Mathlib.Omega.{arith}
 use lib.ListN.{length, getD, length-append, length-reverse}
 use Rattle.task.specs.declared.Task.{Task}
 use Rattle.task.specs.Factors.{states}
-use Rattle.layer.specs.Settle.Steps.{price-in}
-use Rattle.layer.specs.Layer.{mark, leafPart}
+use Rattle.leaf.specs.Price.{mark}
+use Rattle.leaf.specs.Settle.Steps.{price-in}
+use Rattle.layer.specs.Layer.{leafPart}
 use Rattle.layer.specs.Board.{Board, baseOn, rowOn, statesOn}
 use Rattle.layer.specs.Board.Laws.{states-on}
 use Rattle.search.specs.Explore.{Search, nodeAt}

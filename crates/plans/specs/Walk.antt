@@ -7,7 +7,7 @@ use mathlib.Core.List.{List, [], _++_, reverse}
 use Prim.Native.Nat.{ℕ, zero, suc, _+_, _-_, _*_, _≤_, _<_}
 use lib.Dec.{eqb, leb}
 use lib.ListN.{length, getD, set, drop, replicate}
-use Rattle.layer.specs.Layer.{mark}
+use Rattle.leaf.specs.Price.{mark}
 use Rattle.layer.specs.Board.{Board, Sound, baseOn, rowOn, statesOn, partOn, enabledOn, passOn}
 use Rattle.search.specs.Node.{Node, leastOf}
 use Rattle.search.specs.Explore.{Search}

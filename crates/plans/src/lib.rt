@@ -1,7 +1,7 @@
 // The plan of a node of the lent table, walked back node by node and written into the lent buffer from its end.
-use layer::MARK;
 use layer::enabled;
-use layer::pass;
+use leaf::MARK;
+use leaf::pass;
 use nodes::least_goal;
 use nodes::read_spot;
 use task::Task;
@@ -17,7 +17,7 @@ ghost use lib.Dec.{eqb};
 ghost use lib.ListN.{length, getD, replicate};
 ghost use Rattle.task.specs.Factors.{allStates};
 ghost use Rattle.task.specs.Valid.{Valid};
-ghost use Rattle.layer.specs.Layer.{mark};
+ghost use Rattle.leaf.specs.Price.{mark};
 ghost use Rattle.layer.specs.Board.{Sound};
 ghost use Rattle.layer.specs.Lent.{boardOf};
 ghost use Rattle.tables.specs.Tables.{Filled, Goals, Tabled};

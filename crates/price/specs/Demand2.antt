@@ -11,7 +11,8 @@ use Rattle.task.specs.Meaning.{initial, final}
 use Rattle.task.specs.Factors.{number, allStates, leafCost}
 use Rattle.task.specs.Valid.{Valid}
 use Rattle.task.specs.Star.{number-lt}
-use Rattle.layer.specs.Layer.{mark, leafPart}
+use Rattle.leaf.specs.Price.{mark}
+use Rattle.layer.specs.Layer.{leafPart}
 use Rattle.price.specs.Path.{Layer, firstLayer, ends, stuck, walk}
 use Rattle.price.specs.Path.Laws.{price, rise, first-settled, first-small, first-at}
 use Rattle.price.specs.Demand.{Along, EndsAt, NoSequence, Priced}

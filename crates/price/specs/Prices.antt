@@ -14,7 +14,8 @@ use Rattle.task.specs.Factors.{centreAction, states, to}
 use Rattle.task.specs.Centre.{centreMeets}
 use Rattle.task.specs.Valid.{Valid}
 use Rattle.task.specs.Star.{number-lt, to-in}
-use Rattle.layer.specs.Layer.{LeafWalk, mark, nextCentre, appliesTo}
+use Rattle.leaf.specs.Price.{mark}
+use Rattle.layer.specs.Layer.{LeafWalk, nextCentre, appliesTo}
 use Rattle.price.specs.Path.{Layer, firstLayer, nextLayer, ends, walk}
 use Rattle.price.specs.Path.Laws.{walk-on, walk-next, price, Settled, Small, rise, first-settled, first-small, first-at, first-real, next-settled, next-small, next-hit, next-real, applies-priced}
 use Rattle.price.specs.Ways.{Open, stop, next, Way, done, move, cross, WayTo}

@@ -16,7 +16,7 @@ use Rattle.fields.specs.Answers.{numberOf}
 use Rattle.whole.specs.declared.Verdict.{Verdict}
 use Rattle.whole.specs.declared.Verdict.the-variants.{Accepted, Refused as NotAccepted}
 use Rattle.record.specs.Record.{readRecord}
-use Rattle.layer.specs.Layer.{mark}
+use Rattle.leaf.specs.Price.{mark}
 use Rattle.layer.specs.Board.{Board, rowOn, nextOn, appliesOn}
 use Rattle.pricer.specs.declared.PriceRefusal.{PriceRefusal}
 use Rattle.pricer.specs.declared.PriceRefusal.the-variants.{InRecord, PathWrong, SliceShort, NotApplicable}

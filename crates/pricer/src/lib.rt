@@ -1,10 +1,10 @@
 // The pricer: the prices of all leaf states after a path of centre actions.
 use fields::Refusal;
-use layer::MARK;
 use layer::applies;
 use layer::first_layer;
 use layer::next_layer;
 use layer::pairs_of;
+use leaf::MARK;
 use record::read_record;
 use tables::action_costs;
 use tables::action_kinds;
@@ -22,7 +22,7 @@ ghost use Rattle.task.specs.declared.Task.{Task};
 ghost use Rattle.task.specs.Factors.{allStates};
 ghost use Rattle.task.specs.Valid.{Valid};
 ghost use Rattle.record.specs.Record.{readRecord};
-ghost use Rattle.layer.specs.Layer.{mark};
+ghost use Rattle.leaf.specs.Price.{mark};
 ghost use Rattle.layer.specs.Board.{Sound};
 ghost use Rattle.layer.specs.Lent.{boardOf};
 ghost use Rattle.tables.specs.Tables.{Bases, Kinds, Tabled};

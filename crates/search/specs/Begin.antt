@@ -18,9 +18,10 @@ use Rattle.task.specs.Meaning.{factor, condition, cost}
 use Rattle.task.specs.Factors.{states, allStates}
 use Rattle.task.specs.Centre.{centreMeets, centreAfter}
 use Rattle.task.specs.Valid.{Valid}
-use Rattle.layer.specs.Settle.Steps.{price-in}
-use Rattle.layer.specs.Settle.Walks.{Capped, Below}
-use Rattle.layer.specs.Layer.{mark, settleLeaf, LeafWalk, passLeaf, passes, base, leafPart, joined, nextPrices, appliesTo, nextCentre}
+use Rattle.leaf.specs.Price.{mark}
+use Rattle.leaf.specs.Settle.Steps.{price-in}
+use Rattle.leaf.specs.Settle.Walks.{Capped, Below}
+use Rattle.layer.specs.Layer.{settleLeaf, LeafWalk, passLeaf, passes, base, leafPart, joined, nextPrices, appliesTo, nextCentre}
 use Rattle.layer.specs.Layer.Leaf.{leaf-length, leaf-below, leaf-floor, leaf-real, leaf-walk-in, passLeaf-length, passLeaf-cap, passLeaf-from, passes-in}
 use Rattle.layer.specs.Layer.Laws.{sum-part, base-fits, part-length, joined-length, part-joined, next-length, part-next}
 use Rattle.layer.specs.Board.{Board, Fits, beginOn, settledOn}

@@ -17,7 +17,8 @@ use Rattle.task.specs.Factors.{leafAction, number, states}
 use Rattle.task.specs.Centre.{centre, centreMeets}
 use Rattle.task.specs.Valid.{Inside, Valid}
 use Rattle.task.specs.Star.{number-lt, applies-in, leaf-centre, leaf-other, centre-next, goal-splits}
-use Rattle.layer.specs.Layer.{mark, base, leafPart, appliesTo, nextCentre}
+use Rattle.leaf.specs.Price.{mark}
+use Rattle.layer.specs.Layer.{base, leafPart, appliesTo, nextCentre}
 use Rattle.layer.specs.Layer.Laws.{base-fits}
 use Rattle.price.specs.Path.{Layer, nextLayer}
 use Rattle.price.specs.Path.Laws.{price, Settled, Small, first-at, next-hit, applies-priced}

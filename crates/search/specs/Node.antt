@@ -11,7 +11,8 @@ use Rattle.task.specs.declared.Centre.{Centre}
 use Rattle.task.specs.Meaning.{initial, goal, factor, cost}
 use Rattle.task.specs.Factors.{states, valuesOf, meetsIn}
 use Rattle.task.specs.Centre.{centre, centreMeets, valueIn}
-use Rattle.layer.specs.Layer.{mark, leafPart, firstPrices, nextPrices, nextCentre}
+use Rattle.leaf.specs.Price.{mark}
+use Rattle.layer.specs.Layer.{leafPart, firstPrices, nextPrices, nextCentre}
 
 -- "A node has a centre state, a centre cost (the sum of its path's centre actions) and a price for each leaf state."
 -- Beside them: the number of the node that it was made from, and the centre action that made it; 0 and 0 for node 0.

@@ -13,7 +13,7 @@ use Rattle.task.specs.Factors.{centreActions, leafCost}
 use Rattle.task.specs.Centre.{centre}
 use Rattle.task.specs.Valid.{Valid}
 use Rattle.task.specs.Star.{goal-joins}
-use Rattle.layer.specs.Layer.{mark}
+use Rattle.leaf.specs.Price.{mark}
 use Rattle.price.specs.Path.{firstLayer}
 use Rattle.price.specs.Path.Laws.{price, walk-spot}
 use Rattle.price.specs.Sums.{gather}

@@ -19,8 +19,9 @@ use Rattle.task.specs.declared.Task.{Task}
 use Rattle.task.specs.declared.Centre.{Centre}
 use Rattle.task.specs.Meaning.{goal, cost}
 use Rattle.task.specs.Factors.{states, valuesOf, meetsIn, to}
-use Rattle.layer.specs.Settle.{settled}
-use Rattle.layer.specs.Layer.{mark, enabled, startLeaf, passLeaf, leafPart}
+use Rattle.leaf.specs.Price.{mark}
+use Rattle.leaf.specs.Settle.{settled}
+use Rattle.layer.specs.Layer.{enabled, startLeaf, passLeaf, leafPart}
 use Rattle.price.specs.Ways.{weave}
 use Rattle.search.specs.Node.{Node, leastOf, goalPrices}
 use Rattle.search.specs.Explore.{Search, nodeAt}

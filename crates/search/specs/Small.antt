@@ -14,7 +14,8 @@ use Rattle.task.specs.Factors.{number, states}
 use Rattle.task.specs.Centre.{centreMeets}
 use Rattle.task.specs.Valid.{Valid}
 use Rattle.task.specs.Star.{number-lt, to-in}
-use Rattle.layer.specs.Layer.{mark, leafPart, appliesTo}
+use Rattle.leaf.specs.Price.{mark}
+use Rattle.layer.specs.Layer.{leafPart, appliesTo}
 use Rattle.layer.specs.Layer.Leaf.{passes-out}
 use Rattle.price.specs.Path.{Layer, firstLayer, nextLayer, ends, walk}
 use Rattle.price.specs.Path.Laws.{walk-on, price, rise, first-at, next-hit}

@@ -14,7 +14,7 @@ use lib.Seq.{getD-set-same, getD-set-other}
 use borrow.Author.Tests.{eqb-true, eqb-false, eq-eqb}
 use Rattle.loops.specs.Count.{any}
 use Rattle.loops.specs.Count.Laws.{and-in, below-cases, any-in, any-out, test-cases}
-use Rattle.layer.specs.Layer.{mark}
+use Rattle.leaf.specs.Price.{mark}
 use Rattle.search.specs.Plan.Lowest.{Fails, lowest-is}
 use Rattle.wayback.specs.Steps.{rowsOf, sourceBy, entryBy, originBy}
 use Rattle.wayback.specs.Sources.{Source}

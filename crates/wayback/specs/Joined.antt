@@ -10,11 +10,11 @@ use native.Mathlib.Omega.{arith}
 use lib.ListN.{length, getD, set, replicate}
 use lib.Seq.{getD-set-same, getD-set-other}
 use Rattle.loops.specs.Count.Laws.{list-length}
-use Rattle.layer.specs.Settle.{settled}
-use Rattle.layer.specs.Settle.Steps.{set-cases, replicate-at, price-in}
-use Rattle.layer.specs.Settle.Walks.{Walk, stand, step, Realised, Ranged, Closed}
-use Rattle.layer.specs.Settle.Laws.{settled-length, settled-below, settled-cap, settled-real, settled-closed, settled-unique, walk-in}
-use Rattle.layer.specs.Layer.{mark}
+use Rattle.leaf.specs.Price.{mark}
+use Rattle.leaf.specs.Settle.{settled}
+use Rattle.leaf.specs.Settle.Steps.{set-cases, replicate-at, price-in}
+use Rattle.leaf.specs.Settle.Walks.{Walk, stand, step, Realised, Ranged, Closed}
+use Rattle.leaf.specs.Settle.Laws.{settled-length, settled-below, settled-cap, settled-real, settled-closed, settled-unique, walk-in}
 use Rattle.search.specs.Plan.Depths.{depth0, depth0-cap}
 use Rattle.wayback.specs.Steps.{depthsBy}
 

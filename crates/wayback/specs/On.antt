@@ -17,9 +17,10 @@ use Rattle.task.specs.Meaning.{cost, factor, condition}
 use Rattle.task.specs.Factors.{states, to, leafAction}
 use Rattle.task.specs.Centre.{centreMeets}
 use Rattle.task.specs.Valid.{Valid}
-use Rattle.layer.specs.Settle.Walks.{Capped}
-use Rattle.layer.specs.Settle.Steps.{price-in}
-use Rattle.layer.specs.Layer.{mark, enabledTo, enabled, settleLeaf}
+use Rattle.leaf.specs.Price.{mark}
+use Rattle.leaf.specs.Settle.Walks.{Capped}
+use Rattle.leaf.specs.Settle.Steps.{price-in}
+use Rattle.layer.specs.Layer.{enabledTo, enabled, settleLeaf}
 use Rattle.layer.specs.Layer.Leaf.{enabled-at, leaf-length}
 use Rattle.layer.specs.Board.{Board, Fits, Sound, rowOn, baseOn, enabledOn}
 use Rattle.layer.specs.Board.Laws.{states-on, enabled-on}

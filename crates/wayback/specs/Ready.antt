@@ -6,9 +6,9 @@ use Prim.Native.Nat.{ℕ, _*_, _≤_, _<_}
 use native.Mathlib.Omega.{arith}
 use lib.Dec.{ltb, eqb}
 use lib.ListN.{length, getD}
-use Rattle.layer.specs.Settle.Walks.{Ranged}
-use Rattle.layer.specs.Layer.{mark}
-use Rattle.layer.specs.Lent.{costBy, moveBy}
+use Rattle.leaf.specs.Price.{mark}
+use Rattle.leaf.specs.Settle.Walks.{Ranged}
+use Rattle.leaf.specs.Lent.{costBy, moveBy}
 use Rattle.search.specs.Node.Laws.{list-entry}
 use Rattle.search.specs.Plan.Depths.{depth0}
 use Rattle.search.specs.Plan.Laid.{laid}

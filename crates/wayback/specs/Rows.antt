@@ -12,13 +12,14 @@ use lib.ListN.{length, getD, take, drop, replicate, length-append, length-replic
 use lib.Seq.{getD-append-add, getD-take, getD-drop}
 use Rattle.loops.specs.Count.{list}
 use Rattle.loops.specs.Count.Laws.{below-cases, list-length, list-at}
-use Rattle.layer.specs.Settle.{settled}
-use Rattle.layer.specs.Settle.Steps.{replicate-at}
-use Rattle.layer.specs.Settle.Turns.{at-any}
-use Rattle.layer.specs.Settle.Ext.{settled-ext}
-use Rattle.layer.specs.Layer.{mark, joined}
+use Rattle.leaf.specs.Price.{mark}
+use Rattle.leaf.specs.Settle.{settled}
+use Rattle.leaf.specs.Settle.Steps.{replicate-at}
+use Rattle.leaf.specs.Settle.Turns.{at-any}
+use Rattle.leaf.specs.Settle.Ext.{settled-ext}
+use Rattle.leaf.specs.Lent.{Lent, costBy, moveBy}
+use Rattle.layer.specs.Layer.{joined}
 use Rattle.layer.specs.Board.Turns.{Laid, laid-more}
-use Rattle.layer.specs.Lent.{Lent, costBy, moveBy}
 use Rattle.search.specs.Plan.{lowest}
 use Rattle.search.specs.Plan.Depths.{depth0}
 use Rattle.wayback.specs.Steps.{rowsOf, depthsBy}

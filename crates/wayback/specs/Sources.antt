@@ -8,12 +8,12 @@ use lib.ListN.{length, getD}
 use borrow.Author.Tests.{eqb-true, eq-eqb}
 use Rattle.loops.specs.Count.{any}
 use Rattle.loops.specs.Count.Laws.{and-in, and-out, any-in, any-out, any-ext, list-length}
-use Rattle.layer.specs.Settle.{settled}
-use Rattle.layer.specs.Settle.Steps.{price-in}
-use Rattle.layer.specs.Settle.Walks.{Walk, stand, step, Ranged, Closed}
-use Rattle.layer.specs.Settle.Laws.{settled-length, settled-below, settled-real, settled-bound, settled-closed, settled-least, walk-in}
-use Rattle.layer.specs.Settle.Ext.{settled-ext}
-use Rattle.layer.specs.Layer.{mark}
+use Rattle.leaf.specs.Price.{mark}
+use Rattle.leaf.specs.Settle.{settled}
+use Rattle.leaf.specs.Settle.Steps.{price-in}
+use Rattle.leaf.specs.Settle.Walks.{Walk, stand, step, Ranged, Closed}
+use Rattle.leaf.specs.Settle.Laws.{settled-length, settled-below, settled-real, settled-bound, settled-closed, settled-least, walk-in}
+use Rattle.leaf.specs.Settle.Ext.{settled-ext}
 use Rattle.search.specs.Plan.{lowest}
 use Rattle.search.specs.Plan.Lowest.{lowest-is}
 use Rattle.search.specs.Plan.Depths.{depth0, depth0-out, depth0-cap}

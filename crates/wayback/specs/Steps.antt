@@ -7,9 +7,9 @@ use Prim.Native.Nat.{ℕ, zero, suc, _+_, _*_, _≤_, _<_}
 use lib.Dec.{eqb}
 use lib.ListN.{length, getD}
 use Rattle.loops.specs.Count.{any}
-use Rattle.layer.specs.Settle.{settled}
-use Rattle.layer.specs.Layer.{mark}
-use Rattle.layer.specs.Lent.{Lent, costBy, moveBy}
+use Rattle.leaf.specs.Price.{mark}
+use Rattle.leaf.specs.Settle.{settled}
+use Rattle.leaf.specs.Lent.{Lent, costBy, moveBy}
 use Rattle.search.specs.Plan.{lowest, Back}
 use Rattle.search.specs.Plan.Depths.{depth0}
 

@@ -8,10 +8,10 @@ use native.Mathlib.Omega.{arith}
 use lib.Dec.{eqb}
 use lib.ListN.{length, getD}
 use borrow.Author.Tests.{eq-eqb, ne-eqb}
-use Rattle.layer.specs.Settle.Walks.{Ranged}
-use Rattle.layer.specs.Settle.Turns.{at-any}
-use Rattle.layer.specs.Layer.{mark}
-use Rattle.layer.specs.Lent.{Lent, costBy, moveBy}
+use Rattle.leaf.specs.Price.{mark}
+use Rattle.leaf.specs.Settle.Walks.{Ranged}
+use Rattle.leaf.specs.Settle.Turns.{at-any}
+use Rattle.leaf.specs.Lent.{Lent, costBy, moveBy}
 use Rattle.wayback.specs.Steps.{tightAt, tightBy}
 
 module _ (P : List ℕ) (x c : ℕ) where

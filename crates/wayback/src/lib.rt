@@ -1,15 +1,15 @@
 // The walk back of one leaf inside one layer: from a state to one that has kept the price that the layer began with, by actions at the right
 // price, each written into the plan as it is met.
-use layer::MARK;
-use layer::settle;
+use leaf::MARK;
+use leaf::settle;
 ghost use mathlib.Core.Path.{_≡_};
 ghost use mathlib.Core.Bool.{cond, _&&_};
 ghost use Prim.Native.Nat.{ℕ, suc, _+_, _*_, _<_, _≤_};
 ghost use lib.Dec.{ltb, eqb};
 ghost use lib.ListN.{length, getD, replicate};
 ghost use Rattle.loops.specs.Count.{list};
-ghost use Rattle.layer.specs.Layer.{mark};
-ghost use Rattle.layer.specs.Lent.{Lent};
+ghost use Rattle.leaf.specs.Price.{mark};
+ghost use Rattle.leaf.specs.Lent.{Lent};
 ghost use Rattle.search.specs.Plan.{lowest};
 ghost use Rattle.search.specs.Plan.Laid.{put};
 ghost use Rattle.search.specs.Plan.Depths.{depth0};

@@ -2,9 +2,9 @@
 use mathlib.Core.Path.{sym}
 use native.Mathlib.Omega.{arith}
 use borrow.Author.Needs.{needs}
-use Rattle.layer.specs.Settle.Turns.{lower-none}
-use Rattle.layer.specs.Settle.Sweeps.{fell-none}
-use Rattle.layer.specs.Layer.{mark}
+use Rattle.leaf.specs.Price.{mark}
+use Rattle.leaf.specs.Settle.Turns.{lower-none}
+use Rattle.leaf.specs.Settle.Sweeps.{fell-none}
 use Rattle.edges.specs.Edges.Leaf.{gated-shut, gated-open}
 use Rattle.edges.proofs.follow.Statement.{statement}
 use Rattle.edges.proofs.follow.Tie as tie

@@ -7,11 +7,11 @@ use native.Mathlib.Nat.{le-antisymm}
 use native.Mathlib.Omega.{arith}
 use lib.ListN.{length, getD}
 use borrow.Author.Needs.{needs}
-use Rattle.layer.specs.Settle.{relax}
-use Rattle.layer.specs.Settle.Turns.{at-any, relax-more}
-use Rattle.layer.specs.Settle.Sweeps.{Fell, fell-none, fell-more, fell-same}
-use Rattle.layer.specs.Layer.{mark}
-use Rattle.layer.specs.Lent.{costBy}
+use Rattle.leaf.specs.Price.{mark}
+use Rattle.leaf.specs.Settle.{relax}
+use Rattle.leaf.specs.Settle.Turns.{at-any, relax-more}
+use Rattle.leaf.specs.Settle.Sweeps.{Fell, fell-none, fell-more, fell-same}
+use Rattle.leaf.specs.Lent.{costBy}
 use Rattle.edges.specs.Edges.{moveMet}
 use Rattle.edges.proofs.relax_along.Statement.{statement}
 use Rattle.edges.proofs.relax_along.Tie as tie

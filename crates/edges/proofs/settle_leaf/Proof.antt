@@ -7,12 +7,13 @@ use Prim.Native.Nat.{ℕ}
 use native.Mathlib.Omega.{arith}
 use lib.ListN.{length}
 use borrow.Author.Needs.{needs}
-use Rattle.layer.specs.Settle.Turns.{at-most}
-use Rattle.layer.specs.Settle.Sweeps.{total, Sweeping, sweeping-start, sweeping-end}
-use Rattle.layer.specs.Layer.{mark}
+use Rattle.leaf.specs.Price.{mark}
+use Rattle.leaf.specs.Settle.Turns.{at-most}
+use Rattle.leaf.specs.Settle.Sweeps.{total, Sweeping, sweeping-start, sweeping-end}
+use Rattle.leaf.specs.Lent.{costBy, moveBy}
 use Rattle.layer.specs.Board.{Board, rowOn, baseOn, enabledOn}
 use Rattle.layer.specs.Board.Turns.{leaf-settled}
-use Rattle.layer.specs.Lent.{boardOf, costBy, moveBy}
+use Rattle.layer.specs.Lent.{boardOf}
 use Rattle.edges.specs.Edges.{Meant}
 use Rattle.edges.specs.Edges.Leaf.{leaf-ways, leaf-meant}
 use Rattle.edges.proofs.settle_leaf.Statement.{statement}

@@ -6,8 +6,8 @@ use native.Mathlib.Nat.{le-antisymm}
 use native.Mathlib.Omega.{arith}
 use lib.ListN.{length}
 use borrow.Author.Needs.{needs}
-use Rattle.layer.specs.Settle.Sweeps.{Swept, swept-none, swept-more, swept-same}
-use Rattle.layer.specs.Layer.{mark}
+use Rattle.leaf.specs.Price.{mark}
+use Rattle.leaf.specs.Settle.Sweeps.{Swept, swept-none, swept-more, swept-same}
 use Rattle.edges.specs.Edges.{Meant}
 use Rattle.edges.proofs.sweep.Statement.{statement}
 use Rattle.edges.proofs.sweep.Tie as tie

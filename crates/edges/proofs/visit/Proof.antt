@@ -5,9 +5,9 @@ use Prim.Native.Nat.{_+_, _≤_}
 use native.Mathlib.Omega.{arith}
 use lib.ListN.{length, getD, length-set}
 use borrow.Author.Needs.{needs}
-use Rattle.layer.specs.Settle.Turns.{at-any}
-use Rattle.layer.specs.Settle.Sweeps.{visit-clean, visit-far, visit-near}
-use Rattle.layer.specs.Layer.{mark}
+use Rattle.leaf.specs.Price.{mark}
+use Rattle.leaf.specs.Settle.Turns.{at-any}
+use Rattle.leaf.specs.Settle.Sweeps.{visit-clean, visit-far, visit-near}
 use Rattle.edges.specs.Edges.Same.{relax-same}
 use Rattle.edges.proofs.visit.Statement.{statement}
 use Rattle.edges.proofs.visit.Tie as tie

@@ -5,13 +5,13 @@ use mathlib.Core.List.{List, [], _∷_, _++_, append-assoc}
 use Prim.Native.Nat.{ℕ, zero, suc, _+_, _-_, _*_, _≤_, _<_}
 use native.Mathlib.Nat.{not-suc-le-zero, suc-mul, mul-le-mul-right}
 use native.Mathlib.Numerals.{add-one}
-use native.Mathlib.Decide.{ℕ-discrete, decLe}
+use native.Mathlib.Decide.{decLe}
 use native.Mathlib.Omega.{arith}
 use lib.ListN.{length, getD, set, take, drop, length-set, length-append, length-take, length-drop}
 use lib.Seq.{take-nil, take-take, take-at, drop-at, take-append-seam, length-take-le, getD-set-same, getD-set-other}
 use Rattle.loops.specs.Count.Laws.{below-cases}
 use Rattle.layer.specs.Board.{Board, Sound, baseOn, rowOn, statesOn}
-use Rattle.layer.specs.Board.Turns.{base-in}
+use Rattle.layer.specs.Board.Turns.{base-up, base-in}
 use Rattle.layer.specs.Lent.{Front}
 use Rattle.edges.specs.Edges.{those, edgeBy, edgesAt, EdgesTo, Wrote}
 use Rattle.edges.specs.Edges.Those.{those-few}
@@ -45,22 +45,13 @@ wrote-at these xs part from n h f k =
 -- ---- states
 
 module _ (b : Board) (sound : Sound b) where
-  -- bases do not fall
-  base-up : (k i : ℕ) → i ≤ k → k ≤ b .leaves → baseOn b i ≤ baseOn b k
-  base-up zero i h l = let e : i ≡ 0 = omega arith in rw e (omega arith)
-  base-up (suc k) i h l = go (ℕ-discrete i (suc k)) (λ h′. base-up k i h′ (omega arith))
-    where
-      go : Dec (i ≡ suc k) → (i ≤ k → baseOn b i ≤ baseOn b k) → baseOn b i ≤ baseOn b (suc k)
-      go (yes e) r = rw e (omega arith)
-      go (no n) r = let up = rw add-one at (sound .bases-rise k (omega arith)) in omega (arith, up, r (omega arith))
-
   -- a state is of one leaf only
   one-leaf : (i j s : ℕ) → i < b .leaves → j < b .leaves → baseOn b i ≤ s → s < baseOn b (i + 1) → baseOn b j ≤ s → s < baseOn b (j + 1) → j ≡ i
   one-leaf i j s l k h g h′ g′ = go (decLe (i + 1) j) (decLe (j + 1) i)
     where
       go : Dec (i + 1 ≤ j) → Dec (j + 1 ≤ i) → j ≡ i
-      go (yes z) d = absurd (omega (arith, base-up j (i + 1) z (omega arith)))
-      go (no z) (yes w) = absurd (omega (arith, base-up i (j + 1) w (omega arith)))
+      go (yes z) d = absurd (omega (arith, base-up b sound j (i + 1) z (omega arith)))
+      go (no z) (yes w) = absurd (omega (arith, base-up b sound i (j + 1) w (omega arith)))
       go (no z) (no w) = omega arith
 
   -- before the first state

@@ -9,9 +9,9 @@ use lib.Dec.{eqb}
 use lib.ListN.{length, getD}
 use Rattle.loops.specs.Count.Laws.{and-in, and-out}
 use Rattle.task.specs.declared.Centre.{Centre}
+use Rattle.leaf.specs.Lent.{costBy, moveBy}
 use Rattle.layer.specs.Board.{Board, Sound, baseOn, rowOn, statesOn, metOn, enabledOn}
 use Rattle.layer.specs.Board.Turns.{base-in, move-in}
-use Rattle.layer.specs.Lent.{costBy, moveBy}
 use Rattle.mets.specs.Mets.{Mets}
 use Rattle.edges.specs.Edges.{those, edgeBy, edgesAt, Edges, gated, moveMet, Ways, Covered, Meant}
 use Rattle.edges.specs.Edges.Those.{Placed, those-at, those-has}

@@ -7,8 +7,8 @@ use native.Mathlib.Nat.{le-antisymm}
 use native.Mathlib.Omega.{arith}
 use lib.ListN.{length, getD}
 use lib.Seq.{ext-getD}
-use Rattle.layer.specs.Settle.{relax}
-use Rattle.layer.specs.Settle.Steps.{Hit, relax-length, relax-from, relax-below, relax-hit}
+use Rattle.leaf.specs.Settle.{relax}
+use Rattle.leaf.specs.Settle.Steps.{Hit, relax-length, relax-from, relax-below, relax-hit}
 use Rattle.edges.specs.Edges.{Covered}
 
 module _ (M x d : ℕ) (P : List ℕ) where

@@ -6,7 +6,7 @@ use native.Mathlib.Omega.{arith}
 use denote.Ref.{now}
 use lib.ListN.{length, getD, set}
 use Rattle.task.specs.Factors.{allStates}
-use Rattle.layer.specs.Layer.{mark}
+use Rattle.leaf.specs.Price.{mark}
 use Rattle.layer.specs.Board.{Board, rowOn}
 use Rattle.layer.specs.Board.Laws.{row-on}
 use Rattle.layer.specs.Lent.{boardOf}

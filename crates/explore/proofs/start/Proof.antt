@@ -7,7 +7,7 @@ use borrow.Author.Needs.{needs}
 use Rattle.task.specs.Meaning.{factor, initial}
 use Rattle.task.specs.Centre.{centreAfter}
 use Rattle.task.specs.Star.{initial-centre}
-use Rattle.layer.specs.Layer.{mark}
+use Rattle.leaf.specs.Price.{mark}
 use Rattle.layer.specs.Board.{Board, Sound}
 use Rattle.layer.specs.Board.Laws.{row-on}
 use Rattle.layer.specs.Lent.{boardOf}

@@ -21,7 +21,8 @@ use Rattle.task.specs.Meaning.{factor, goal}
 use Rattle.task.specs.Factors.{states, allStates, valuesOf, meetsIn}
 use Rattle.task.specs.Centre.{centreMeets}
 use Rattle.task.specs.Valid.{Valid}
-use Rattle.layer.specs.Layer.{mark, base, leafPart}
+use Rattle.leaf.specs.Price.{mark}
+use Rattle.layer.specs.Layer.{base, leafPart}
 use Rattle.layer.specs.Layer.Laws.{base-fits, part-length}
 use Rattle.layer.specs.Layer.Front.{part-take, cond-not}
 use Rattle.layer.specs.Board.{Board, Sound, rowOn}

@@ -14,7 +14,7 @@ use Rattle.loops.specs.Count.Laws.{list-length}
 use Rattle.task.specs.declared.Task.{Task}
 use Rattle.task.specs.Factors.{allStates}
 use Rattle.task.specs.Valid.{Valid}
-use Rattle.layer.specs.Layer.{mark}
+use Rattle.leaf.specs.Price.{mark}
 use Rattle.layer.specs.Board.{Board}
 use Rattle.search.specs.Node.{key}
 use Rattle.search.specs.Node.Laws.{list-entry}

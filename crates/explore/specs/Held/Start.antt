@@ -13,7 +13,8 @@ use Rattle.task.specs.Meaning.{initial}
 use Rattle.task.specs.Factors.{allStates}
 use Rattle.task.specs.Centre.{centre}
 use Rattle.task.specs.Valid.{Valid}
-use Rattle.layer.specs.Layer.{mark, firstPrices}
+use Rattle.leaf.specs.Price.{mark}
+use Rattle.layer.specs.Layer.{firstPrices}
 use Rattle.layer.specs.Layer.Laws.{first-length}
 use Rattle.layer.specs.Board.{Board, rowOn, firstOn, Sound}
 use Rattle.layer.specs.Board.Laws.{row-on, first-on}

@@ -17,7 +17,8 @@ use Rattle.task.specs.declared.Centre.{Centre}
 use Rattle.task.specs.Meaning.{factor, condition, effect, cost}
 use Rattle.task.specs.Factors.{allStates, centreAction}
 use Rattle.task.specs.Centre.{centreMeets, centreAfter}
-use Rattle.layer.specs.Layer.{mark, nextPrices, appliesTo, nextCentre}
+use Rattle.leaf.specs.Price.{mark}
+use Rattle.layer.specs.Layer.{nextPrices, appliesTo, nextCentre}
 use Rattle.layer.specs.Layer.Laws.{next-length}
 use Rattle.layer.specs.Layer.Front.{part-front, after-list}
 use Rattle.layer.specs.Board.{Board, rowOn, metOn, beginOn, settledOn}

@@ -8,8 +8,9 @@ use lib.ListN.{length, take, drop, length-drop}
 use lib.Seq.{take-append-le, drop-append-le, drop-at}
 use Rattle.loops.specs.Count.{sum}
 use Rattle.task.specs.declared.Centre.{Centre}
-use Rattle.layer.specs.Pass.Laws.{pass-length}
-use Rattle.layer.specs.Layer.{mark, joined}
+use Rattle.leaf.specs.Price.{mark}
+use Rattle.leaf.specs.Pass.Laws.{pass-length}
+use Rattle.layer.specs.Layer.{joined}
 use Rattle.layer.specs.Layer.Laws.{sum-part, joined-sum, joined-part}
 use Rattle.layer.specs.Board.{Board, Sound, baseOn, rowOn, statesOn, toOn, settleOn, passOn, partOn, nextOn, beginOn, settledOn}
 use Rattle.layer.specs.Board.Laws.{joined-ext}

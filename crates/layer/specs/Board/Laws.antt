@@ -12,9 +12,10 @@ use Rattle.task.specs.declared.Centre.{Centre}
 use Rattle.task.specs.Meaning.{initial, factor, condition}
 use Rattle.task.specs.Factors.{number, states, allStates}
 use Rattle.task.specs.Centre.{centre, centreMeets}
-use Rattle.layer.specs.Settle.Ext.{settled-ext}
-use Rattle.layer.specs.Pass.{pass}
-use Rattle.layer.specs.Layer.{mark, base, enabledTo, enabled, settleLeaf, startLeaf, passLeaf, passes, leafPart, joined, firstPrices, nextPrices, appliesTo}
+use Rattle.leaf.specs.Price.{mark}
+use Rattle.leaf.specs.Settle.Ext.{settled-ext}
+use Rattle.leaf.specs.Pass.{pass}
+use Rattle.layer.specs.Layer.{base, enabledTo, enabled, settleLeaf, startLeaf, passLeaf, passes, leafPart, joined, firstPrices, nextPrices, appliesTo}
 use Rattle.layer.specs.Layer.Leaf.{enabled-at, startLeaf-length, passLeaf-length}
 use Rattle.layer.specs.Board.{Board, Fits, rowOn, statesOn, metOn, enabledOn, settleBy, settleOn, passOn, passesOn, partOn, firstOn, nextOn, appliesOn}
 

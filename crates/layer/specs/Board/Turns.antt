@@ -14,17 +14,19 @@ use lib.Seq.{getD-at, set-at, take-at, drop-at, drop-cons, drop-drop}
 use Rattle.loops.specs.Count.{any}
 use Rattle.loops.specs.Count.Laws.{below-cases}
 use Rattle.task.specs.declared.Centre.{Centre}
-use Rattle.layer.specs.Settle.{settled}
-use Rattle.layer.specs.Pass.{pass}
-use Rattle.layer.specs.Layer.{mark, joined}
+use Rattle.leaf.specs.Price.{mark}
+use Rattle.leaf.specs.Settle.{settled}
+use Rattle.leaf.specs.Pass.{pass}
+use Rattle.leaf.specs.Lent.{Lent, costBy, moveBy}
+use Rattle.layer.specs.Layer.{joined}
 use Rattle.layer.specs.Board.{Board, Sound, baseOn, rowOn, statesOn, metOn, enabledOn, settleBy, settleOn, passOn, passesOn}
-use Rattle.layer.specs.Lent.{Lent, Front, testsOf, costBy, moveBy}
+use Rattle.layer.specs.Lent.{Front, testsOf}
 
 -- ---- rows and bases
 
 module _ (b : Board) (sound : Sound b) where
   -- bases do not fall
-  base-up : (k i : ℕ) → i ≤ k → k ≤ b .leaves → baseOn b i ≤ baseOn b k
+  pub base-up : (k i : ℕ) → i ≤ k → k ≤ b .leaves → baseOn b i ≤ baseOn b k
   base-up zero i h l = let e : i ≡ 0 = omega arith in rw e (omega arith)
   base-up (suc k) i h l = go (ℕ-discrete i (suc k)) (λ h′. base-up k i h′ (omega arith))
     where

@@ -15,7 +15,7 @@ use Rattle.task.specs.declared.Centre.{Centre}
 use Rattle.task.specs.Meaning.{initial}
 use Rattle.task.specs.Factors.{states, allStates}
 use Rattle.task.specs.Centre.{centre}
-use Rattle.layer.specs.Settle.Steps.{below-suc}
+use Rattle.leaf.specs.Settle.Steps.{below-suc}
 use Rattle.layer.specs.Layer.{settleLeaf, startLeaf, passLeaf, base, leafPart, joined, firstPrices, nextPrices}
 use Rattle.layer.specs.Layer.Leaf.{leaf-length, startLeaf-length, passLeaf-length}
 

@@ -19,11 +19,12 @@ use Rattle.task.specs.Factors.{leafAction, number, states, to}
 use Rattle.task.specs.Centre.{centreMeets}
 use Rattle.task.specs.Valid.{Valid}
 use Rattle.task.specs.Star.{number-lt, to-in}
-use Rattle.layer.specs.Settle.Steps.{set-cases, replicate-at}
-use Rattle.layer.specs.Settle.Walks.{Walk, stand, step, Ranged, Capped, Below, Closed}
-use Rattle.layer.specs.Settle.Laws.{settled-length, settled-below, settled-real, settled-bound, settled-floor, settled-closed, settled-mono}
-use Rattle.layer.specs.Pass.Laws.{pass-length, pass-cap, pass-hit, pass-from, pass-mono, pass-floor}
-use Rattle.layer.specs.Layer.{mark, enabledTo, enabled, settleLeaf, LeafWalk, startLeaf, passLeaf, passes}
+use Rattle.leaf.specs.Price.{mark}
+use Rattle.leaf.specs.Settle.Steps.{set-cases, replicate-at}
+use Rattle.leaf.specs.Settle.Walks.{Walk, stand, step, Ranged, Capped, Below, Closed}
+use Rattle.leaf.specs.Settle.Laws.{settled-length, settled-below, settled-real, settled-bound, settled-floor, settled-closed, settled-mono}
+use Rattle.leaf.specs.Pass.Laws.{pass-length, pass-cap, pass-hit, pass-from, pass-mono, pass-floor}
+use Rattle.layer.specs.Layer.{enabledTo, enabled, settleLeaf, LeafWalk, startLeaf, passLeaf, passes}
 
 -- ---- enabled
 

@@ -6,7 +6,7 @@ use native.Mathlib.Omega.{arith}
 use lib.ListN.{length}
 use borrow.Author.Needs.{needs}
 use Rattle.loops.specs.Count as count
-use Rattle.layer.specs.Layer.{mark}
+use Rattle.leaf.specs.Price.{mark}
 use Rattle.layer.specs.Board.Turns.{part-length}
 use Rattle.search.specs.Node.{leastOf}
 use Rattle.nodes.specs.Scan.{partBy, goalsBy, goalSumBy}

@@ -5,7 +5,7 @@ use native.Mathlib.Omega.{arith}
 use lib.ListN.{length}
 use borrow.Author.Needs.{needs}
 use Rattle.loops.specs.Count.{sum}
-use Rattle.layer.specs.Layer.{mark}
+use Rattle.leaf.specs.Price.{mark}
 use Rattle.search.specs.Node.{leastOf}
 use Rattle.nodes.specs.Scan.{partBy, keyBy}
 use Rattle.nodes.specs.Scan.Laws.{Inside, cut-in, capped-more}

@@ -5,8 +5,8 @@ use Prim.Native.Nat.{_-_, _≤_}
 use native.Mathlib.Omega.{arith}
 use lib.ListN.{length}
 use borrow.Author.Needs.{needs}
-use Rattle.layer.specs.Layer.{mark}
-use Rattle.layer.specs.Settle.Turns.{at-any}
+use Rattle.leaf.specs.Price.{mark}
+use Rattle.leaf.specs.Settle.Turns.{at-any}
 use Rattle.nodes.specs.Chain.{signTo}
 use Rattle.nodes.specs.Chain.Laws.{one-bit, sign-here, sign-kept}
 use Rattle.nodes.proofs.sign_of.Statement.{statement}

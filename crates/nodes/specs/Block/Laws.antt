@@ -10,8 +10,8 @@ use native.Mathlib.Decide.{ℕ-discrete, decLe}
 use lib.ListN.{length, getD, set, length-set, length-take, length-drop}
 use lib.Seq.{getD-set-same, getD-set-other, getD-take, getD-drop}
 use Rattle.loops.specs.Count.Laws.{below-cases}
-use Rattle.layer.specs.Layer.{mark}
-use Rattle.layer.specs.Settle.Turns.{at-any}
+use Rattle.leaf.specs.Price.{mark}
+use Rattle.leaf.specs.Settle.Turns.{at-any}
 use Rattle.search.specs.Node.{leastOf}
 use Rattle.search.specs.Node.Laws.{leastOf-le}
 use Rattle.nodes.specs.Scan.{chooseBy, Picked, Choice}

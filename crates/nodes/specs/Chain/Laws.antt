@@ -19,7 +19,7 @@ use Rattle.loops.specs.Count.{all}
 use Rattle.loops.specs.Count.Laws.{and-out, all-out, below-cases, test-cases}
 use Rattle.task.specs.declared.Centre.{Centre}
 use Rattle.task.specs.Centre.{valueIn}
-use Rattle.layer.specs.Layer.{mark}
+use Rattle.leaf.specs.Price.{mark}
 use Rattle.search.specs.Node.{Node, dominates}
 use Rattle.nodes.specs.Row.{nodeOf, rowIn, nodeIn, packOf, Packed}
 use Rattle.nodes.specs.Row.Packs.{pack-same}

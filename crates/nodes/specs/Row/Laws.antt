@@ -15,8 +15,8 @@ use Rattle.loops.specs.Count.{all, list}
 use Rattle.loops.specs.Count.Laws.{below-cases, all-in, all-not, all-ext, list-length, list-at}
 use Rattle.task.specs.declared.Centre.{Centre}
 use Rattle.task.specs.Centre.{valueIn}
-use Rattle.layer.specs.Layer.{mark}
-use Rattle.layer.specs.Settle.Turns.{at-any}
+use Rattle.leaf.specs.Price.{mark}
+use Rattle.leaf.specs.Settle.Turns.{at-any}
 use Rattle.search.specs.Node.{Node, dominates}
 use Rattle.nodes.specs.Four.{fourTo, four-length, four-other, four-first, four-second, four-third, four-fourth}
 use Rattle.nodes.specs.Row.{spotOf, nodeOf, rowIn, nodeIn, nodesIn, nodeWith, packOf, Packed, Above, Tested}

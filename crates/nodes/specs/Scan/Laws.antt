@@ -14,8 +14,8 @@ use lib.ListN.{length, getD, take}
 use lib.Seq.{take-suc}
 use Rattle.loops.specs.Count.{list, sum}
 use Rattle.loops.specs.Count.Laws.{below-cases, sum-more}
-use Rattle.layer.specs.Layer.{mark}
-use Rattle.layer.specs.Settle.Turns.{at-any}
+use Rattle.leaf.specs.Price.{mark}
+use Rattle.leaf.specs.Settle.Turns.{at-any}
 use Rattle.search.specs.Node.{leastOf}
 use Rattle.nodes.specs.Scan.{Cut, keyOf, chooseBy, Picked, Choice}
 

@@ -7,7 +7,7 @@ use native.Mathlib.Omega.{arith}
 use denote.Ref.{now}
 use lib.ListN.{length}
 use Rattle.task.specs.Factors.{allStates}
-use Rattle.layer.specs.Settle.Steps.{replicate-at}
+use Rattle.leaf.specs.Settle.Steps.{replicate-at}
 use Rattle.tables.specs.Tables.{Tabled}
 use Rattle.planner.specs.Planner.{tableWords}
 use Rattle.planner.specs.Planner.Stops.{Sound, stop-is, stop-sound}

@@ -4,7 +4,7 @@ use Prim.Native.Nat.{ℕ, _+_, _-_, _≤_, _<_}
 use native.Mathlib.Omega.{arith}
 use lib.ListN.{length, getD, length-set}
 use borrow.Author.Needs.{needs}
-use Rattle.layer.specs.Layer.{mark}
+use Rattle.leaf.specs.Price.{mark}
 use Rattle.layer.specs.Board.{Board, baseOn, rowOn}
 use Rattle.layer.specs.Lent.{boardOf}
 use Rattle.plans.specs.Walk.{pricesOn, actsOn, beginsOn, backOn, WalkableOn}

@@ -5,8 +5,8 @@ use Prim.Native.Nat.{ℕ, _+_, _-_, _*_, _≤_, _<_}
 use native.Mathlib.Omega.{arith}
 use lib.ListN.{length, getD, take, drop, length-replicate}
 use borrow.Author.Needs.{needs}
-use Rattle.layer.specs.Pass.{pass}
-use Rattle.layer.specs.Layer.{mark}
+use Rattle.leaf.specs.Price.{mark}
+use Rattle.leaf.specs.Pass.{pass}
 use Rattle.layer.specs.Board.{Board, baseOn, rowOn, statesOn}
 use Rattle.layer.specs.Board.Turns.{base-in, row-in, moves-here, moves-stay}
 use Rattle.layer.specs.Lent.{boardOf}

@@ -6,8 +6,8 @@ use native.Mathlib.Omega.{arith}
 use lib.ListN.{length, take, drop, replicate, length-append}
 use lib.Seq.{length-take-le, take-at}
 use borrow.Author.Needs.{needs}
-use Rattle.layer.specs.Settle.Turns.{take-replicate}
-use Rattle.layer.specs.Layer.{mark}
+use Rattle.leaf.specs.Price.{mark}
+use Rattle.leaf.specs.Settle.Turns.{take-replicate}
 use Rattle.layer.specs.Board.{Board, baseOn, statesOn}
 use Rattle.layer.specs.Lent.{boardOf}
 use Rattle.plans.specs.Walk.{beginsOn}

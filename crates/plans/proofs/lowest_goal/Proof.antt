@@ -10,7 +10,7 @@ use lib.ListN.{length, getD}
 use borrow.Author.Count.{below-more}
 use borrow.Author.Needs.{needs}
 use borrow.Author.Tests.{eq-eqb, ne-eqb}
-use Rattle.layer.specs.Layer.{mark}
+use Rattle.leaf.specs.Price.{mark}
 use Rattle.search.specs.Node.{leastOf}
 use Rattle.search.specs.Plan.Lowest.{Fails, lowest-none}
 use Rattle.nodes.specs.Scan.{goalsBy}

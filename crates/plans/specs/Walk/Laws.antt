@@ -9,9 +9,9 @@ use lib.Dec.{ltb, eqb}
 use lib.ListN.{length, getD, set, take, drop, replicate, length-drop, length-append}
 use lib.Seq.{length-take-le, drop-drop, getD-take, getD-drop}
 use Rattle.task.specs.declared.Centre.{Centre}
-use Rattle.layer.specs.Settle.Turns.{at-any}
-use Rattle.layer.specs.Pass.{pass}
-use Rattle.layer.specs.Layer.{mark}
+use Rattle.leaf.specs.Price.{mark}
+use Rattle.leaf.specs.Settle.Turns.{at-any}
+use Rattle.leaf.specs.Pass.{pass}
 use Rattle.layer.specs.Layer.Front.{part-take}
 use Rattle.layer.specs.Board.{Board, Sound, baseOn, rowOn, statesOn, metOn, enabledOn, passOn}
 use Rattle.layer.specs.Board.Turns.{base-in, leaf-passed}

@@ -13,7 +13,8 @@ use Rattle.task.specs.Meaning.{initial, factor, condition, cost}
 use Rattle.task.specs.Factors.{number, states, allStates, to}
 use Rattle.task.specs.Centre.{centre, centreMeets}
 use Rattle.task.specs.Valid.{Valid}
-use Rattle.layer.specs.Layer.{LeafWalk, mark, startLeaf, passLeaf, leafPart, nextCentre, appliesTo}
+use Rattle.leaf.specs.Price.{mark}
+use Rattle.layer.specs.Layer.{LeafWalk, startLeaf, passLeaf, leafPart, nextCentre, appliesTo}
 use Rattle.layer.specs.Layer.Leaf.{leaf-below, leaf-closed, leaf-real, leaf-bound, startLeaf-length, startLeaf-cases, startLeaf-cap, startLeaf-at, passLeaf-length, passLeaf-cap, passLeaf-hit, passLeaf-from, passes-in}
 use Rattle.layer.specs.Layer.Laws.{first-length, part-first, next-length, part-next}
 use Rattle.price.specs.Path.{Layer, firstLayer, nextLayer, ends, stuck, walk}

@@ -23,7 +23,8 @@ use Rattle.whole.specs.declared.Verdict.{Verdict}
 use Rattle.whole.specs.declared.Verdict.the-variants.{Accepted, Refused as NotAccepted}
 use Rattle.record.specs.Record.{readRecord}
 use Rattle.record.specs.Record.Laws.{accepted-valid}
-use Rattle.layer.specs.Layer.{mark, base, leafPart, nextCentre, firstPrices, nextPrices, appliesTo}
+use Rattle.leaf.specs.Price.{mark}
+use Rattle.layer.specs.Layer.{base, leafPart, nextCentre, firstPrices, nextPrices, appliesTo}
 use Rattle.layer.specs.Layer.Laws.{base-fits, first-length, next-length}
 use Rattle.layer.specs.Layer.Front.{next-front, applies-front, after-list}
 use Rattle.layer.specs.Board.{Board, Fits, rowOn, firstOn, nextOn, appliesOn}

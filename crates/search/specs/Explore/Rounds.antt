@@ -9,10 +9,10 @@ use native.Mathlib.Nat.{not-suc-le-zero}
 use native.Mathlib.Omega.{arith}
 use lib.Dec.{eqb}
 use lib.ListN.{length, getD, set, length-set}
-use Rattle.layer.specs.Settle.Steps.{set-cases}
+use Rattle.leaf.specs.Settle.Steps.{set-cases}
+use Rattle.layer.specs.Layer.{appliesTo}
 use Rattle.task.specs.declared.Task.{Task}
 use Rattle.task.specs.Factors.{centreAction}
-use Rattle.layer.specs.Layer.{appliesTo}
 use Rattle.search.specs.Node.{Node, firstNode, nextNode, key}
 use Rattle.search.specs.Made.{made-first}
 use Rattle.search.specs.Explore.{Search, finished, tableFull, budgetSpent, nodeAt, belowBest, keep, start, waits, choose, Expanded, through, filled, expand, begin, explore, explored}

@@ -18,7 +18,8 @@ use Rattle.task.specs.declared.Centre.{Centre}
 use Rattle.task.specs.Meaning.{goal, factor}
 use Rattle.task.specs.Factors.{states, valuesOf, meetsIn}
 use Rattle.task.specs.Centre.{valueIn, centreMeets}
-use Rattle.layer.specs.Layer.{mark, leafPart}
+use Rattle.leaf.specs.Price.{mark}
+use Rattle.layer.specs.Layer.{leafPart}
 use Rattle.search.specs.Node.{Node, leastOf, goalPrices, isGoal, dominates}
 
 -- ---- leastOf

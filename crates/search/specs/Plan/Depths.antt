@@ -18,10 +18,11 @@ use Rattle.task.specs.Meaning.{cost}
 use Rattle.task.specs.Factors.{states, to}
 use Rattle.task.specs.Valid.{Valid}
 use Rattle.task.specs.Star.{to-in}
-use Rattle.layer.specs.Settle.Steps.{price-in}
-use Rattle.layer.specs.Settle.Walks.{Walk, stand, step, Ranged, Capped, Closed}
-use Rattle.layer.specs.Settle.Laws.{settled-below, settled-real, settled-bound, settled-closed, settled-least, walk-in}
-use Rattle.layer.specs.Layer.{LeafWalk, mark, enabled, settleLeaf}
+use Rattle.leaf.specs.Price.{mark}
+use Rattle.leaf.specs.Settle.Steps.{price-in}
+use Rattle.leaf.specs.Settle.Walks.{Walk, stand, step, Ranged, Capped, Closed}
+use Rattle.leaf.specs.Settle.Laws.{settled-below, settled-real, settled-bound, settled-closed, settled-least, walk-in}
+use Rattle.layer.specs.Layer.{LeafWalk, enabled, settleLeaf}
 use Rattle.layer.specs.Layer.Leaf.{enabled-at, enabled-find, leaf-length, leaf-real, leaf-walk-in, leaf-closed, leaf-least}
 use Rattle.search.specs.Node.Laws.{list-entry}
 use Rattle.search.specs.Plan.{tight, tightTo, depths}

@@ -7,7 +7,7 @@ use native.Mathlib.Nat.{not-suc-le-zero}
 use native.Mathlib.Omega.{arith}
 use lib.Dec.{ltb}
 use borrow.Author.Tests.{lt-ltb, le-ltb}
-use Rattle.layer.specs.Settle.Steps.{below-suc}
+use Rattle.leaf.specs.Settle.Steps.{below-suc}
 use Rattle.search.specs.Plan.{lowest}
 
 -- k is below n, passes, and no lower number does

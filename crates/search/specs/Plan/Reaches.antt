@@ -15,7 +15,7 @@ use Rattle.task.specs.Factors.{number, states, valuesOf, meetsIn}
 use Rattle.task.specs.Centre.{centre}
 use Rattle.task.specs.Valid.{Valid}
 use Rattle.task.specs.Star.{goal-joins}
-use Rattle.layer.specs.Layer.{mark}
+use Rattle.leaf.specs.Price.{mark}
 use Rattle.price.specs.Sequences.{final-inside, costOf-split}
 use Rattle.price.specs.Ways.{centreAlong, stagedCost}
 use Rattle.price.specs.Ways.Split.{split}

@@ -10,8 +10,9 @@ use Rattle.task.specs.declared.Centre.{Centre}
 use Rattle.task.specs.Meaning.{initial, cost}
 use Rattle.task.specs.Factors.{centreAction, states}
 use Rattle.task.specs.Centre.{centre}
-use Rattle.layer.specs.Settle.Walks.{Capped}
-use Rattle.layer.specs.Layer.{mark, settleLeaf, leafPart, nextCentre, nextPrices, appliesTo}
+use Rattle.leaf.specs.Price.{mark}
+use Rattle.leaf.specs.Settle.Walks.{Capped}
+use Rattle.layer.specs.Layer.{settleLeaf, leafPart, nextCentre, nextPrices, appliesTo}
 use Rattle.layer.specs.Layer.Leaf.{startLeaf-length, startLeaf-cap, passLeaf-length, passLeaf-cap}
 use Rattle.layer.specs.Layer.Laws.{part-first, part-next}
 use Rattle.search.specs.Node.{Node, firstNode, nextNode}

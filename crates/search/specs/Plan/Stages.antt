@@ -16,7 +16,8 @@ use Rattle.task.specs.Meaning.{initial, factor, condition, costOf}
 use Rattle.task.specs.Factors.{number, states, to}
 use Rattle.task.specs.Centre.{centre, centreMeets}
 use Rattle.task.specs.Valid.{Valid}
-use Rattle.layer.specs.Layer.{mark, startLeaf, leafPart, nextCentre, appliesTo}
+use Rattle.leaf.specs.Price.{mark}
+use Rattle.layer.specs.Layer.{startLeaf, leafPart, nextCentre, appliesTo}
 use Rattle.layer.specs.Layer.Leaf.{startLeaf-cases, passLeaf-from}
 use Rattle.price.specs.Ways.{centreAlong, Open, stop, Staged, last, stagedCost}
 use Rattle.price.specs.Sequences.{costOf-snoc}

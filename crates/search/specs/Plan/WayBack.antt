@@ -13,8 +13,9 @@ use Rattle.task.specs.declared.Centre.{Centre}
 use Rattle.task.specs.Meaning.{cost, costOf}
 use Rattle.task.specs.Factors.{states, to}
 use Rattle.task.specs.Valid.{Valid}
-use Rattle.layer.specs.Settle.Walks.{Capped}
-use Rattle.layer.specs.Layer.{mark, enabled, settleLeaf}
+use Rattle.leaf.specs.Price.{mark}
+use Rattle.leaf.specs.Settle.Walks.{Capped}
+use Rattle.layer.specs.Layer.{enabled, settleLeaf}
 use Rattle.layer.specs.Layer.Leaf.{enabled-at, leaf-length}
 use Rattle.price.specs.Ways.{Steps, none}
 use Rattle.price.specs.Sequences.{costOf-snoc}

@@ -4,7 +4,7 @@ use mathlib.Core.Path.{_≡_, _∙_}
 use native.Mathlib.Omega.{arith}
 use lib.ListN.{length}
 use borrow.Author.Needs.{needs}
-use Rattle.layer.specs.Settle.Walks.{Ranged}
+use Rattle.leaf.specs.Settle.Walks.{Ranged}
 use Rattle.wayback.specs.Steps.{rowsOf}
 use Rattle.wayback.specs.Rows.{row-in, rows-lent, rows-settled}
 use Rattle.wayback.specs.Joined.{joined-stay, joined-depths}

@@ -10,7 +10,7 @@ use lib.Seq.{drop-length}
 use borrow.Author.Needs.{needs}
 use Rattle.loops.specs.Count.{list}
 use Rattle.loops.specs.Count.Laws.{list-more}
-use Rattle.layer.specs.Layer.{mark}
+use Rattle.leaf.specs.Price.{mark}
 use Rattle.wayback.proofs.first_depths.Statement.{statement}
 use Rattle.wayback.proofs.first_depths.Tie as tie
 

@@ -10,8 +10,8 @@ use lib.Dec.{eqb}
 use lib.ListN.{length, getD}
 use borrow.Author.Count.{below-more}
 use borrow.Author.Needs.{needs}
-use Rattle.layer.specs.Settle.Turns.{at-any}
-use Rattle.layer.specs.Layer.{mark}
+use Rattle.leaf.specs.Price.{mark}
+use Rattle.leaf.specs.Settle.Turns.{at-any}
 use Rattle.search.specs.Plan.Lowest.{Fails, lowest-none}
 use Rattle.wayback.specs.Lowest.{lowest-first}
 use Rattle.wayback.proofs.lowest_source.Statement.{statement}

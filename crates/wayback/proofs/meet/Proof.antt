@@ -4,8 +4,8 @@ use Prim.Native.Nat.{_-_, _<_}
 use native.Mathlib.Omega.{arith}
 use lib.ListN.{length}
 use borrow.Author.Needs.{needs}
-use Rattle.layer.specs.Settle.Turns.{at-any}
-use Rattle.layer.specs.Layer.{mark}
+use Rattle.leaf.specs.Price.{mark}
+use Rattle.leaf.specs.Settle.Turns.{at-any}
 use Rattle.wayback.specs.First.{edge-none, edge-met}
 use Rattle.wayback.proofs.meet.Statement.{statement}
 use Rattle.wayback.proofs.meet.Tie as tie

@@ -5,8 +5,8 @@ use native.Mathlib.Nat.{le-antisymm}
 use native.Mathlib.Omega.{arith}
 use lib.ListN.{length}
 use borrow.Author.Needs.{needs}
-use Rattle.layer.specs.Settle.Turns.{at-any}
-use Rattle.layer.specs.Layer.{mark}
+use Rattle.leaf.specs.Price.{mark}
+use Rattle.leaf.specs.Settle.Turns.{at-any}
 use Rattle.wayback.specs.First.{met, RowMet, row-more}
 use Rattle.wayback.proofs.sources_row.Statement.{statement}
 use Rattle.wayback.proofs.sources_row.Tie as tie

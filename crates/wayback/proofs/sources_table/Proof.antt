@@ -5,7 +5,7 @@ use native.Mathlib.Nat.{le-antisymm, mul-le-mul}
 use native.Mathlib.Omega.{arith}
 use lib.ListN.{length}
 use borrow.Author.Needs.{needs}
-use Rattle.layer.specs.Settle.Steps.{replicate-at}
+use Rattle.leaf.specs.Settle.Steps.{replicate-at}
 use Rattle.layer.specs.Board.Turns.{part-length}
 use Rattle.wayback.specs.Rows.{row-in}
 use Rattle.wayback.specs.First.{metRows, RowsMet, rows-met, part-stays}

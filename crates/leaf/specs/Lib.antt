@@ -1,0 +1,4 @@
+pub mod Price
+pub mod Settle
+pub mod Pass
+pub mod Lent
