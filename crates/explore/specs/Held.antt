@@ -7,7 +7,7 @@ use mathlib.Core.Path.{_≡_}
 use mathlib.Core.Bool.{true, cond}
 use mathlib.Core.Logic.{_⊎_}
 use mathlib.Core.List.{List, _++_}
-use Prim.Native.Nat.{ℕ, suc, _+_, _*_, _≤_, _<_}
+use Prim.Native.Nat.{ℕ, suc, _+_, _*_, _≤_, _<_, min}
 use lib.Dec.{ltb, eqb}
 use lib.ListN.{length, getD, set, take, drop}
 use Rattle.loops.specs.Count.{list}
@@ -25,6 +25,7 @@ use Rattle.search.specs.Explore.Laws.{Base}
 use Rattle.search.specs.Made.{Made}
 use Rattle.nodes.specs.Chain.{Chained, Recalled}
 use Rattle.nodes.specs.Row.{nodeIn, nodesIn, nodeWith}
+use Rattle.nodes.specs.Scan.{keyBy}
 use Rattle.explore.specs.declared.Run.{Run}
 use Rattle.explore.specs.declared.Turned.{Turned}
 use Rattle.explore.specs.declared.Stop.{Stop}
@@ -150,23 +151,26 @@ pub record Alike (t : Task) (S : ℕ) (T : List ℕ) (k : ℕ) (m n : Node) : Ty
   pub dominated-same : (u : ℕ) → u < k → dominates (nodeIn S T u) m ≡ dominates (nodeIn S T u) n
 
 -- a successor was offered by its layer's begin P, for every task whose tables these are: settled, it came out as the search says, where that is
--- alike; and it was dropped where the begin's key is the mark or more
-pub record Offered (b : Board) (goals goalPairs : List ℕ) (nodes : ℕ) (T O : List ℕ) (r : Run) (spot : Centre) (paid : ℕ) (P : List ℕ) (parent action : ℕ)
-    (T′ O′ : List ℕ) (w : Turned) : Type 0 where
+-- alike; and it was dropped where the begin's key is the mark or more. `opens` is lent as that key
+pub record Offered (b : Board) (goals goalPairs : List ℕ) (nodes : ℕ) (T O : List ℕ) (r : Run) (spot : Centre) (paid : ℕ) (P : List ℕ)
+    (parent action opens : ℕ) (T′ O′ : List ℕ) (w : Turned) : Type 0 where
   pub went : Went (rowOn b) nodes T O r T′ O′ w
   pub offered : (t : Task) → Scans t (b .leaves) (b .bases) goals (b .factors) goalPairs → Base t nodes (searchOf (rowOn b) T O r) → Cached t (rowOn b) T O r
-      → Made t (r .count) (settledNode b spot paid P parent action)
+      → opens ≡ keyBy (b .leaves) (b .bases) paid P → Made t (r .count) (settledNode b spot paid P parent action)
       → Alike t (rowOn b) T (r .count) (begunNode b spot paid P parent action) (settledNode b spot paid P parent action)
       → Stands t (rowOn b) T′ O′ w (offer t nodes (searchOf (rowOn b) T O r) (settledNode b spot paid P parent action))
   pub dropped : (t : Task) → Scans t (b .leaves) (b .bases) goals (b .factors) goalPairs → Base t nodes (searchOf (rowOn b) T O r) → Cached t (rowOn b) T O r
-      → mark ≤ key t (begunNode b spot paid P parent action) → Stands t (rowOn b) T′ O′ w (on (searchOf (rowOn b) T O r))
+      → opens ≡ keyBy (b .leaves) (b .bases) paid P → mark ≤ key t (begunNode b spot paid P parent action)
+      → Stands t (rowOn b) T′ O′ w (on (searchOf (rowOn b) T O r))
 
--- action a had its turn at node u, for every task whose tables these are; the node's parts are given, with words behind the prices
-pub record Moved (b : Board) (effects goals goalPairs : List ℕ) (nodes : ℕ) (spot : Centre) (paid : ℕ) (old : List ℕ) (u a : ℕ) (T O : List ℕ) (r : Run)
-    (T′ O′ : List ℕ) (w : Turned) : Type 0 where
+-- action a had its turn at node u, for every task whose tables these are; the node's parts are given, with words behind the prices, and `opens` is
+-- lent as its key
+pub record Moved (b : Board) (effects goals goalPairs : List ℕ) (nodes : ℕ) (spot : Centre) (paid : ℕ) (old : List ℕ) (opens u a : ℕ) (T O : List ℕ)
+    (r : Run) (T′ O′ : List ℕ) (w : Turned) : Type 0 where
   pub went : Went (rowOn b) nodes T O r T′ O′ w
   pub moved : (t : Task) → Suits t b effects goals goalPairs → Base t nodes (searchOf (rowOn b) T O r) → Cached t (rowOn b) T O r
-      → Has (nodeIn (rowOn b) T u) spot paid (take (rowOn b) old) → Stands t (rowOn b) T′ O′ w (turn t nodes u a (searchOf (rowOn b) T O r))
+      → Has (nodeIn (rowOn b) T u) spot paid (take (rowOn b) old) → opens ≡ keyBy (b .leaves) (b .bases) paid old
+      → Stands t (rowOn b) T′ O′ w (turn t nodes u a (searchOf (rowOn b) T O r))
 
 -- ---- an expansion
 
@@ -175,9 +179,10 @@ abbrev pub Grown : Board → ℕ → Run → List ℕ → List ℕ → Turned �
 Grown b nodes r T′ O′ w =
     (r .count ≤ w .run .count) × (w .run .count ≤ nodes) × (w .run .begun ≡ r .begun) × Chained (rowOn b) T′ O′ (w .run .count)
 
--- node u was expanded, for every task whose tables these are: the search says the same
-abbrev pub Done : Board → List ℕ → List ℕ → List ℕ → ℕ → ℕ → List ℕ → List ℕ → Run → List ℕ → List ℕ → Turned → Type 0
-Done b effects goals goalPairs nodes u T O r T′ O′ w =
+-- node u was expanded, for every task whose tables these are: the search says the same. `opens` is lent as its key
+abbrev pub Done : Board → List ℕ → List ℕ → List ℕ → ℕ → ℕ → ℕ → List ℕ → List ℕ → Run → List ℕ → List ℕ → Turned → Type 0
+Done b effects goals goalPairs nodes u opens T O r T′ O′ w =
     (t : Task) → Suits t b effects goals goalPairs → Base t nodes (searchOf (allStates t) T O r) → Cached t (allStates t) T O r
+    → opens ≡ min (key t (nodeIn (allStates t) T u)) mark
     → (expand t nodes u (t .actions) 0 (searchOf (allStates t) T O r) ≡ expandedOf w (searchOf (allStates t) T′ O′ (w .run)))
     × Cached t (allStates t) T′ O′ (w .run)

@@ -179,14 +179,14 @@ module _ (b : Board) (sound : Sound b) where
 
   -- what is made of the begin behind such an action: the old prices at the front of Q, their key and signature
   pub begun-still : (a spent : ℕ) (P rest : List ℕ) (low sign : ℕ) → rowOn b ≤ length P → ((x : ℕ) → getD P x 0 ≤ mark)
-      → Stays (b .leaves) (b .bases) (b .moves) (a * rowOn b) → low ≡ keyBy (b .leaves) (b .bases) spent P → sign ≡ signOf (take (rowOn b) P)
+      → Stays (b .leaves) (b .bases) (b .moves) (a * rowOn b) → sign ≡ signOf (take (rowOn b) P)
       → (Q : List ℕ) → Q ≡ take (rowOn b) P ++ rest
-      → (Q ≡ beginOn b a P ++ rest) × (low ≡ keyBy (b .leaves) (b .bases) spent Q) × (sign ≡ signOf (take (rowOn b) Q))
-  begun-still a spent P rest low sign long words stays isLow isSign Q isQ =
+      → (Q ≡ beginOn b a P ++ rest) × (low ≡ keyBy (b .leaves) (b .bases) spent P → low ≡ keyBy (b .leaves) (b .bases) spent Q) × (sign ≡ signOf (take (rowOn b) Q))
+  begun-still a spent P rest low sign long words stays isSign Q isQ =
       let front : take (rowOn b) Q ≡ take (rowOn b) P =
       rw isQ (take-at (take (rowOn b) P) rest (rowOn b) (simp length-take (omega arith))) in
       let begin = begin-still a P long (word-cap P words) stays in
-      (isQ ∙ ap (λ xs. xs ++ rest) (sym begin), isLow ∙ sym (key-front spent Q P front), isSign ∙ sym (ap signOf front))
+      (isQ ∙ ap (λ xs. xs ++ rest) (sym begin), λ isLow. isLow ∙ sym (key-front spent Q P front), isSign ∙ sym (ap signOf front))
 
 -- ---- keys
 

@@ -1,6 +1,7 @@
 // The exploration over the lent table.
 use edges::fill_edges;
 use edges::settle_edges;
+use layer::applies;
 use layer::begin_layer;
 use layer::first_conditions;
 use layer::first_layer;
@@ -24,14 +25,14 @@ use task::Centre;
 use task::Task;
 use words::copy_words;
 ghost use mathlib.Core.Path.{_≡_};
-ghost use mathlib.Core.Bool.{true};
+ghost use mathlib.Core.Bool.{true, false};
 ghost use mathlib.Core.List.{_++_};
 ghost use Prim.Native.Nat.{ℕ, _+_, _*_, _≤_, _<_};
 ghost use lib.ListN.{length, getD, take, drop};
 ghost use Rattle.task.specs.declared.Task.{Task};
 ghost use Rattle.task.specs.Factors.{allStates};
 ghost use Rattle.task.specs.Valid.{Valid};
-ghost use Rattle.layer.specs.Board.{Sound, metOn, beginOn, settledOn};
+ghost use Rattle.layer.specs.Board.{Sound, metOn, beginOn, settledOn, appliesOn};
 ghost use Rattle.layer.specs.First.{Firsts};
 ghost use Rattle.layer.specs.Lent.{boardOf};
 ghost use Rattle.mets.specs.Mets.{Mets};
@@ -185,6 +186,44 @@ fn keep(
     }
 }
 
+// Whether an action, whose centre conditions hold, moves leaf states and is stuck: in some leaf no state that is reached passes.
+fn is_stuck(
+    leaves: usize,
+    actions: usize,
+    bases: &[usize],
+    moves: &[u16],
+    costs: &[u16],
+    kinds: &[u8],
+    factors: [u8; 32],
+    conditions: &[u8],
+    still: &[u8],
+    spot: Centre,
+    old: &[u64],
+    a: usize,
+) -> bool
+    requires { ⌜ Sound (boardOf leaves actions (now bases) (now moves) (now costs) (now kinds) factors (now conditions)) ⌝ }
+    requires { ⌜ (length (now still) ≡ 256) × (a < actions) × (getD (now bases) leaves 0 ≤ length (now old)) ⌝ }
+    ensures { λ r. ⌜ (r ≡ true → appliesOn (boardOf leaves actions (now (bases .entry)) (now (moves .entry)) (now (costs .entry)) (now (kinds .entry)) factors
+        (now (conditions .entry))) spot (now (old .entry)) a ≡ false) ⌝ }
+{
+    if still[a] != 0 {
+        return false;
+    }
+    !applies(
+        leaves,
+        actions,
+        bases,
+        moves,
+        costs,
+        kinds,
+        factors,
+        conditions,
+        spot,
+        old,
+        a,
+    )
+}
+
 // A layer's begin settles; `spot` is its centre state, of this class. `flags` is room to work in.
 fn settle_begin(
     leaves: usize,
@@ -276,10 +315,10 @@ fn offer(
         × Known (boardOf leaves actions (now bases) (now moves) (now costs) (now kinds) factors (now conditions)) (now known)
         × (length (now flags) ≡ 256) ⌝ }
     requires { ⌜ Cut leaves (now bases) (length (now begin)) × Cut leaves (now bases) (length (now goals)) ⌝ }
-    requires { ⌜ (key ≡ keyBy leaves (now bases) paid (now begin)) × (sign ≡ signOf (take (getD (now bases) leaves 0) (now begin))) ⌝ }
+    requires { ⌜ sign ≡ signOf (take (getD (now bases) leaves 0) (now begin)) ⌝ }
     requires { ⌜ Room (getD (now bases) leaves 0) nodes (now table) (now scan) run ⌝ }
     ensures offered { λ r. ⌜ Offered (boardOf leaves actions (now (bases .entry)) (now (moves .entry)) (now (costs .entry)) (now (kinds .entry)) factors
-        (now (conditions .entry))) (now (goals .entry)) goal nodes (now (table .entry)) (now (scan .entry)) run spot paid (now (begin .entry)) parent action
+        (now (conditions .entry))) (now (goals .entry)) goal nodes (now (table .entry)) (now (scan .entry)) run spot paid (now (begin .entry)) parent action key
         (now (table .exit)) (now (scan .exit)) r ⌝ }
     ensures known { λ _. ⌜ Known (boardOf leaves actions (now (bases .entry)) (now (moves .entry)) (now (costs .entry)) (now (kinds .entry)) factors
         (now (conditions .entry))) (now (known .exit)) ⌝ }
@@ -368,10 +407,10 @@ fn begin_of(
     requires { ⌜ Sound (boardOf leaves actions (now bases) (now moves) (now costs) (now kinds) factors (now conditions)) ⌝ }
     requires { ⌜ Still leaves actions (now bases) (now moves) (now still) ⌝ }
     requires { ⌜ (a < actions) × (getD (now bases) leaves 0 ≤ length (now old)) × (getD (now bases) leaves 0 ≤ length (now next)) ⌝ }
-    requires { ⌜ (low ≡ keyBy leaves (now bases) spent (now old)) × (sign ≡ signOf (take (getD (now bases) leaves 0) (now old))) ⌝ }
+    requires { ⌜ sign ≡ signOf (take (getD (now bases) leaves 0) (now old)) ⌝ }
     ensures { λ r. ⌜ (now (next .exit) ≡ beginOn (boardOf leaves actions (now (bases .entry)) (now (moves .entry)) (now (costs .entry)) (now (kinds .entry))
         factors (now (conditions .entry))) a (now (old .entry)) ++ drop (getD (now (bases .entry)) leaves 0) (now (next .entry)))
-        × (r .key ≡ keyBy leaves (now (bases .entry)) spent (now (next .exit)))
+        × (low ≡ keyBy leaves (now (bases .entry)) spent (now (old .entry)) → r .key ≡ keyBy leaves (now (bases .entry)) spent (now (next .exit)))
         × (r .sign ≡ signOf (take (getD (now (bases .entry)) leaves 0) (now (next .exit)))) ⌝ }
 {
     let states = bases[leaves];
@@ -439,10 +478,10 @@ fn turn(
         × (metOn (boardOf leaves actions (now bases) (now moves) (now costs) (now kinds) factors (now conditions)) spot a ≡ true)
         × (length (now flags) ≡ 256) ⌝ }
     requires { ⌜ (length (now effects) ≡ 8192) × (length (now goals) ≡ 1024) × (length (now old) ≡ 1024) × (length (now next) ≡ 1024) × (u < run .count) × (a < actions) ⌝ }
-    requires { ⌜ (key ≡ keyBy leaves (now bases) paid (now old)) × (sign ≡ signOf (take (getD (now bases) leaves 0) (now old))) ⌝ }
+    requires { ⌜ sign ≡ signOf (take (getD (now bases) leaves 0) (now old)) ⌝ }
     requires { ⌜ Room (getD (now bases) leaves 0) nodes (now table) (now scan) run ⌝ }
     ensures moved { λ r. ⌜ Moved (boardOf leaves actions (now (bases .entry)) (now (moves .entry)) (now (costs .entry)) (now (kinds .entry)) factors
-        (now (conditions .entry))) (now (effects .entry)) (now (goals .entry)) goal nodes spot paid (now (old .entry)) u a
+        (now (conditions .entry))) (now (effects .entry)) (now (goals .entry)) goal nodes spot paid (now (old .entry)) key u a
         (now (table .entry)) (now (scan .entry)) run (now (table .exit)) (now (scan .exit)) r ⌝ }
     ensures known { λ _. ⌜ Known (boardOf leaves actions (now (bases .entry)) (now (moves .entry)) (now (costs .entry)) (now (kinds .entry)) factors
         (now (conditions .entry))) (now (known .exit)) ⌝ }
@@ -453,6 +492,22 @@ fn turn(
     let cost = costs[a] as u64;
     let low = add_price(key, cost);
     if low >= run.best_cost {
+        return Turned { full: false, run };
+    }
+    if is_stuck(
+        leaves,
+        actions,
+        bases,
+        moves,
+        costs,
+        kinds,
+        factors,
+        conditions,
+        still,
+        spot,
+        old,
+        a,
+    ) {
         return Turned { full: false, run };
     }
     let behind = spot.after(factors, pairs_of(effects, a));
@@ -544,13 +599,13 @@ fn turns(
         × Mets (boardOf leaves actions (now bases) (now moves) (now costs) (now kinds) factors (now conditions)) spot (now mets)
         × (length (now flags) ≡ 256) ⌝ }
     requires { ⌜ (length (now effects) ≡ 8192) × (length (now goals) ≡ 1024) × (length (now old) ≡ 1024) × (length (now next) ≡ 1024) × (u < run .count) ⌝ }
-    requires { ⌜ (key ≡ keyBy leaves (now bases) paid (now old)) × (sign ≡ signOf (take (getD (now bases) leaves 0) (now old)))
+    requires { ⌜ (sign ≡ signOf (take (getD (now bases) leaves 0) (now old)))
         × Has (nodeIn (getD (now bases) leaves 0) (now table) u) spot paid (take (getD (now bases) leaves 0) (now old)) ⌝ }
     requires { ⌜ Room (getD (now bases) leaves 0) nodes (now table) (now scan) run ⌝ }
     ensures grown { λ r. ⌜ Grown (boardOf leaves actions (now (bases .entry)) (now (moves .entry)) (now (costs .entry)) (now (kinds .entry)) factors
         (now (conditions .entry))) nodes run (now (table .exit)) (now (scan .exit)) r ⌝ }
     ensures expanded { λ r. ⌜ Done (boardOf leaves actions (now (bases .entry)) (now (moves .entry)) (now (costs .entry)) (now (kinds .entry)) factors
-        (now (conditions .entry))) (now (effects .entry)) (now (goals .entry)) goal nodes u (now (table .entry)) (now (scan .entry)) run
+        (now (conditions .entry))) (now (effects .entry)) (now (goals .entry)) goal nodes u key (now (table .entry)) (now (scan .entry)) run
         (now (table .exit)) (now (scan .exit)) r ⌝ }
     ensures known { λ _. ⌜ Known (boardOf leaves actions (now (bases .entry)) (now (moves .entry)) (now (costs .entry)) (now (kinds .entry)) factors
         (now (conditions .entry))) (now (known .exit)) ⌝ }
@@ -601,7 +656,7 @@ fn turns(
     }
 }
 
-// All actions of node u, by rising number; `old`, `next`, `flags` and `mets` are room to work in.
+// All actions of node u, whose key is given, by rising number; `old`, `next`, `flags` and `mets` are room to work in.
 fn expand(
     leaves: usize,
     actions: usize,
@@ -620,6 +675,7 @@ fn expand(
     goal: [u8; 32],
     nodes: usize,
     u: usize,
+    key: u64,
     table: &mut [u64],
     scan: &mut [u64],
     known: &mut [u8],
@@ -641,7 +697,7 @@ fn expand(
     ensures grown { λ r. ⌜ Grown (boardOf leaves actions (now (bases .entry)) (now (moves .entry)) (now (costs .entry)) (now (kinds .entry)) factors
         (now (conditions .entry))) nodes run (now (table .exit)) (now (scan .exit)) r ⌝ }
     ensures expanded { λ r. ⌜ Done (boardOf leaves actions (now (bases .entry)) (now (moves .entry)) (now (costs .entry)) (now (kinds .entry)) factors
-        (now (conditions .entry))) (now (effects .entry)) (now (goals .entry)) goal nodes u (now (table .entry)) (now (scan .entry)) run
+        (now (conditions .entry))) (now (effects .entry)) (now (goals .entry)) goal nodes u key (now (table .entry)) (now (scan .entry)) run
         (now (table .exit)) (now (scan .exit)) r ⌝ }
     ensures known { λ _. ⌜ Known (boardOf leaves actions (now (bases .entry)) (now (moves .entry)) (now (costs .entry)) (now (kinds .entry)) factors
         (now (conditions .entry))) (now (known .exit)) ⌝ }
@@ -653,7 +709,6 @@ fn expand(
     let spot = read_spot(&table[at..end]);
     let paid = table[at + 32];
     copy_words(&table[at + 40..end], old, states);
-    let key = key_of(leaves, bases, paid, &old[..]);
     let sign = scan[4096 + u];
     mets_of(
         actions,
@@ -823,6 +878,7 @@ fn next_round(
         });
     }
     let u = chosen - 1;
+    let key = scan[u];
     retire(scan, u, run.count);
     let begun = Run {
         count: run.count,
@@ -848,6 +904,7 @@ fn next_round(
         goal,
         nodes,
         u,
+        key,
         table,
         scan,
         known,

@@ -39,7 +39,7 @@ returns c =
     let a = s .args in
     begun-still (board s) (s .pre .0) (a .a) (a .spent) (now (a .old)) (drop (rowOn (board s)) (now (a .next))) (a .low) (a .sign)
     (s .pre .1 .1 .0 .1) (λ x. omega (arith, c .before .before .before .before .before .before .before .before .shared-slice-known7 .given x)) (s .pre .1 .0 .stays (a .a) (s .pre .1 .1 .0 .0) (c .before .before .before .before .if1 .taken))
-    (s .pre .1 .1 .1 .0) (s .pre .1 .1 .1 .1) (w .last .1 .0) (w .ensures)
+    (s .pre .1 .1 .1) (w .last .1 .0) (w .ensures)
 
 begin-layer-requires : tie.Need-begin-layer-requires
 begin-layer-requires c κs = search needs

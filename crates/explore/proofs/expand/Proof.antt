@@ -94,37 +94,29 @@ copy-words-requires c κs =
     let s = c .before .before .before .before .before .before .before .before .before .before .before .before .before .before .before .before .before .before .before .before .before .before .before .before .before .before in
     (simp (length-take, length-drop) (omega (arith, row-fits s)), omega (arith, s .pre .1 .1 .1 .1 .0, s .pre .0 .few-all))
 
-key-of-requires : tie.Need-key-of-requires
-key-of-requires c κs =
-    let s = c .before .before .before .before .before .before .before .before .before .before .before .before .before .before .before .before .before .before .before .before .before .before .before .before .before .before .before .before .before .before in
-    let w = c .before .before .before .copy-words in
-    let long : length (w .last .1 .0) ≡ 1024 = w .kept .1 .0 ∙ s .pre .1 .1 .1 .1 .0 in
-    cut {n = length (w .last .1 .0)} (s .pre .0) (omega (arith, s .pre .0 .few-all))
-
 add-sign : tie.Need-add-sign
-add-sign c = omega (arith, inside-scan (c .before .before .before .before .before .before .before .before .before .before .before .before .before .before .before .before .before .before .before .before .before .before .before .before .before .before .before .before .before .before .before))
+add-sign c = omega (arith, inside-scan (c .before .before .before .before .before .before .before .before .before .before .before .before .before .before .before .before .before .before .before .before .before .before .before .before .before .before .before .before .before))
 
 mul-sign : tie.Need-mul-sign
-mul-sign c = omega (arith, inside-scan (c .before .before .before .before .before .before .before .before .before .before .before .before .before .before .before .before .before .before .before .before .before .before .before .before .before .before .before .before .before .before .before))
+mul-sign c = omega (arith, inside-scan (c .before .before .before .before .before .before .before .before .before .before .before .before .before .before .before .before .before .before .before .before .before .before .before .before .before .before .before .before .before))
 
 slice-read-sign : tie.Need-slice-read-sign
-slice-read-sign c = omega (arith, inside-scan (c .before .before .before .before .before .before .before .before .before .before .before .before .before .before .before .before .before .before .before .before .before .before .before .before .before .before .before .before .before .before .before .before), c .before .before .before .before .before .before .before .before .before .before .before .before .before .before .before .before .before .before .before .before .before .before .before .before .before .before .before .before .before .before .before .before .pre .1 .1 .1 .0 .scan-long)
+slice-read-sign c = omega (arith, inside-scan (c .before .before .before .before .before .before .before .before .before .before .before .before .before .before .before .before .before .before .before .before .before .before .before .before .before .before .before .before .before .before), c .before .before .before .before .before .before .before .before .before .before .before .before .before .before .before .before .before .before .before .before .before .before .before .before .before .before .before .before .before .before .pre .1 .1 .1 .0 .scan-long)
 
 class-of-requires : tie.Need-class-of-requires
 class-of-requires c κs = search needs
 
 mets-of-requires : tie.Need-mets-of-requires
 mets-of-requires c κs =
-    let s = c .before .before .before .before .before .before .before .before .before .before .before .before .before .before .before .before .before .before .before .before .before .before .before .before .before .before .before .before .before .before .before .before .before .before .before in
+    let s = c .before .before .before .before .before .before .before .before .before .before .before .before .before .before .before .before .before .before .before .before .before .before .before .before .before .before .before .before .before .before .before .before .before in
     let class = c .before .before .class-of in
-    (s .pre .0 .few-actions, s .pre .0 .conditions-long, firsts-asks (board s) _ (s .pre .1 .0 .1), omega (arith, class .ensures, class-lt (c .before .before .before .before .before .before .before .before .before .before .before .before .before .read-spot .result)), s .pre .1 .0 .5, known-asks (board s) _ (s .pre .1 .0 .3))
+    (s .pre .0 .few-actions, s .pre .0 .conditions-long, firsts-asks (board s) _ (s .pre .1 .0 .1), omega (arith, class .ensures, class-lt (c .before .before .before .before .before .before .before .before .before .before .before .read-spot .result)), s .pre .1 .0 .5, known-asks (board s) _ (s .pre .1 .0 .3))
 
 turns-requires : tie.Need-turns-requires
 turns-requires c κs =
-    let s = c .before .before .before .before .before .before .before .before .before .before .before .before .before .before .before .before .before .before .before .before .before .before .before .before .before .before .before .before .before .before .before .before .before .before .before .before .before .before .before .before .before .before .before .before .before .before .before in
-    let r = c .before .before .before .before .before .before .before .before .before .before .before .before .before .before .before .before .before .before .before .before .before .before .before .before .before .read-spot in
-    let w = c .before .before .before .before .before .before .before .before .before .before .before .before .before .before .before .before .before .before .before .before .copy-words in
-    let k = c .before .before .before .before .before .before .before .before .before .before .before .before .before .before .before .before .key-of in
+    let s = c .before .before .before .before .before .before .before .before .before .before .before .before .before .before .before .before .before .before .before .before .before .before .before .before .before .before .before .before .before .before .before .before .before .before .before .before .before .before .before .before .before .before .before .before .before in
+    let r = c .before .before .before .before .before .before .before .before .before .before .before .before .before .before .before .before .before .before .before .before .before .before .before .read-spot in
+    let w = c .before .before .before .before .before .before .before .before .before .before .before .before .before .before .before .before .before .before .copy-words in
     let m = c .before .before .before .before .before .before .before .before .before .before .before .mets-of in
     let long : length (w .last .1 .0) ≡ 1024 = w .kept .1 .0 ∙ s .pre .1 .1 .1 .1 .0 in
     let has = row-has (rowOn (board s)) (s .args .u) (now (s .args .table)) (r .result) (w .last .1 .0) _ (row-fits s) (r .ensures) (w .ensures) in
@@ -134,7 +126,7 @@ turns-requires c κs =
         (s .pre .1 .0 .0, s .pre .1 .0 .1, s .pre .1 .0 .2, asks-known (board s) _ (m .ensures .0), asks-mets (board s) _ _ (m .ensures .1), s .pre .1 .0 .4),
         (
           (s .pre .1 .1 .0 .0, s .pre .1 .1 .0 .1, long, s .pre .1 .1 .1 .1 .1, s .pre .1 .1 .0 .2),
-          ((k .ensures, sign, has), s .pre .1 .1 .1 .0),
+          ((sign, has), s .pre .1 .1 .1 .0),
         ),
       ),
     )
@@ -155,7 +147,7 @@ same-length-5 : tie.Need-same-length-5
 same-length-5 c = search needs
 
 same-length-6 : tie.Need-same-length-6
-same-length-6 c = c .before .before .before .before .before .before .before .before .before .before .before .before .before .before .before .before .before .before .before .before .before .before .before .before .before .before .before .before .before .before .before .copy-words .kept .1 .0
+same-length-6 c = c .before .before .before .before .before .before .before .before .before .before .before .before .before .before .before .before .before .before .before .before .before .before .before .before .before .before .before .before .before .copy-words .kept .1 .0
 
 same-length-7 : tie.Need-same-length-7
 same-length-7 c = search needs
@@ -186,7 +178,6 @@ expand-spec =
     part-copy-words-start
     part-copy-words-end
     copy-words-requires
-    key-of-requires
     add-sign
     mul-sign
     slice-read-sign

@@ -45,10 +45,10 @@ few s = omega (arith, s .pre .1 .1 .1 .0 .count-few, s .pre .1 .1 .1 .0 .few-nod
 
 -- where the chosen node was retired: the function's start, the node, and the scan words then
 abbrev entry : tie.After-retire → tie.Start
-entry r = start (r .before .before .before .before)
+entry r = start (r .before .before .before .before .before)
 
 abbrev node : tie.After-retire → ℕ
-node r = r .before .before .before .before .before .choose .result - 1
+node r = r .before .before .before .before .before .before .choose .result - 1
 
 abbrev words : tie.After-retire → List ℕ
 words r = r .retire .last .0
@@ -60,7 +60,7 @@ keyed r =
     let s = entry r in
     let a = s .args in
     retired-keyed (rowOn (board s)) (a .nodes) (now (a .table)) (now (a .scan)) (words r) (a .run) (node r) (s .pre .1 .1 .1 .0)
-    (picked (r .before .before .before .before) .1) (r .retire .ensures)
+    (picked (r .before .before .before .before .before) .1) (r .retire .ensures)
 
 -- there is room for the expansion
 room : (r : tie.After-retire) → let a = entry r .args in
@@ -69,7 +69,7 @@ room r =
     let s = entry r in
     let a = s .args in
     retired-room (rowOn (board s)) (a .nodes) (now (a .table)) (now (a .scan)) (words r) (a .run) (node r) (s .pre .1 .1 .1 .0)
-    (picked (r .before .before .before .before) .1) (r .retire .ensures)
+    (picked (r .before .before .before .before .before) .1) (r .retire .ensures)
 
 choose-requires : tie.Need-choose-requires
 choose-requires c κs =
@@ -95,19 +95,25 @@ returns-2 c =
 sub-u : tie.Need-sub-u
 sub-u c = search needs
 
+mul-key : tie.Need-mul-key
+mul-key c = let s = c .before .before .before .before .before .before .before .before .before .before .before .before .before .before .before .before .before .before .before .before .before .before .before in omega (arith, picked (c .before .before) .1, few s)
+
+slice-read-key : tie.Need-slice-read-key
+slice-read-key c = let s = c .before .before .before .before .before .before .before .before .before .before .before .before .before .before .before .before .before .before .before .before .before .before .before .before in omega (arith, picked (c .before .before .before) .1, long s)
+
 retire-requires : tie.Need-retire-requires
 retire-requires c κs =
-    let s = c .before .before .before .before .before .before .before .before .before .before .before .before .before .before .before .before .before .before .before .before .before .before .before .before in
-    (s .pre .1 .1 .1 .0 .scan-long, few s, picked (c .before .before .before) .1)
+    let s = c .before .before .before .before .before .before .before .before .before .before .before .before .before .before .before .before .before .before .before .before .before .before .before .before .before in
+    (s .pre .1 .1 .1 .0 .scan-long, few s, picked (c .before .before .before .before) .1)
 
-add-t41 : tie.Need-add-t41
-add-t41 c = omega (arith, c .before .before .before .before .before .before .before .before .before .before .before .before .before .before .before .before .before .before .before .before .before .before .before .before .before .before .before .before .pre .1 .1 .0 .2)
+add-t45 : tie.Need-add-t45
+add-t45 c = omega (arith, c .before .before .before .before .before .before .before .before .before .before .before .before .before .before .before .before .before .before .before .before .before .before .before .before .before .before .before .before .before .pre .1 .1 .0 .2)
 
 expand-requires : tie.Need-expand-requires
 expand-requires c κs =
     let r = c .before .before .before .before .before .before .before .before .before .before in
     let s = entry r in
-    (s .pre .0, (s .pre .1 .0, ((s .pre .1 .1 .0 .0, s .pre .1 .1 .0 .1, picked (r .before .before .before .before) .1), (room r, s .pre .1 .1 .1 .1))))
+    (s .pre .0, (s .pre .1 .0, ((s .pre .1 .1 .0 .0, s .pre .1 .1 .0 .1, picked (r .before .before .before .before .before) .1), (room r, s .pre .1 .1 .1 .1))))
 
 same-length-3 : tie.Need-same-length-3
 same-length-3 c = search needs
@@ -137,8 +143,8 @@ returns-3 c =
     let a = s .args in
     let w = c .before .before .before .before .before .before .before .before .before .before .before .before .before .before .before .before .expand in (
       (λ t f h. ahead-full t (f .valid) (a .nodes) (s .pre .1 .1 .1 .0 .few-nodes) (a .budget) (allStates t) (now (a .table)) (now (a .scan)) (a .run) h (node r)
-          (picked (r .before .before .before .before) .0) (long s) (r .before .before .if2 .left) (words r) (keyed r)
-          (w .result) (w .last .1 .1 .1 .1 .1 .1 .1 .1 .1 .1 .1 .1 .1 .1 .1 .1 .1 .0) (w .last .1 .1 .1 .1 .1 .1 .1 .1 .1 .1 .1 .1 .1 .1 .1 .1 .1 .1 .0) (w .ensures .1 .0 t f) (c .if3 .taken)),
+          (picked (r .before .before .before .before .before) .0) (long s) (r .before .before .before .if2 .left) (words r) (keyed r)
+          (w .result) (w .last .1 .1 .1 .1 .1 .1 .1 .1 .1 .1 .1 .1 .1 .1 .1 .1 .1 .1 .0) (w .last .1 .1 .1 .1 .1 .1 .1 .1 .1 .1 .1 .1 .1 .1 .1 .1 .1 .1 .1 .0) (w .ensures .1 .0 t f) (c .if3 .taken)),
       w .ensures .1 .1,
     )
 
@@ -171,8 +177,8 @@ returns-4 c =
     let w = c .before .before .before .before .before .before .before .before .before .before .before .before .before .before .before .before .expand in (
       (λ t f h. (
         ahead-on t (f .valid) (a .nodes) (s .pre .1 .1 .1 .0 .few-nodes) (a .budget) (allStates t) (now (a .table)) (now (a .scan)) (a .run) h (node r)
-            (picked (r .before .before .before .before) .0) (long s) (r .before .before .if2 .left) (words r) (keyed r)
-            (w .result) (w .last .1 .1 .1 .1 .1 .1 .1 .1 .1 .1 .1 .1 .1 .1 .1 .1 .1 .0) (w .last .1 .1 .1 .1 .1 .1 .1 .1 .1 .1 .1 .1 .1 .1 .1 .1 .1 .1 .0) (w .ensures .1 .0 t f) (c .if3 .left) (w .ensures .0 .2) (rw (row-on t (board s) (f .fits)) at (w .ensures .0 .3)),
+            (picked (r .before .before .before .before .before) .0) (long s) (r .before .before .before .if2 .left) (words r) (keyed r)
+            (w .result) (w .last .1 .1 .1 .1 .1 .1 .1 .1 .1 .1 .1 .1 .1 .1 .1 .1 .1 .1 .0) (w .last .1 .1 .1 .1 .1 .1 .1 .1 .1 .1 .1 .1 .1 .1 .1 .1 .1 .1 .1 .0) (w .ensures .1 .0 t f) (c .if3 .left) (w .ensures .0 .2) (rw (row-on t (board s) (f .fits)) at (w .ensures .0 .3)),
         w .ensures .0 .2,
       )),
       w .ensures .1 .1,
@@ -188,8 +194,10 @@ next-round-spec =
     same-length-2
     returns-2
     sub-u
+    mul-key
+    slice-read-key
     retire-requires
-    add-t41
+    add-t45
     expand-requires
     same-length-3
     same-length-4

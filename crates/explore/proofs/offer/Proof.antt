@@ -36,7 +36,7 @@ returns c =
     let a = s .args in (
       offered-above (board s) (now (a .goals)) (a .goal) (a .nodes) (now (a .table)) (now (a .scan)) (a .run)
           (a .spot) (a .paid) (now (a .begin)) (a .parent) (a .action) (s .pre .1 .1 .1 .1 .few-nodes) (s .pre .1 .1 .1 .1 .count-few)
-          (a .key) (s .pre .1 .1 .1 .0 .0) (c .if1 .taken),
+          (a .key) (c .if1 .taken),
       s .pre .1 .0 .2,
     )
 
@@ -55,7 +55,7 @@ is-dominated-requires c κs =
         s .pre .1 .1 .0 .0 .fits,
         room .chained,
       ),
-      (c .before .before .before .class-of .ensures, s .pre .1 .1 .1 .0 .1),
+      (c .before .before .before .class-of .ensures, s .pre .1 .1 .1 .0),
     )
 
 same-length : tie.Need-same-length
@@ -74,7 +74,7 @@ returns-2 c =
     let a = s .args in (
       offered-dominated (board s) (now (a .goals)) (a .goal) (a .nodes) (now (a .table)) (now (a .scan)) (a .run)
           (a .spot) (a .paid) (now (a .begin)) (a .parent) (a .action) (s .pre .1 .1 .1 .1 .few-nodes) (s .pre .1 .1 .1 .1 .count-few)
-          (a .key) (s .pre .1 .1 .1 .0 .0) (c .before .before .before .before .before .before .before .before .if1 .left) (d .is-dominated .result) (d .is-dominated .ensures .0) (words d) (d .is-dominated .ensures .1) (c .if2 .taken),
+          (a .key) (c .before .before .before .before .before .before .before .before .if1 .left) (d .is-dominated .result) (d .is-dominated .ensures .0) (words d) (d .is-dominated .ensures .1) (c .if2 .taken),
       s .pre .1 .0 .2,
     )
 
@@ -94,7 +94,7 @@ returns-3 c =
     let a = s .args in (
       offered-full (board s) (now (a .goals)) (a .goal) (a .nodes) (now (a .table)) (now (a .scan)) (a .run)
           (a .spot) (a .paid) (now (a .begin)) (a .parent) (a .action) (s .pre .1 .1 .1 .1 .few-nodes) (s .pre .1 .1 .1 .1 .count-few)
-          (a .key) (s .pre .1 .1 .1 .0 .0) (c .before .before .before .before .before .before .before .before .before .if1 .left) (d .is-dominated .result) (d .is-dominated .ensures .0) (words d) (d .is-dominated .ensures .1) (c .before .if2 .left) (c .if3 .taken),
+          (a .key) (c .before .before .before .before .before .before .before .before .before .if1 .left) (d .is-dominated .result) (d .is-dominated .ensures .0) (words d) (d .is-dominated .ensures .1) (c .before .if2 .left) (c .if3 .taken),
       s .pre .1 .0 .2,
     )
 
@@ -146,7 +146,7 @@ returns-4 c =
     let a = s .args in (
       offered-kept (board s) (now (a .goals)) (a .goal) (a .nodes) (now (a .table)) (now (a .scan)) (a .run)
           (a .spot) (a .paid) (now (a .begin)) (a .parent) (a .action) (s .pre .1 .1 .1 .1 .few-nodes) (s .pre .1 .1 .1 .1 .count-few)
-          (a .key) (s .pre .1 .1 .1 .0 .0) (c .before .before .before .before .before .before .before .before .before .before .before .before .before .before .before .before .before .before .before .before .before .before .before .before .before .before .before .if1 .left) (d .is-dominated .result) (d .is-dominated .ensures .0) (words d) (d .is-dominated .ensures .1) (c .before .before .before .before .before .before .before .before .before .before .before .before .before .before .before .before .before .before .before .if2 .left) (c .before .before .before .before .before .before .before .before .before .before .before .before .before .before .before .before .before .before .if3 .left)
+          (a .key) (c .before .before .before .before .before .before .before .before .before .before .before .before .before .before .before .before .before .before .before .before .before .before .before .before .before .before .before .if1 .left) (d .is-dominated .result) (d .is-dominated .ensures .0) (words d) (d .is-dominated .ensures .1) (c .before .before .before .before .before .before .before .before .before .before .before .before .before .before .before .before .before .before .before .if2 .left) (c .before .before .before .before .before .before .before .before .before .before .before .before .before .before .before .before .before .before .if3 .left)
           (s .pre .1 .1 .1 .1 .scan-long) (n .last .1 .1 .1 .1 .1 .1 .1 .1 .1 .1 .1 .1 .1 .0) (n .ensures .0) (w .last .1 .1 .1 .1 .1 .1 .1 .1 .1 .1 .1 .0) (w .last .1 .1 .1 .1 .1 .1 .1 .1 .1 .1 .1 .1 .0) (w .result) (w .ensures),
       n .ensures .1,
     )

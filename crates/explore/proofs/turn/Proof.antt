@@ -9,7 +9,7 @@ use Rattle.layer.specs.Lent.{boardOf}
 use Rattle.nodes.specs.Scan.{keyBy}
 use Rattle.explore.specs.Still.{key-more}
 use Rattle.explore.specs.Held.Laws.{cut}
-use Rattle.explore.specs.Held.Turns.{moved-leaf, moved-above, moved-offered}
+use Rattle.explore.specs.Held.Turns.{moved-leaf, moved-above, moved-stuck, moved-offered}
 use borrow.Author.Needs.{needs}
 use Rattle.explore.proofs.turn.Statement.{statement}
 use Rattle.explore.proofs.turn.Tie as tie
@@ -27,7 +27,7 @@ returns : tie.Need-returns
 returns c =
     let s = c .before .before .before .before .before .before .before .before .before .before .before .before .before .before .before .before .before .before .before in
     let a = s .args in (
-      moved-leaf (board s) (now (a .effects)) (now (a .goals)) (a .goal) (a .nodes) (a .spot) (a .paid) (now (a .old)) (a .u) (a .a)
+      moved-leaf (board s) (now (a .effects)) (now (a .goals)) (a .goal) (a .nodes) (a .spot) (a .paid) (now (a .old)) (a .key) (a .u) (a .a)
           (now (a .table)) (now (a .scan)) (a .run) (s .pre .1 .1 .1 .1 .few-nodes) (s .pre .1 .1 .1 .1 .count-few) (s .pre .1 .1 .0 .5) (s .pre .1 .1 .0 .4)
           (c .if1 .taken),
       s .pre .1 .0 .3,
@@ -53,15 +53,31 @@ returns-2 : tie.Need-returns-2
 returns-2 c =
     let s = c .before .before .before .before .before .before .before .before .before .before .before .before .before .before .before .before .before .before .before .before .before .before .before in
     let a = s .args in (
-      moved-above (board s) (now (a .effects)) (now (a .goals)) (a .goal) (a .nodes) (a .spot) (a .paid) (now (a .old)) (a .u) (a .a)
+      moved-above (board s) (now (a .effects)) (now (a .goals)) (a .goal) (a .nodes) (a .spot) (a .paid) (now (a .old)) (a .key) (a .u) (a .a)
           (now (a .table)) (now (a .scan)) (a .run) (s .pre .1 .1 .1 .1 .few-nodes) (s .pre .1 .1 .1 .1 .count-few) (s .pre .1 .1 .0 .5) (s .pre .1 .1 .0 .4)
-          (c .before .before .before .before .if1 .left) (c .before .before .add-price .result) (rw (s .pre .1 .1 .1 .0 .0) at (c .before .before .add-price .ensures)) (c .if2 .taken),
+          (c .before .before .before .before .if1 .left) (c .before .before .add-price .result) (c .before .before .add-price .ensures) (c .if2 .taken),
+      s .pre .1 .0 .3,
+    )
+
+is-stuck-requires : tie.Need-is-stuck-requires
+is-stuck-requires c κs =
+    let s = c .before .before .before .before .before .before .before .before .before .before .before .before .before .before .before .before .before .before .before .before .before .before .before in
+    let all = s .pre .0 .few-all in
+    (s .pre .0, (s .pre .1 .0 .0 .long, s .pre .1 .1 .0 .5, omega (arith, s .pre .1 .1 .0 .2)))
+
+returns-3 : tie.Need-returns-3
+returns-3 c =
+    let s = c .before .before .before .before .before .before .before .before .before .before .before .before .before .before .before .before .before .before .before .before .before .before .before .before .before in
+    let a = s .args in (
+      moved-stuck (board s) (now (a .effects)) (now (a .goals)) (a .goal) (a .nodes) (a .spot) (a .paid) (now (a .old)) (a .key) (a .u) (a .a)
+          (now (a .table)) (now (a .scan)) (a .run) (s .pre .1 .1 .1 .1 .few-nodes) (s .pre .1 .1 .1 .1 .count-few) (s .pre .1 .1 .0 .5) (s .pre .1 .1 .0 .4)
+          (c .before .before .before .before .before .before .if1 .left) (c .before .is-stuck .ensures (c .if3 .taken)),
       s .pre .1 .0 .3,
     )
 
 pairs-of-requires : tie.Need-pairs-of-requires
 pairs-of-requires c κs =
-    let s = c .before .before .before .before .before .before .before .before .before .before .before .before .before .before .before .before .before .before .before .before .before .before .before in
+    let s = c .before .before .before .before .before .before .before .before .before .before .before .before .before .before .before .before .before .before .before .before .before .before .before .before .before in
     omega (arith, s .pre .0 .few-actions, s .pre .1 .1 .0 .0, s .pre .1 .1 .0 .5)
 
 after-requires : tie.Need-after-requires
@@ -72,18 +88,15 @@ add-price-requires-2 c κs = search needs
 
 begin-of-requires : tie.Need-begin-of-requires
 begin-of-requires c κs =
-    let s = c .before .before .before .before .before .before .before .before .before .before .before .before .before .before .before .before .before .before .before .before .before .before .before .before .before .before .before in
+    let s = c .before .before .before .before .before .before .before .before .before .before .before .before .before .before .before .before .before .before .before .before .before .before .before .before .before .before .before .before .before in
     let a = s .args in
-    let all = s .pre .0 .few-all in
-    let low : c .before .before .before .before .before .before .add-price .result ≡ keyBy (a .leaves) (now (a .bases)) (c .before .add-price2 .result) (now (a .old)) =
-    c .before .before .before .before .before .before .add-price .ensures
-    ∙ rw (s .pre .1 .1 .1 .0 .0, c .before .add-price2 .ensures) (key-more (a .leaves) (now (a .bases)) (a .paid) (getD (now (a .costs)) (a .a) 0) (now (a .old))) in (
+    let all = s .pre .0 .few-all in (
       s .pre .0,
       (
         s .pre .1 .0 .0,
         (
           (s .pre .1 .1 .0 .5, omega (arith, s .pre .1 .1 .0 .2), omega (arith, s .pre .1 .1 .0 .3)),
-          (low, s .pre .1 .1 .1 .0 .1),
+          s .pre .1 .1 .1 .0,
         ),
       ),
     )
@@ -91,7 +104,7 @@ begin-of-requires c κs =
 offer-requires : tie.Need-offer-requires
 offer-requires c κs =
     let n = c .before .before .before .before .before .before .before .begin-of in
-    let s = c .before .before .before .before .before .before .before .before .before .before .before .before .before .before .before .before .before .before .before .before .before .before .before .before .before .before .before .before .before .before .before .before .before .before .before in
+    let s = c .before .before .before .before .before .before .before .before .before .before .before .before .before .before .before .before .before .before .before .before .before .before .before .before .before .before .before .before .before .before .before .before .before .before .before .before .before in
     let next = n .last .1 .1 .1 .1 .1 .1 .1 .1 .1 .1 .1 .1 .1 .1 .0 in
     let kept : length next ≡ length (now (s .args .next)) = n .kept .1 .1 .1 .1 .1 .1 .1 .1 .1 .1 .1 .1 .1 .1 .0 in
     let all = s .pre .0 .few-all in (
@@ -103,7 +116,7 @@ offer-requires c κs =
             cut {n = length next} (s .pre .0) (omega (arith, s .pre .1 .1 .0 .3)),
             cut {n = length (now (s .args .goals))} (s .pre .0) (omega (arith, s .pre .1 .1 .0 .1)),
           ),
-          ((n .ensures .1, n .ensures .2), s .pre .1 .1 .1 .1),
+          (n .ensures .2, s .pre .1 .1 .1 .1),
         ),
       ),
     )
@@ -123,20 +136,24 @@ same-length-4 c = search needs
 same-length-5 : tie.Need-same-length-5
 same-length-5 c = search needs
 
-returns-3 : tie.Need-returns-3
-returns-3 c =
+returns-4 : tie.Need-returns-4
+returns-4 c =
     let o = c .before .before .before .before .before .before .before .before .before .before .offer in
     let n = c .before .before .before .before .before .before .before .before .before .before .before .before .before .before .before .before .before .before .begin-of in
     let p = c .before .before .before .before .before .before .before .before .before .before .before .before .before .before .before .before .before .before .before .before .add-price2 in
     let f = c .before .before .before .before .before .before .before .before .before .before .before .before .before .before .before .before .before .before .before .before .before .after in
     let g = c .before .before .before .before .before .before .before .before .before .before .before .before .before .before .before .before .before .before .before .before .before .before .pairs-of in
-    let s = c .before .before .before .before .before .before .before .before .before .before .before .before .before .before .before .before .before .before .before .before .before .before .before .before .before .before .before .before .before .before .before .before .before .before .before .before .before .before .before .before .before .before .before .before .before .before in
-    let a = s .args in (
-      moved-offered (board s) (now (a .effects)) (now (a .goals)) (a .goal) (a .nodes) (a .spot) (a .paid) (now (a .old)) (a .u) (a .a)
+    let s = c .before .before .before .before .before .before .before .before .before .before .before .before .before .before .before .before .before .before .before .before .before .before .before .before .before .before .before .before .before .before .before .before .before .before .before .before .before .before .before .before .before .before .before .before .before .before .before .before in
+    let a = s .args in
+    let low : a .key ≡ keyBy (a .leaves) (now (a .bases)) (a .paid) (now (a .old))
+    → c .before .before .before .before .before .before .before .before .before .before .before .before .before .before .before .before .before .before .before .before .before .before .before .before .before .before .before .add-price .result ≡ keyBy (a .leaves) (now (a .bases)) (p .result) (now (a .old)) =
+    λ isKey. c .before .before .before .before .before .before .before .before .before .before .before .before .before .before .before .before .before .before .before .before .before .before .before .before .before .before .before .add-price .ensures
+    ∙ rw (isKey, p .ensures) (key-more (a .leaves) (now (a .bases)) (a .paid) (getD (now (a .costs)) (a .a) 0) (now (a .old))) in (
+      moved-offered (board s) (now (a .effects)) (now (a .goals)) (a .goal) (a .nodes) (a .spot) (a .paid) (now (a .old)) (a .key) (a .u) (a .a)
           (now (a .table)) (now (a .scan)) (a .run) (s .pre .1 .1 .1 .1 .few-nodes) (s .pre .1 .1 .1 .1 .count-few) (s .pre .1 .1 .0 .5) (s .pre .1 .1 .0 .4)
-          (c .before .before .before .before .before .before .before .before .before .before .before .before .before .before .before .before .before .before .before .before .before .before .before .before .before .before .before .if1 .left) true (sym (s .pre .1 .0 .4)) refl
+          (c .before .before .before .before .before .before .before .before .before .before .before .before .before .before .before .before .before .before .before .before .before .before .before .before .before .before .before .before .before .if1 .left) true (sym (s .pre .1 .0 .4)) refl
           (g .result) (n .last .1 .1 .1 .1 .1 .1 .1 .1 .1 .1 .1 .1 .1 .1 .0) (drop (rowOn (board s)) (now (a .next))) (f .result) (p .result)
-          (g .ensures) (f .ensures) (n .ensures .0) (p .ensures) (o .last .1 .1 .1 .1 .1 .1 .1 .1 .1 .1 .1 .1 .1 .1 .1 .1 .1 .1 .1 .1 .1 .0) (o .last .1 .1 .1 .1 .1 .1 .1 .1 .1 .1 .1 .1 .1 .1 .1 .1 .1 .1 .1 .1 .1 .1 .0) (o .result) (o .ensures .0),
+          (g .ensures) (f .ensures) (n .ensures .0) (p .ensures) (n .result .key) (λ isKey. n .ensures .1 (low isKey)) (o .last .1 .1 .1 .1 .1 .1 .1 .1 .1 .1 .1 .1 .1 .1 .1 .1 .1 .1 .1 .1 .1 .0) (o .last .1 .1 .1 .1 .1 .1 .1 .1 .1 .1 .1 .1 .1 .1 .1 .1 .1 .1 .1 .1 .1 .1 .0) (o .result) (o .ensures .0),
       o .ensures .1,
     )
 
@@ -151,6 +168,8 @@ turn-spec =
     cast-cost
     add-price-requires
     returns-2
+    is-stuck-requires
+    returns-3
     pairs-of-requires
     after-requires
     add-price-requires-2
@@ -161,4 +180,4 @@ turn-spec =
     same-length-3
     same-length-4
     same-length-5
-    returns-3)
+    returns-4)

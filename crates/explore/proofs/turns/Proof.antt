@@ -14,7 +14,7 @@ use Rattle.explore.proofs.turns.Tie as tie
 
 abbrev Inv-loop : tie.InvT-loop
 Inv-loop leaves actions bases moves costs kinds factors conditions still firsts edges ends effects goals goal nodes spot paid key sign mets old u next₀ table₀ scan₀ known₀ flags₀ going₀ a₀ next table scan known flags going a =
-    Passed (boardOf leaves actions bases moves costs kinds factors conditions) effects goals goal nodes u table₀ scan₀ going₀ table scan going a
+    Passed (boardOf leaves actions bases moves costs kinds factors conditions) effects goals goal nodes u key table₀ scan₀ going₀ table scan going a
     × (length next ≡ 1024)
     × Known (boardOf leaves actions bases moves costs kinds factors conditions) known
     × (length flags ≡ 256)
@@ -40,9 +40,9 @@ loop-holds c =
     let s = c .before .before .before .before .before .before .before .before .before .before .before .before .before .before .before .before .before .before .before in
     let a = s .args in
     let n = c .next-met in
-    let skip = passed-skip (board s) (now (a .effects)) (now (a .goals)) (a .goal) (a .nodes) (a .u) (now (a .table)) (now (a .scan)) (a .run)
-    (a .spot) (a .paid) (now (a .old)) (s .pre .1 .1 .1 .0 .2) (s .pre .1 .1 .0 .4) (now (a .table)) (now (a .scan)) (a .run) (now (a .mets)) (s .pre .1 .0 .4)
-    0 (n .result) (n .ensures .0) (n .ensures .1) (n .ensures .2) (passed-none _ _ _ _ _ _ _ _ _ (s .pre .1 .1 .1 .1)) in
+    let skip = passed-skip (board s) (now (a .effects)) (now (a .goals)) (a .goal) (a .nodes) (a .u) (a .key) (now (a .table)) (now (a .scan)) (a .run)
+    (a .spot) (a .paid) (now (a .old)) (s .pre .1 .1 .1 .0 .1) (s .pre .1 .1 .0 .4) (now (a .table)) (now (a .scan)) (a .run) (now (a .mets)) (s .pre .1 .0 .4)
+    0 (n .result) (n .ensures .0) (n .ensures .1) (n .ensures .2) (passed-none _ _ _ _ _ _ _ _ _ _ (s .pre .1 .1 .1 .1)) in
     (skip, s .pre .1 .1 .0 .3, s .pre .1 .0 .3, s .pre .1 .0 .5, n .ensures .3)
 
 turn-requires : tie.Need-turn-requires Inv-loop μ-loop
@@ -56,7 +56,7 @@ turn-requires c κs =
         (s .pre .1 .0 .0, s .pre .1 .0 .1, s .pre .1 .0 .2, l .inv .2, s .pre .1 .0 .4 .met (l .a) taken (l .inv .4 taken), l .inv .3),
         (
           (s .pre .1 .1 .0 .0, s .pre .1 .1 .0 .1, s .pre .1 .1 .0 .2, l .inv .1, inside, taken),
-          ((s .pre .1 .1 .1 .0 .0, s .pre .1 .1 .1 .0 .1), l .inv .0 .room),
+          (s .pre .1 .1 .1 .0 .0, l .inv .0 .room),
         ),
       ),
     )
@@ -83,8 +83,8 @@ returns c =
     let a = s .args in
     let w = c .before .before .before .before .before .before .before .before .before .before .before .turn in
     let full =
-    passed-full (board s) (now (a .effects)) (now (a .goals)) (a .goal) (a .nodes) (a .u) (now (a .table)) (now (a .scan)) (a .run)
-    (a .spot) (a .paid) (now (a .old)) (s .pre .1 .1 .1 .0 .2) (s .pre .1 .1 .0 .4)
+    passed-full (board s) (now (a .effects)) (now (a .goals)) (a .goal) (a .nodes) (a .u) (a .key) (now (a .table)) (now (a .scan)) (a .run)
+    (a .spot) (a .paid) (now (a .old)) (s .pre .1 .1 .1 .0 .1) (s .pre .1 .1 .0 .4)
     (l .table) (l .scan) (l .going) (l .a) (c .before .before .before .before .before .before .before .before .before .before .before .before .before .before .before .before .before .loop-test .taken) (l .inv .0) (w .last .1 .1 .1 .1 .1 .1 .1 .1 .1 .1 .1 .1 .1 .1 .1 .1 .1 .1 .1 .1 .1 .1 .1 .1 .0) (w .last .1 .1 .1 .1 .1 .1 .1 .1 .1 .1 .1 .1 .1 .1 .1 .1 .1 .1 .1 .1 .1 .1 .1 .1 .1 .0) (w .result) (w .ensures .0) (c .if1 .taken) in
     (full .0, (full .1, w .ensures .1))
 
@@ -107,13 +107,13 @@ loop-again c =
     let w = c .before .before .before .before .before .before .before .before .before .before .before .before .before .turn in
     let n = c .next-met2 in
     let passed =
-    passed-more (board s) (now (a .effects)) (now (a .goals)) (a .goal) (a .nodes) (a .u) (now (a .table)) (now (a .scan)) (a .run)
-    (a .spot) (a .paid) (now (a .old)) (s .pre .1 .1 .1 .0 .2) (s .pre .1 .1 .0 .4)
+    passed-more (board s) (now (a .effects)) (now (a .goals)) (a .goal) (a .nodes) (a .u) (a .key) (now (a .table)) (now (a .scan)) (a .run)
+    (a .spot) (a .paid) (now (a .old)) (s .pre .1 .1 .1 .0 .1) (s .pre .1 .1 .0 .4)
     (l .table) (l .scan) (l .going) (l .a) (c .before .before .before .before .before .before .before .before .before .before .before .before .before .before .before .before .before .before .before .loop-test .taken) (l .inv .0) (w .last .1 .1 .1 .1 .1 .1 .1 .1 .1 .1 .1 .1 .1 .1 .1 .1 .1 .1 .1 .1 .1 .1 .1 .1 .0) (w .last .1 .1 .1 .1 .1 .1 .1 .1 .1 .1 .1 .1 .1 .1 .1 .1 .1 .1 .1 .1 .1 .1 .1 .1 .1 .0) (w .result) (w .ensures .0)
     (c .before .before .if1 .left) (w .kept .1 .1 .1 .1 .1 .1 .1 .1 .1 .1 .1 .1 .1 .1 .1 .1 .1 .1 .1 .1 .1 .1 .1 .1 .0) (w .kept .1 .1 .1 .1 .1 .1 .1 .1 .1 .1 .1 .1 .1 .1 .1 .1 .1 .1 .1 .1 .1 .1 .1 .1 .1 .0) in
     let skip =
-    passed-skip (board s) (now (a .effects)) (now (a .goals)) (a .goal) (a .nodes) (a .u) (now (a .table)) (now (a .scan)) (a .run)
-    (a .spot) (a .paid) (now (a .old)) (s .pre .1 .1 .1 .0 .2) (s .pre .1 .1 .0 .4) (w .last .1 .1 .1 .1 .1 .1 .1 .1 .1 .1 .1 .1 .1 .1 .1 .1 .1 .1 .1 .1 .1 .1 .1 .1 .0) (w .last .1 .1 .1 .1 .1 .1 .1 .1 .1 .1 .1 .1 .1 .1 .1 .1 .1 .1 .1 .1 .1 .1 .1 .1 .1 .0) (w .result .run) (now (a .mets)) (s .pre .1 .0 .4)
+    passed-skip (board s) (now (a .effects)) (now (a .goals)) (a .goal) (a .nodes) (a .u) (a .key) (now (a .table)) (now (a .scan)) (a .run)
+    (a .spot) (a .paid) (now (a .old)) (s .pre .1 .1 .1 .0 .1) (s .pre .1 .1 .0 .4) (w .last .1 .1 .1 .1 .1 .1 .1 .1 .1 .1 .1 .1 .1 .1 .1 .1 .1 .1 .1 .1 .1 .1 .1 .1 .0) (w .last .1 .1 .1 .1 .1 .1 .1 .1 .1 .1 .1 .1 .1 .1 .1 .1 .1 .1 .1 .1 .1 .1 .1 .1 .1 .0) (w .result .run) (now (a .mets)) (s .pre .1 .0 .4)
     (l .a + 1) (n .result) (n .ensures .0) (n .ensures .1) (n .ensures .2) passed in
     (skip, w .kept .1 .1 .1 .1 .1 .1 .1 .1 .1 .1 .1 .1 .1 .1 .1 .1 .1 .1 .1 .1 .1 .1 .1 .0 ∙ l .inv .1, w .ensures .1, w .kept .1 .1 .1 .1 .1 .1 .1 .1 .1 .1 .1 .1 .1 .1 .1 .1 .1 .1 .1 .1 .1 .1 .1 .1 .1 .1 .1 .0 ∙ l .inv .3, n .ensures .3)
 
@@ -138,7 +138,7 @@ returns-2 c =
     let s = c .before .before .before .before .before .before .before .before .before .before .before .before .before .before .before .before .before .before .before .before .before in
     let a = s .args in
     let all =
-    passed-all (board s) (now (a .effects)) (now (a .goals)) (a .goal) (a .nodes) (a .u) (now (a .table)) (now (a .scan)) (a .run)
+    passed-all (board s) (now (a .effects)) (now (a .goals)) (a .goal) (a .nodes) (a .u) (a .key) (now (a .table)) (now (a .scan)) (a .run)
     (l .table) (l .scan) (l .going) (l .a) (c .loop-test .left) (l .inv .0) in
     (all .0, (all .1, l .inv .2))
 

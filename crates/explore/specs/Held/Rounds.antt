@@ -3,7 +3,7 @@ use mathlib.Core.Path.{_≡_, refl, sym, ap, _∙_}
 use mathlib.Core.Logic.{_⊎_, inl, inr}
 use mathlib.Core.Bool.{Bool, true, false, cond, _&&_, and-false}
 use mathlib.Core.List.{List}
-use Prim.Native.Nat.{ℕ, zero, suc, _+_, _-_, _≤_, _<_}
+use Prim.Native.Nat.{ℕ, zero, suc, _+_, _-_, _≤_, _<_, min}
 use native.Mathlib.Omega.{arith}
 use native.Mathlib.Decide.{ℕ-discrete}
 use lib.Dec.{ltb, eqb}
@@ -290,7 +290,7 @@ module _ (t : Task) (ok : Valid t) (nodes : ℕ) (few : nodes ≤ 4096) (budget 
       not-spent = ne-eqb (searchOf S T O r .begun) budget (λ q. d (sym (begun-is S T O r) ∙ q))
 
       module _ (w : Turned) (T′ O′ : List ℕ)
-          (h : Base t nodes (searchOf S T P (begun r)) → Cached t S T P (begun r)
+          (h : Base t nodes (searchOf S T P (begun r)) → Cached t S T P (begun r) → getD O u 0 ≡ min (key t (nodeIn S T u)) mark
           → (expand t nodes u (t .actions) 0 (searchOf S T P (begun r)) ≡ expandedOf w (searchOf S T′ O′ (w .run)))
           × Cached t S T′ O′ (w .run)) where
         -- the expansion by the table is that of the round
@@ -298,7 +298,10 @@ module _ (t : Task) (ok : Valid t) (nodes : ℕ) (few : nodes ≤ 4096) (budget 
             × Cached t S T′ O′ (w .run)
         expands =
             let v : Base t nodes (searchOf S T P (begun r)) = rw begins (begin-base t nodes u (searchOf S T O r) (a .holds .base)) in
-            let (x, c) = h v (begin-cached S T O P r u (omega (arith, ahead-in)) keyed t (a .cached)) in
+            let waited = waiting t ok nodes few S T O r (a .holds .base) (a .cached) u waits-chosen in
+            let own : getD O u 0 ≡ min (key t (nodeIn S T u)) mark =
+            omega (arith, waited .1, waited .2, cap t ok nodes few S T O r (a .holds .base) (a .cached)) in
+            let (x, c) = h v (begin-cached S T O P r u (omega (arith, ahead-in)) keyed t (a .cached)) own in
             (ap (expand t nodes u (t .actions) 0) (sym begins) ∙ x, c)
 
         -- it found the table full

@@ -20,9 +20,9 @@ use Rattle.task.specs.Centre.{centreMeets, centreAfter}
 use Rattle.leaf.specs.Price.{mark}
 use Rattle.layer.specs.Layer.{nextPrices, appliesTo, nextCentre}
 use Rattle.layer.specs.Layer.Laws.{next-length}
-use Rattle.layer.specs.Layer.Front.{part-front, after-list}
-use Rattle.layer.specs.Board.{Board, rowOn, metOn, beginOn, settledOn}
-use Rattle.layer.specs.Board.Laws.{joined-ext, row-on, met-on}
+use Rattle.layer.specs.Layer.Front.{part-front, applies-front, after-list}
+use Rattle.layer.specs.Board.{Board, rowOn, metOn, beginOn, settledOn, appliesOn}
+use Rattle.layer.specs.Board.Laws.{joined-ext, row-on, met-on, applies-on}
 use Rattle.mets.specs.Mets.{Mets}
 use Rattle.search.specs.Node.{Node, nextNode, dominates, key, isGoal, goalCost}
 use Rattle.search.specs.Made.{Made, made-next}
@@ -135,15 +135,18 @@ module _ (b : Board) (goals goalPairs : List ℕ) (nodes : ℕ) (T O : List ℕ)
           unfolding offer
           said-kept k = rw (below ∙ lt-ltb _ _ h, sym dominated ∙ d, kept-length S T O r, lt-ltb (r .count) nodes k, offer)
 
-  -- what the code has found: the key, whether the node is dominated, and the scan words M with the node found as a recent word
-  module _ (opens : ℕ) (isKey : opens ≡ keyBy (b .leaves) (b .bases) paid P) where
+  -- what the code has found: what is lent as the key, whether the node is dominated, and the scan words M with the node found as a recent word
+  module _ (opens : ℕ) where
+    abbrev IsKey : Type 0
+    IsKey = opens ≡ keyBy (b .leaves) (b .bases) paid P
+
     -- the key is not below best: dropped
-    pub offered-above : r .«best_cost» ≤ opens → Offered b goals goalPairs nodes T O r spot paid P parent action T O (record { full = false; run = r })
+    pub offered-above : r .«best_cost» ≤ opens → Offered b goals goalPairs nodes T O r spot paid P parent action opens T O (record { full = false; run = r })
     offered-above h =
         record {
           went = went-same S nodes T O r false room;
-          offered = λ t scans v held m alike. record { said = said-above t scans v held m alike (omega arith); held = held };
-          dropped = λ t scans v held e. record { said = refl; held = held };
+          offered = λ t scans v held isKey m alike. record { said = said-above t scans v held m alike (omega arith); held = held };
+          dropped = λ t scans v held isKey e. record { said = refl; held = held };
         }
 
     module _ (h : opens < r .«best_cost») (found : Bool) (isFound : found ≡ beaten) (M : List ℕ) (recalled : Recalled O M) where
@@ -152,40 +155,41 @@ module _ (b : Board) (goals goalPairs : List ℕ) (nodes : ℕ) (T O : List ℕ)
       same-search = search-recalled S T O M r (omega arith) recalled
 
       -- a key below best is below the mark
-      unblocked : (t : Task) → Scans t (b .leaves) (b .bases) goals (b .factors) goalPairs → Base t nodes search → Cached t S T O r → mark ≤ key t early → ⊥
-      unblocked t scans v held e = omega (arith, its-key t scans v held, cap t scans v held)
+      unblocked : (t : Task) → Scans t (b .leaves) (b .bases) goals (b .factors) goalPairs → Base t nodes search → Cached t S T O r → IsKey
+          → mark ≤ key t early → ⊥
+      unblocked t scans v held isKey e = omega (arith, its-key t scans v held, cap t scans v held)
 
       -- a node kept dominates it: dropped
-      pub offered-dominated : found ≡ true → Offered b goals goalPairs nodes T O r spot paid P parent action T M (record { full = false; run = r })
+      pub offered-dominated : found ≡ true → Offered b goals goalPairs nodes T O r spot paid P parent action opens T M (record { full = false; run = r })
       offered-dominated d =
           record {
             went = went-recalled S nodes T O M r false few room recalled;
-            offered = λ t scans v held m alike.
+            offered = λ t scans v held isKey m alike.
                 record {
                   said = said-dominated t scans v held m alike (omega arith) (sym isFound ∙ d) ∙ ap on (sym same-search);
                   held = cached-recalled S T O M r (omega arith) recalled t held;
                 };
-            dropped = λ t scans v held e. absurd (unblocked t scans v held e);
+            dropped = λ t scans v held isKey e. absurd (unblocked t scans v held isKey e);
           }
 
       module _ (d : found ≡ false) where
         -- the table is full
-        pub offered-full : nodes ≤ r .count → Offered b goals goalPairs nodes T O r spot paid P parent action T M (record { full = true; run = r })
+        pub offered-full : nodes ≤ r .count → Offered b goals goalPairs nodes T O r spot paid P parent action opens T M (record { full = true; run = r })
         offered-full k =
             record {
               went = went-recalled S nodes T O M r true few room recalled;
-              offered = λ t scans v held m alike.
+              offered = λ t scans v held isKey m alike.
                   record {
                     said = said-full t scans v held m alike (omega arith) (sym isFound ∙ d) k;
                     held = cached-recalled S T O M r (omega arith) recalled t held;
                   };
-              dropped = λ t scans v held e. absurd (unblocked t scans v held e);
+              dropped = λ t scans v held isKey e. absurd (unblocked t scans v held isKey e);
             }
 
         -- it is settled and kept
         pub offered-kept : r .count < nodes → length O ≡ 36928 → (P′ : List ℕ) → P′ ≡ settledWords b spot P → (T′ O′ : List ℕ) (r′ : Run)
             → Kept S T M r (nodeWith spot paid (take S P′) parent action) opens (goalCostBy (b .leaves) (b .bases) goals (b .factors) goalPairs spot paid P′) T′ O′ r′
-            → Offered b goals goalPairs nodes T O r spot paid P parent action T′ O′ (record { full = false; run = r′ })
+            → Offered b goals goalPairs nodes T O r spot paid P parent action opens T′ O′ (record { full = false; run = r′ })
         offered-kept k long P′ isWords T′ O′ r′ given =
             record {
               went =
@@ -198,16 +202,16 @@ module _ (b : Board) (goals goalPairs : List ℕ) (nodes : ℕ) (T O : List ℕ)
                     scan-still = λ e. absurd (true≢false (sym e));
                     run-still = λ e. absurd (true≢false (sym e));
                   };
-              offered = λ t scans v held m alike. stands t scans v held m alike;
-              dropped = λ t scans v held e. absurd (unblocked t scans v held e);
+              offered = λ t scans v held isKey m alike. stands t scans v held isKey m alike;
+              dropped = λ t scans v held isKey e. absurd (unblocked t scans v held isKey e);
             }
           where
             kept : Kept S T O r node opens (goalCostBy (b .leaves) (b .bases) goals (b .factors) goalPairs spot paid (settledWords b spot P)) T′ O′ r′
             kept = kept-recalled S T O M r (omega arith) recalled node _ _ T′ O′ r′ (omega arith) (rw isWords at given)
 
-            stands : (t : Task) → Scans t (b .leaves) (b .bases) goals (b .factors) goalPairs → Base t nodes search → Cached t S T O r → Made t (r .count) node
-                → Alike t S T (r .count) early node → Stands t S T′ O′ (record { full = false; run = r′ }) (offer t nodes search node)
-            stands t scans v held m alike =
+            stands : (t : Task) → Scans t (b .leaves) (b .bases) goals (b .factors) goalPairs → Base t nodes search → Cached t S T O r → IsKey
+                → Made t (r .count) node → Alike t S T (r .count) early node → Stands t S T′ O′ (record { full = false; run = r′ }) (offer t nodes search node)
+            stands t scans v held isKey m alike =
                 let isCost = goal-is t (b .leaves) (b .bases) goals (b .factors) goalPairs scans (r .count) node (omega arith) m (settledWords b spot P) refl in
                 let cheap : isGoal t node ≡ true → goalCost t node < mark = λ g. omega (arith, made-goal t (scans .valid) (r .count) node (omega arith) m g) in
                 let top = cap t scans v held in
@@ -240,7 +244,7 @@ module _ (b : Board) (effects goals goalPairs : List ℕ) where
         goal-is = s .goal-is;
       }
 
-  module _ (nodes : ℕ) (spot : Centre) (paid : ℕ) (old : List ℕ) (u a : ℕ) (T O : List ℕ) (r : Run)
+  module _ (nodes : ℕ) (spot : Centre) (paid : ℕ) (old : List ℕ) (opens u a : ℕ) (T O : List ℕ) (r : Run)
       (few : nodes ≤ 4096) (room : r .count ≤ nodes) (known : a < b .actions) (inside : u < r .count) where
     -- the search before the turn
     abbrev here : Search
@@ -260,12 +264,12 @@ module _ (b : Board) (effects goals goalPairs : List ℕ) where
       met-here = rw (node-here, held .spot-is) (sym (met-on t b (suits .fits) spot a))
 
     -- the action is no centre action
-    pub moved-leaf : (getD (b .kinds) a 0 ≡ 0 → ⊥) → Moved b effects goals goalPairs nodes spot paid old u a T O r T O (record { full = false; run = r })
+    pub moved-leaf : (getD (b .kinds) a 0 ≡ 0 → ⊥) → Moved b effects goals goalPairs nodes spot paid old opens u a T O r T O (record { full = false; run = r })
     unfolding turn
     moved-leaf h =
         record {
           went = went-same (rowOn b) nodes T O r false room;
-          moved = λ t suits v held has.
+          moved = λ t suits v held has isKey.
               let no : centreAction t a ≡ false = sym (suits .fits .kinds-centre a (known-in t suits has)) ∙ ne-eqb _ _ h in
               record { said = rw (no, turn); held = held };
         }
@@ -276,19 +280,19 @@ module _ (b : Board) (effects goals goalPairs : List ℕ) where
       centred t suits has = sym (suits .fits .kinds-centre a (known-in t suits has)) ∙ eq-eqb _ _ k
 
       -- the node's key and the action's cost are not below best
-      pub moved-above : (low : ℕ) → low ≡ min (keyBy (b .leaves) (b .bases) paid old + getD (b .costs) a 0) mark → r .«best_cost» ≤ low
-          → Moved b effects goals goalPairs nodes spot paid old u a T O r T O (record { full = false; run = r })
+      pub moved-above : (low : ℕ) → low ≡ min (opens + getD (b .costs) a 0) mark → r .«best_cost» ≤ low
+          → Moved b effects goals goalPairs nodes spot paid old opens u a T O r T O (record { full = false; run = r })
       unfolding turn offer
       moved-above low isLow h =
           record {
             went = went-same (rowOn b) nodes T O r false room;
-            moved = λ t suits v held has. record { said = said t suits v held has _ refl; held = held };
+            moved = λ t suits v held has isKey. record { said = said t suits v held has isKey _ refl; held = held };
           }
         where
           said : (t : Task) (suits : Suits t b effects goals goalPairs) → Base t nodes here → Cached t (rowOn b) T O r
-              → (has : Has (nodeIn (rowOn b) T u) spot paid (take (rowOn b) old))
+              → (has : Has (nodeIn (rowOn b) T u) spot paid (take (rowOn b) old)) → opens ≡ keyBy (b .leaves) (b .bases) paid old
               → (c : Bool) → appliesTo t (nodeAt t here u .spot) (nodeAt t here u .prices) a ≡ c → turn t nodes u a here ≡ on here
-          said t suits v held has true e =
+          said t suits v held has isKey true e =
               let n : Node = nodeAt t here u in
               let made : Made t (r .count) (nextNode t u n a) =
               made-next t u (r .count) u n a inside (known-in t suits has) (centred t suits has) e (v .made u (omega (arith, kept-length (rowOn b) T O r))) in
@@ -301,16 +305,31 @@ module _ (b : Board) (effects goals goalPairs : List ℕ) where
               let below : belowBest t here (key t (nextNode t u n a)) ≡ false =
               below-is t nodes (rowOn b) T O r v held (key t (nextNode t u n a)) (omega arith) ∙ le-ltb _ _ above in
               rw (centred t suits has, e, turn, offer, below)
-          said t suits v held has false e = rw (centred t suits has, e, turn)
+          said t suits v held has isKey false e = rw (centred t suits has, e, turn)
+
+      -- in some leaf no state that is reached passes
+      pub moved-stuck : appliesOn b spot old a ≡ false → Moved b effects goals goalPairs nodes spot paid old opens u a T O r T O (record { full = false; run = r })
+      unfolding turn
+      moved-stuck h =
+          record {
+            went = went-same (rowOn b) nodes T O r false room;
+            moved = λ t suits v held has isKey. record { said = rw (centred t suits has, stuck t suits has, turn); held = held };
+          }
+        where
+          stuck : (t : Task) (suits : Suits t b effects goals goalPairs) (has : Has (nodeIn (rowOn b) T u) spot paid (take (rowOn b) old))
+              → appliesTo t (nodeAt t here u .spot) (nodeAt t here u .prices) a ≡ false
+          stuck t suits has =
+              rw (node-here t suits has, has .spot-is, has .prices-is, row-on t b (suits .fits))
+              (applies-front t old spot a ∙ sym (applies-on t b (suits .fits) spot old a (known-in t suits has)) ∙ h)
 
       module _ (able : Bool) (isAble : able ≡ metOn b spot a) where
         -- its centre conditions do not hold
-        pub moved-unmet : not able ≡ true → Moved b effects goals goalPairs nodes spot paid old u a T O r T O (record { full = false; run = r })
+        pub moved-unmet : not able ≡ true → Moved b effects goals goalPairs nodes spot paid old opens u a T O r T O (record { full = false; run = r })
         unfolding turn appliesTo
         moved-unmet h =
             record {
               went = went-same (rowOn b) nodes T O r false room;
-              moved = λ t suits v held has. record { said = rw (centred t suits has, met-here t suits has ∙ told-false isAble h, turn); held = held };
+              moved = λ t suits v held has isKey. record { said = rw (centred t suits has, met-here t suits has ∙ told-false isAble h, turn); held = held };
             }
 
         -- its centre conditions hold, and its layer's begin was offered
@@ -319,9 +338,10 @@ module _ (b : Board) (effects goals goalPairs : List ℕ) where
             (isBehind : behind ≡ centreAfter (λ v. getD (b .factors) v 0) (λ v. getD pairs v 0) spot)
             (isNext : next ≡ beginOn b a old ++ rest)
             (isCost : spent ≡ min (paid + getD (b .costs) a 0) mark)
-            (T′ O′ : List ℕ) (w : Turned) (o : Offered b goals goalPairs nodes T O r behind spent next u a T′ O′ w) where
+            (its : ℕ) (isIts : opens ≡ keyBy (b .leaves) (b .bases) paid old → its ≡ keyBy (b .leaves) (b .bases) spent next)
+            (T′ O′ : List ℕ) (w : Turned) (o : Offered b goals goalPairs nodes T O r behind spent next u a its T′ O′ w) where
           module _ (t : Task) (suits : Suits t b effects goals goalPairs) (v : Base t nodes here) (held : Cached t (rowOn b) T O r)
-              (has : Has (nodeIn (rowOn b) T u) spot paid (take (rowOn b) old)) where
+              (has : Has (nodeIn (rowOn b) T u) spot paid (take (rowOn b) old)) (isKey : opens ≡ keyBy (b .leaves) (b .bases) paid old) where
             -- node u
             abbrev n : Node
             n = nodeAt t here u
@@ -391,16 +411,16 @@ module _ (b : Board) (effects goals goalPairs : List ℕ) where
             stands true e =
                 let made : Made t (r .count) (nextNode t u n a) =
                 made-next t u (r .count) u n a inside (known-in t suits has) (centred t suits has) e (v .made u (omega (arith, kept-length (rowOn b) T O r))) in
-                let out = o .offered t (suits-scans t suits) v held (rw isNode made) (rw (isEarly, isNode) alike) in
+                let out = o .offered t (suits-scans t suits) v held (isIts isKey) (rw isNode made) (rw (isEarly, isNode) alike) in
                 record { said = rw (centred t suits has, e, turn, ← isNode) (out .said); held = out .held }
             stands false e =
                 let met : centreMeets (factor t) (condition t a) (n .spot) ≡ true = met-here t suits has ∙ told-true isAble h in
-                let out = o .dropped t (suits-scans t suits) v held (rw isEarly (blocked-begin t n a _ u a met e)) in
+                let out = o .dropped t (suits-scans t suits) v held (isIts isKey) (rw isEarly (blocked-begin t n a _ u a met e)) in
                 record { said = rw (centred t suits has, e, turn) (out .said); held = out .held }
 
           -- the turn came out as the search says
-          pub moved-offered : Moved b effects goals goalPairs nodes spot paid old u a T O r T′ O′ w
-          moved-offered = record { went = o .went; moved = λ t suits v held has. stands t suits v held has _ refl }
+          pub moved-offered : Moved b effects goals goalPairs nodes spot paid old opens u a T O r T′ O′ w
+          moved-offered = record { went = o .went; moved = λ t suits v held has isKey. stands t suits v held has isKey _ refl }
 
 -- ---- expand
 
@@ -435,11 +455,11 @@ pub record Left (t : Task) (nodes u S : ℕ) (T₀ O₀ : List ℕ) (r₀ : Run)
   pub held : Cached t S T O r
   pub node : nodeIn S T u ≡ nodeIn S T₀ u
 
-module _ (b : Board) (effects goals goalPairs : List ℕ) (nodes u : ℕ) (T₀ O₀ : List ℕ) (r₀ : Run) where
+module _ (b : Board) (effects goals goalPairs : List ℕ) (nodes u opens : ℕ) (T₀ O₀ : List ℕ) (r₀ : Run) where
   -- the same for every task whose tables these are
   abbrev pub Along : List ℕ → List ℕ → Run → ℕ → Type 0
   Along T O r a = (t : Task) → Suits t b effects goals goalPairs → Base t nodes (searchOf (rowOn b) T₀ O₀ r₀) → Cached t (rowOn b) T₀ O₀ r₀
-      → Left t nodes u (rowOn b) T₀ O₀ r₀ T O r a
+      → opens ≡ min (key t (nodeIn (rowOn b) T₀ u)) mark → Left t nodes u (rowOn b) T₀ O₀ r₀ T O r a
 
   -- where the loop stands before action a
   pub record Passed (T O : List ℕ) (r : Run) (a : ℕ) : Type 0 where
@@ -461,20 +481,28 @@ module _ (b : Board) (effects goals goalPairs : List ℕ) (nodes u : ℕ) (T₀ 
         scan-kept = refl;
         more = omega arith;
         begun-is = refl;
-        along = λ t suits v held. let z : t .actions - 0 ≡ t .actions = omega arith in record { whole = rw z; base = v; held = held; node = refl };
+        along = λ t suits v held isKey. let z : t .actions - 0 ≡ t .actions = omega arith in record { whole = rw z; base = v; held = held; node = refl };
       }
 
   -- the turn of action a, from there on
   module _ (spot : Centre) (paid : ℕ) (old : List ℕ) (has : Has (nodeIn (rowOn b) T₀ u) spot paid (take (rowOn b) old)) (within : u < r₀ .count)
       (T O : List ℕ) (r : Run) (a : ℕ) (known : a < b .actions) (l : Passed T O r a) (T′ O′ : List ℕ) (w : Turned)
-      (m : Moved b effects goals goalPairs nodes spot paid old u a T O r T′ O′ w) where
+      (m : Moved b effects goals goalPairs nodes spot paid old opens u a T O r T′ O′ w) where
     -- for a task: what is left before the turn, and what it gave
-    module _ (t : Task) (suits : Suits t b effects goals goalPairs) (v : Base t nodes (searchOf (rowOn b) T₀ O₀ r₀)) (held : Cached t (rowOn b) T₀ O₀ r₀) where
+    module _ (t : Task) (suits : Suits t b effects goals goalPairs) (v : Base t nodes (searchOf (rowOn b) T₀ O₀ r₀)) (held : Cached t (rowOn b) T₀ O₀ r₀)
+        (isKey : opens ≡ min (key t (nodeIn (rowOn b) T₀ u)) mark) where
       before : Left t nodes u (rowOn b) T₀ O₀ r₀ T O r a
-      before = l .along t suits v held
+      before = l .along t suits v held isKey
 
       gave : Stands t (rowOn b) T′ O′ w (turn t nodes u a (searchOf (rowOn b) T O r))
-      gave = m .moved t suits (before .base) (before .held) (rw (before .node) has)
+      gave = m .moved t suits (before .base) (before .held) (rw (before .node) has) own
+        where
+          -- the node's key by tables
+          own : opens ≡ keyBy (b .leaves) (b .bases) paid old
+          own =
+              isKey
+              ∙ sym (rw (← has .paid-is)
+              (key-any t (b .leaves) (b .bases) goals (b .factors) goalPairs (suits-scans b effects goals goalPairs t suits) (nodeIn (rowOn b) T₀ u) old (has .prices-is)))
 
       one : a < t .actions
       one = omega (arith, suits .fits .actions-is)
@@ -528,15 +556,15 @@ module _ (b : Board) (effects goals goalPairs : List ℕ) (nodes u : ℕ) (T₀ 
           scan-kept = q ∙ l .scan-kept;
           more = omega (arith, l .more, m .went .more);
           begun-is = m .went .begun-is ∙ l .begun-is;
-          along = λ t suits v held. behind t suits v held e;
+          along = λ t suits v held isKey. behind t suits v held isKey e;
         }
 
     -- the table was full at it
     pub passed-full : w .full ≡ true
-        → Grown b nodes r₀ T′ O′ w × Done b effects goals goalPairs nodes u T₀ O₀ r₀ T′ O′ w
+        → Grown b nodes r₀ T′ O′ w × Done b effects goals goalPairs nodes u opens T₀ O₀ r₀ T′ O′ w
     passed-full e = (
       (omega (arith, l .more, m .went .more), m .went .room, m .went .begun-is ∙ l .begun-is, m .went .chained (l .room .chained)),
-      λ t suits. rw (← row-on t b (suits .fits)) (λ v held. ended t suits v held e),
+      λ t suits. rw (← row-on t b (suits .fits)) (λ v held isKey. ended t suits v held isKey e),
     )
 
   -- actions whose centre conditions do not hold are passed by
@@ -551,9 +579,9 @@ module _ (b : Board) (effects goals goalPairs : List ℕ) (nodes u : ℕ) (T₀ 
         inside : u < r .count
         inside = omega (arith, l .more)
 
-        moved : Dec (getD (b .kinds) a 0 ≡ 0) → Moved b effects goals goalPairs nodes spot paid old u a T O r T O (record { full = false; run = r })
-        moved (yes k) = moved-unmet b effects goals goalPairs nodes spot paid old u a T O r few (l .room .count-few) known inside k false (sym e) refl
-        moved (no k) = moved-leaf b effects goals goalPairs nodes spot paid old u a T O r few (l .room .count-few) known inside k
+        moved : Dec (getD (b .kinds) a 0 ≡ 0) → Moved b effects goals goalPairs nodes spot paid old opens u a T O r T O (record { full = false; run = r })
+        moved (yes k) = moved-unmet b effects goals goalPairs nodes spot paid old opens u a T O r few (l .room .count-few) known inside k false (sym e) refl
+        moved (no k) = moved-leaf b effects goals goalPairs nodes spot paid old opens u a T O r few (l .room .count-few) known inside k
 
     module _ (flags : List ℕ) (mets : Mets b spot flags) where
       -- up to the next action whose flag is set
@@ -563,10 +591,10 @@ module _ (b : Board) (effects goals goalPairs : List ℕ) (nodes u : ℕ) (T₀ 
 
   -- behind the last action
   pub passed-all : (T O : List ℕ) (r : Run) (a : ℕ) → b .actions ≤ a → Passed T O r a
-      → Grown b nodes r₀ T O (record { full = false; run = r }) × Done b effects goals goalPairs nodes u T₀ O₀ r₀ T O (record { full = false; run = r })
+      → Grown b nodes r₀ T O (record { full = false; run = r }) × Done b effects goals goalPairs nodes u opens T₀ O₀ r₀ T O (record { full = false; run = r })
   passed-all T O r a end l = (
     (l .more, l .room .count-few, l .begun-is, l .room .chained),
-    λ t suits. rw (← row-on t b (suits .fits)) (λ v held. last t suits (l .along t suits v held)),
+    λ t suits. rw (← row-on t b (suits .fits)) (λ v held isKey. last t suits (l .along t suits v held isKey)),
   )
     where
       last : (t : Task) → Suits t b effects goals goalPairs → Left t nodes u (rowOn b) T₀ O₀ r₀ T O r a
