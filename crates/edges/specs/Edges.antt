@@ -4,6 +4,7 @@ pub mod Those
 pub mod Same
 pub mod Fill
 pub mod Leaf
+pub mod Still
 use mathlib.Core.Path.{_≡_}
 use mathlib.Core.Bool.{Bool, cond, not, _&&_}
 use mathlib.Core.List.{List, [], _∷_, _++_}
@@ -74,6 +75,10 @@ pub record Ways (moves : List ℕ) (row at : ℕ) (costs mets edges ends : List 
   pub ends-long : at + n < length ends
   pub ends-in : (x : ℕ) → x < n → (getD ends (at + x) 0 ≤ getD ends (at + x + 1) 0) × (getD ends (at + x + 1) 0 ≤ length edges)
   pub along : (x : ℕ) → x < n → Along moves row at costs mets (edgesAt edges ends (at + x)) x n
+
+-- the flags of the first k actions of a list are not set
+abbrev pub Unmet : List ℕ → List ℕ → ℕ → Type 0
+Unmet mets acts k = (j : ℕ) → j < k → getD mets (getD acts j 0) 0 ≡ 0
 
 -- one of m actions leads from x to y at cost w
 pub record Edge (m : ℕ) (cost : ℕ → ℕ) (to : ℕ → ℕ → ℕ) (x y w : ℕ) : Type 0 where

@@ -4,6 +4,7 @@ use leaf::add_price;
 use leaf::lowered;
 use task::Centre;
 ghost use mathlib.Core.Path.{_≡_};
+ghost use mathlib.Core.Bool.{false};
 ghost use mathlib.Core.List.{_++_};
 ghost use Prim.Native.Nat.{ℕ, _+_, _*_, _-_, _<_, _≤_, min};
 ghost use lib.ListN.{length, getD, set, drop};
@@ -14,7 +15,7 @@ ghost use Rattle.leaf.specs.Lent.{costBy};
 ghost use Rattle.layer.specs.Board.{Sound, settleOn, settledOn};
 ghost use Rattle.layer.specs.Lent.{Front, boardOf};
 ghost use Rattle.mets.specs.Mets.{Mets};
-ghost use Rattle.edges.specs.Edges.{those, edgeBy, EdgesTo, Edges, Wrote, gated, moveMet, Along, Ways, Meant};
+ghost use Rattle.edges.specs.Edges.{those, edgeBy, EdgesTo, Edges, Wrote, gated, moveMet, Along, Ways, Unmet, Meant};
 
 // Whether an action is a leaf action of the leaf behind i leaves and moves state s, counted over all leaves.
 fn is_edge(moves: &[u16], row: usize, kinds: &[u8], i: usize, s: usize, action: usize) -> bool
@@ -265,7 +266,21 @@ fn sweep(
     fell
 }
 
-// The prices of the leaf behind i leaves settle: every state is dirty at first, and sweeps go on as long as a price falls.
+// Whether the flag of one of these actions is set.
+fn some_met(mets: &[u8], acts: &[u8]) -> bool
+    requires { ⌜ 256 ≤ length (now mets) ⌝ }
+    ensures { λ r. ⌜ (r ≡ false → Unmet (now (mets .entry)) (now (acts .entry)) (length (now (acts .entry)))) ⌝ }
+{
+    for j in 0..acts.len() {
+        if mets[acts[j] as usize] != 0 {
+            return true;
+        }
+    }
+    false
+}
+
+// The prices of the leaf behind i leaves settle: every state is dirty at first, and sweeps go on as long as a price falls. Where no edge of the leaf
+// has its flag set, the prices are settled as they are.
 fn settle_leaf(
     leaves: usize,
     actions: usize,
@@ -291,6 +306,11 @@ fn settle_leaf(
 {
     let row = bases[leaves];
     let at = bases[i];
+    let from = ends[at];
+    let to = ends[bases[i + 1]];
+    if !some_met(mets, &edges[from..to]) {
+        return;
+    }
     let mut dirty = [1u8; 256];
     while sweep(prices, &mut dirty, moves, row, at, costs, mets, edges, ends) {}
 }

@@ -1,32 +1,35 @@
 -- `edges::settle_leaf` meets its contract. The invariant: for any actions that lead where the leaf's edges do, no price is above its start price,
 -- each is what a walk costs, and no action leads from a clean state to one at less than its price. The enabled actions are such actions. The sum of
--- the prices falls with each turn. Assumes nothing.
+-- the prices falls with each turn. Where no edge has its flag set, the enabled actions lead nowhere. Assumes nothing.
 use mathlib.Core.Path.{_≡_, refl, _∙_}
 use mathlib.Core.List.{List}
-use Prim.Native.Nat.{ℕ}
+use Prim.Native.Nat.{ℕ, _+_, _≤_, _<_}
+use native.Mathlib.Nat.{le-trans}
 use native.Mathlib.Omega.{arith}
-use lib.ListN.{length}
+use lib.ListN.{length, getD}
 use borrow.Author.Needs.{needs}
+use borrow.Author.Tests.{not-true}
 use Rattle.leaf.specs.Price.{mark}
 use Rattle.leaf.specs.Settle.Turns.{at-most}
 use Rattle.leaf.specs.Settle.Sweeps.{total, Sweeping, sweeping-start, sweeping-end}
 use Rattle.leaf.specs.Lent.{costBy, moveBy}
 use Rattle.layer.specs.Board.{Board, rowOn, baseOn, enabledOn}
-use Rattle.layer.specs.Board.Turns.{leaf-settled}
+use Rattle.layer.specs.Board.Turns.{base-in, leaf-settled}
 use Rattle.layer.specs.Lent.{boardOf}
 use Rattle.edges.specs.Edges.{Meant}
 use Rattle.edges.specs.Edges.Leaf.{leaf-ways, leaf-meant}
+use Rattle.edges.specs.Edges.Still.{leaf-part, leaf-unmet, still-settled}
 use Rattle.edges.proofs.settle_leaf.Statement.{statement}
 use Rattle.edges.proofs.settle_leaf.Tie as tie
 
 abbrev Inv-loop : tie.InvT-loop
-Inv-loop leaves actions bases moves costs kinds conditions mets edges ends i prices₀ row at dirty₀ prices dirty =
+Inv-loop leaves actions bases moves costs kinds conditions mets edges ends i prices₀ row at from to dirty₀ prices dirty =
     (length prices ≡ length prices₀) × (length dirty ≡ 256)
     × ((m : ℕ) (cost : ℕ → ℕ) (to : ℕ → ℕ → ℕ) → Meant moves row at costs mets edges ends (length prices₀) m cost to
     → Sweeping mark (length prices₀) m cost to prices₀ prices dirty)
 
 abbrev μ-loop : tie.MeasureT-loop
-μ-loop leaves actions bases moves costs kinds conditions mets edges ends i prices₀ row at dirty₀ prices dirty = total prices
+μ-loop leaves actions bases moves costs kinds conditions mets edges ends i prices₀ row at from to dirty₀ prices dirty = total prices
 
 mul-row : tie.Need-mul-row Inv-loop μ-loop
 mul-row c = search needs
@@ -40,9 +43,15 @@ mul-at c = search needs
 shared-slice-read-at : tie.Need-shared-slice-read-at Inv-loop μ-loop
 shared-slice-read-at c = search needs
 
--- where the function starts, the Board that is lent, and the enabled actions of the leaf
-abbrev start : tie.At-loop Inv-loop μ-loop → tie.Start Inv-loop μ-loop
-start t = t .before .before .before .before .before .before .before .before .before .before .before .before
+-- where the function starts, from where its slices are known and from the first turn; the Board that is lent; the enabled actions of the leaf
+abbrev entry : tie.After-slice-known Inv-loop μ-loop → tie.Start Inv-loop μ-loop
+entry t = t .before .before .before .before .before .before .before .before .before
+
+abbrev known : tie.After-shared-slice-known13 Inv-loop μ-loop → tie.After-slice-known Inv-loop μ-loop
+known t = t .before .before .before .before .before
+
+abbrev opened : tie.At-loop Inv-loop μ-loop → tie.After-slice-known Inv-loop μ-loop
+opened t = known (t .before .before .before .before)
 
 abbrev board : tie.Start Inv-loop μ-loop → Board
 board s =
@@ -62,15 +71,76 @@ meant s =
     let a = s .args in
     rw (s .pre .4) (leaf-meant (board s) (s .pre .0) (a .edges .now) (a .ends .now) (s .pre .2) (a .i) (s .pre .3) (a .centre) (a .mets .now) (s .pre .1))
 
+-- the leaf's edges lie within the table
+part : (s : tie.Start Inv-loop μ-loop) →
+    let a = s .args in
+    let b = board s in
+    (baseOn b (a .i + 1) < length (a .ends .now)) × (getD (a .ends .now) (baseOn b (a .i)) 0 ≤ getD (a .ends .now) (baseOn b (a .i + 1)) 0)
+    × (getD (a .ends .now) (baseOn b (a .i + 1)) 0 ≤ length (a .edges .now))
+part s = leaf-part (board s) (s .pre .0) (s .args .edges .now) (s .args .ends .now) (s .pre .2) (s .args .i) (s .pre .3)
+
+-- the leaf's states begin and end among the few states that there are
+early : (s : tie.Start Inv-loop μ-loop) →
+    let b = board s in
+    (baseOn b (s .args .i) ≤ baseOn b (s .args .i + 1)) × (baseOn b (s .args .i + 1) ≤ 1024)
+early s =
+    let sound = s .pre .0 in
+    (sound .bases-rise (s .args .i) (s .pre .3), le-trans (base-in (board s) sound (s .args .i) (s .pre .3)) (sound .few-all))
+
+mul-from : tie.Need-mul-from Inv-loop μ-loop
+mul-from c = omega (arith, early (entry (c .before .before)))
+
+shared-slice-read-from : tie.Need-shared-slice-read-from Inv-loop μ-loop
+shared-slice-read-from c = let s = entry (c .before .before .before) in omega (arith, part s .0, early s)
+
+add-to : tie.Need-add-to Inv-loop μ-loop
+add-to c = search needs
+
+mul-to : tie.Need-mul-to Inv-loop μ-loop
+mul-to c = search needs
+
+shared-slice-read-to : tie.Need-shared-slice-read-to Inv-loop μ-loop
+shared-slice-read-to c = search needs
+
+mul-to-2 : tie.Need-mul-to-2 Inv-loop μ-loop
+mul-to-2 c = omega (arith, early (entry (c .before .before .before .before)))
+
+shared-slice-read-to-2 : tie.Need-shared-slice-read-to-2 Inv-loop μ-loop
+shared-slice-read-to-2 c = part (entry (known c)) .0
+
+sub-some-met : tie.Need-sub-some-met Inv-loop μ-loop
+sub-some-met c = part (entry (known c)) .1
+
+part-some-met-start : tie.Need-part-some-met-start Inv-loop μ-loop
+part-some-met-start c = part (entry (known c)) .1
+
+part-some-met-end : tie.Need-part-some-met-end Inv-loop μ-loop
+part-some-met-end c = part (entry (known c)) .2
+
+some-met-requires : tie.Need-some-met-requires Inv-loop μ-loop
+some-met-requires c κs = omega (arith, entry (known (c .before)) .pre .1 .long)
+
+returns : tie.Need-returns Inv-loop μ-loop
+returns c =
+    let t = known (c .before .before .before) in
+    let s = entry t in
+    let a = s .args in
+    let P = a .prices .now in
+    let none = c .before .some-met .ensures (not-true _ (c .if1 .taken)) in
+    let unmet = leaf-unmet (board s) (s .pre .0) (a .edges .now) (a .ends .now) (s .pre .2) (a .i) (s .pre .3) (a .mets .now) none in
+    let still = still-settled mark _ _ _ _ _ _ _ _ _ _ _ P (meant s) (rw (s .pre .4) unmet) refl
+    (at-most mark P (λ i. omega (arith, t .slice-known .given i))) in
+    still ∙ leaf-settled (board s) (a .i) (a .centre) (acts s) _ refl refl P
+
 loop-holds : tie.Need-loop-holds Inv-loop μ-loop
 loop-holds c =
-    let known = c .before .before in
-    let s = known .before .before .before .before .before .before .before .before .before in
+    let t = known (c .before .before .before) in
+    let s = entry t in
     let P = s .args .prices .now in (
       refl,
       refl,
       λ m cost to _. sweeping-start mark _ _ _ _ P 256 refl (omega (arith, s .pre .4, s .pre .0 .few-states (s .args .i) (s .pre .3)))
-          (at-most mark P (λ i. omega (arith, known .slice-known .given i))),
+          (at-most mark P (λ i. omega (arith, t .slice-known .given i))),
     )
 
 slice-aggregate-sweep : tie.Need-slice-aggregate-sweep Inv-loop μ-loop
@@ -79,7 +149,7 @@ slice-aggregate-sweep c = omega (arith, c .before .before .loop .inv .1)
 sweep-requires : tie.Need-sweep-requires Inv-loop μ-loop
 sweep-requires c κs =
     let l = c .before .before .loop in
-    let s = start (c .before .before) in
+    let s = entry (opened (c .before .before)) in
     let a = s .args in
     let ways = leaf-ways (board s) (s .pre .0) (a .edges .now) (a .ends .now) (s .pre .2) (a .i) (s .pre .3) (a .mets .now) (s .pre .1 .long) in
     (omega (arith, l .inv .0, l .inv .1, s .pre .4, s .pre .0 .few-states (a .i) (s .pre .3)), rw (l .inv .0, s .pre .4) ways)
@@ -88,7 +158,7 @@ loop-less : tie.Need-loop-less Inv-loop μ-loop
 loop-less c =
     let called = c .before .before .before .before in
     let t = called .before .before .before in
-    (rw (t .loop .inv .0) at (called .sweep .ensures)) _ _ _ (meant (start t)) .falls (c .if1 .taken)
+    (rw (t .loop .inv .0) at (called .sweep .ensures)) _ _ _ (meant (entry (opened t))) .falls (c .if2 .taken)
 
 loop-again : tie.Need-loop-again Inv-loop μ-loop
 loop-again c =
@@ -105,12 +175,12 @@ same-length c =
     let called = c .before .before .before .before in
     called .sweep .kept .0 ∙ called .before .before .before .loop .inv .0
 
-returns : tie.Need-returns Inv-loop μ-loop
-returns c =
+returns-2 : tie.Need-returns-2 Inv-loop μ-loop
+returns-2 c =
     let called = c .before .before .before .before in
     let t = called .before .before .before in
-    let known = t .before .before .before in
-    let s = start t in
+    let k = opened t in
+    let s = entry k in
     let P = s .args .prices .now in
     let told = rw (t .loop .inv .0) at (called .sweep .ensures) in
     let end = sweeping-end
@@ -126,10 +196,10 @@ returns c =
     _
     _
     refl
-    (at-most mark P (λ i. omega (arith, known .slice-known .given i)))
+    (at-most mark P (λ i. omega (arith, k .slice-known .given i)))
     (t .loop .inv .2 _ _ _ (meant s))
     (told _ _ _ (meant s))
-    (c .if1 .left) in
+    (c .if2 .left) in
     end ∙ leaf-settled (board s) (s .args .i) (s .args .centre) (acts s) _ refl refl P
 
 pub settle-leaf-spec : {M : Type 1} → statement M
@@ -142,10 +212,22 @@ settle-leaf-spec =
     shared-slice-read-row
     mul-at
     shared-slice-read-at
+    mul-from
+    shared-slice-read-from
+    add-to
+    mul-to
+    shared-slice-read-to
+    mul-to-2
+    shared-slice-read-to-2
+    sub-some-met
+    part-some-met-start
+    part-some-met-end
+    some-met-requires
+    returns
     loop-holds
     slice-aggregate-sweep
     sweep-requires
     loop-less
     loop-again
     same-length
-    returns)
+    returns-2)
