@@ -1,8 +1,8 @@
 // The exploration over the lent table.
+use begins::begin_of;
+use begins::is_stuck;
+use begins::still_actions;
 use edges::fill_edges;
-use edges::settle_edges;
-use layer::applies;
-use layer::begin_layer;
 use layer::first_conditions;
 use layer::first_layer;
 use layer::pairs_of;
@@ -13,26 +13,24 @@ use mets::next_met;
 use nodes::choose;
 use nodes::class_of;
 use nodes::fresh;
-use nodes::goal_cost;
-use nodes::is_dominated;
 use nodes::key_of;
-use nodes::link;
 use nodes::read_spot;
 use nodes::retire;
-use nodes::sign_of;
-use nodes::write_row;
+use offers::Run;
+use offers::Turned;
+use offers::keep;
+use offers::offer;
 use task::Centre;
 use task::Task;
 use words::copy_words;
 ghost use mathlib.Core.Path.{_≡_};
 ghost use mathlib.Core.Bool.{true, false};
-ghost use mathlib.Core.List.{_++_};
 ghost use Prim.Native.Nat.{ℕ, _+_, _*_, _≤_, _<_};
-ghost use lib.ListN.{length, getD, take, drop};
+ghost use lib.ListN.{length, getD, take};
 ghost use Rattle.task.specs.declared.Task.{Task};
 ghost use Rattle.task.specs.Factors.{allStates};
 ghost use Rattle.task.specs.Valid.{Valid};
-ghost use Rattle.layer.specs.Board.{Sound, metOn, beginOn, settledOn, appliesOn};
+ghost use Rattle.layer.specs.Board.{Sound, metOn};
 ghost use Rattle.layer.specs.First.{Firsts};
 ghost use Rattle.layer.specs.Lent.{boardOf};
 ghost use Rattle.mets.specs.Mets.{Mets};
@@ -41,31 +39,11 @@ ghost use Rattle.edges.specs.Edges.{Edges};
 ghost use Rattle.tables.specs.Tables.{Tabled, Goals};
 ghost use Rattle.search.specs.Explore.{start, explored};
 ghost use Rattle.nodes.specs.Chain.{Chained, signOf};
-ghost use Rattle.nodes.specs.Row.{nodeIn, nodeWith};
-ghost use Rattle.nodes.specs.Scan.{Cut, keyBy, goalCostBy};
-ghost use Rattle.explore.specs.Held.{searchOf, Cached, Suits, Room, Has, stoppedOf, Kept, Offered, Moved, Grown, Done};
+ghost use Rattle.nodes.specs.Row.{nodeIn};
+ghost use Rattle.explore.specs.Held.{Suits, stoppedOf, Moved, Grown, Done};
+ghost use Rattle.offers.specs.Held.{searchOf, Cached, Room, Has};
 ghost use Rattle.explore.specs.Held.Rounds.{Ahead, Rounded};
-ghost use Rattle.explore.specs.Still.{Stays, Still};
-
-// The search beside its table: nodes kept, expansions begun, one more than best's node (0 for none), best's goal cost (the mark for none).
-pub struct Run {
-    pub count: usize,
-    pub begun: u32,
-    pub best: usize,
-    pub best_cost: u64,
-}
-
-// Whether the table was full, and the search to go on with.
-pub struct Turned {
-    pub full: bool,
-    pub run: Run,
-}
-
-// The key and the signature of a layer's begin.
-pub struct Begun {
-    pub key: u64,
-    pub sign: u64,
-}
+ghost use Rattle.begins.specs.Still.{Still};
 
 // Why a search stops.
 pub enum Why {
@@ -83,357 +61,6 @@ pub struct Stop {
 pub enum Round {
     Stops(Stop),
     Goes(Run),
-}
-
-// Whether an action whose moves of a leaf begin at `at` leaves each of the leaf's states as it is.
-fn is_still_leaf(moves: &[u16], at: usize, states: usize) -> bool
-    requires { ⌜ at + states ≤ length (now moves) ⌝ }
-    ensures { λ r. ⌜ (r ≡ true → (x : ℕ) → x < states → getD (now (moves .entry)) (at + x) 0 ≡ x + 1) ⌝ }
-{
-    for x in 0..states {
-        if moves[at + x] as usize != x + 1 {
-            return false;
-        }
-    }
-    true
-}
-
-// 1 if an action whose moves begin at `from` leaves each state of each leaf as it is, else 0.
-fn is_still(leaves: usize, bases: &[usize], moves: &[u16], from: usize) -> u8
-    requires { ⌜ Cut leaves (now bases) (length (now moves)) × (from + getD (now bases) leaves 0 ≤ length (now moves)) ⌝ }
-    ensures { λ r. ⌜ ((r ≡ 0 → ⊥) → Stays leaves (now (bases .entry)) (now (moves .entry)) from) ⌝ }
-{
-    for i in 0..leaves {
-        let at = bases[i];
-        let to = bases[i + 1];
-        if !is_still_leaf(moves, from + at, to - at) {
-            return 0;
-        }
-    }
-    1
-}
-
-// The actions that leave each state of each leaf as it is: 1 for those, 0 for the others.
-fn still_actions(leaves: usize, actions: usize, bases: &[usize], moves: &[u16]) -> [u8; 256]
-    requires { ⌜ Cut leaves (now bases) 1024 × (actions ≤ 255) × (actions * getD (now bases) leaves 0 ≤ length (now moves)) ⌝ }
-    ensures { λ r. ⌜ Still leaves actions (now (bases .entry)) (now (moves .entry)) r ⌝ }
-{
-    let row = bases[leaves];
-    let mut still = [0u8; 256];
-    for a in 0..actions {
-        let stays = is_still(leaves, bases, moves, a * row);
-        still[a] = stays;
-    }
-    still
-}
-
-// A node under the next number: its row, its scan words (key, signature, links), and the new best.
-fn keep(
-    leaves: usize,
-    bases: &[usize],
-    goals: &[u16],
-    factors: [u8; 32],
-    goal: [u8; 32],
-    spot: Centre,
-    paid: u64,
-    parent: usize,
-    action: usize,
-    key: u64,
-    prices: &[u64],
-    table: &mut [u64],
-    scan: &mut [u64],
-    run: Run,
-) -> Run
-    requires { ⌜ Cut leaves (now bases) (length (now prices)) × Cut leaves (now bases) (length (now goals)) ⌝ }
-    requires { ⌜ (getD (now bases) leaves 0 ≤ 1024) × (run .count < 4096) × ((run .count + 1) * (40 + getD (now bases) leaves 0) ≤ length (now table))
-        × (length (now scan) ≡ 36928) ⌝ }
-    ensures { λ r. ⌜ Kept (getD (now (bases .entry)) leaves 0) (now (table .entry)) (now (scan .entry)) run
-        (nodeWith spot paid (take (getD (now (bases .entry)) leaves 0) (now (prices .entry))) parent action) key
-        (goalCostBy leaves (now (bases .entry)) (now (goals .entry)) factors goal spot paid (now (prices .entry)))
-        (now (table .exit)) (now (scan .exit)) r ⌝ }
-{
-    let states = bases[leaves];
-    let count = run.count;
-    let wide = 40 + states;
-    let at = count * wide;
-    let end = at + wide;
-    write_row(
-        &mut table[at..end],
-        states,
-        spot,
-        paid,
-        parent,
-        action,
-        prices,
-    );
-    let sign = sign_of(&prices[..states]);
-    let class = class_of(spot);
-    link(scan, count, key, sign, class);
-    let cost = goal_cost(leaves, bases, goals, factors, goal, spot, paid, prices);
-    if cost < run.best_cost {
-        return Run {
-            count: count + 1,
-            begun: run.begun,
-            best: count + 1,
-            best_cost: cost,
-        };
-    }
-    Run {
-        count: count + 1,
-        begun: run.begun,
-        best: run.best,
-        best_cost: run.best_cost,
-    }
-}
-
-// Whether an action, whose centre conditions hold, moves leaf states and is stuck: in some leaf no state that is reached passes.
-fn is_stuck(
-    leaves: usize,
-    actions: usize,
-    bases: &[usize],
-    moves: &[u16],
-    costs: &[u16],
-    kinds: &[u8],
-    factors: [u8; 32],
-    conditions: &[u8],
-    still: &[u8],
-    spot: Centre,
-    old: &[u64],
-    a: usize,
-) -> bool
-    requires { ⌜ Sound (boardOf leaves actions (now bases) (now moves) (now costs) (now kinds) factors (now conditions)) ⌝ }
-    requires { ⌜ (length (now still) ≡ 256) × (a < actions) × (getD (now bases) leaves 0 ≤ length (now old)) ⌝ }
-    ensures { λ r. ⌜ (r ≡ true → appliesOn (boardOf leaves actions (now (bases .entry)) (now (moves .entry)) (now (costs .entry)) (now (kinds .entry)) factors
-        (now (conditions .entry))) spot (now (old .entry)) a ≡ false) ⌝ }
-{
-    if still[a] != 0 {
-        return false;
-    }
-    !applies(
-        leaves,
-        actions,
-        bases,
-        moves,
-        costs,
-        kinds,
-        factors,
-        conditions,
-        spot,
-        old,
-        a,
-    )
-}
-
-// A layer's begin settles; `spot` is its centre state, of this class. `flags` is room to work in.
-fn settle_begin(
-    leaves: usize,
-    actions: usize,
-    bases: &[usize],
-    moves: &[u16],
-    costs: &[u16],
-    kinds: &[u8],
-    factors: [u8; 32],
-    conditions: &[u8],
-    firsts: &[u8],
-    edges: &[u8],
-    ends: &[usize],
-    spot: Centre,
-    class: usize,
-    begin: &mut [u64],
-    known: &mut [u8],
-    flags: &mut [u8],
-)
-    requires { ⌜ Sound (boardOf leaves actions (now bases) (now moves) (now costs) (now kinds) factors (now conditions)) ⌝ }
-    requires { ⌜ Firsts (boardOf leaves actions (now bases) (now moves) (now costs) (now kinds) factors (now conditions)) (now firsts)
-        × Edges (boardOf leaves actions (now bases) (now moves) (now costs) (now kinds) factors (now conditions)) (now edges) (now ends)
-        × Known (boardOf leaves actions (now bases) (now moves) (now costs) (now kinds) factors (now conditions)) (now known)
-        × (class < 4096) × (length (now flags) ≡ 256) × (getD (now bases) leaves 0 ≤ length (now begin)) ⌝ }
-    ensures { λ _. ⌜ (now (begin .exit) ≡ settledOn (boardOf leaves actions (now (bases .entry)) (now (moves .entry)) (now (costs .entry)) (now (kinds .entry)) factors
-        (now (conditions .entry))) spot (now (begin .entry)) ++ drop (getD (now (bases .entry)) leaves 0) (now (begin .entry)))
-        × Known (boardOf leaves actions (now (bases .entry)) (now (moves .entry)) (now (costs .entry)) (now (kinds .entry)) factors
-        (now (conditions .entry))) (now (known .exit)) ⌝ }
-{
-    mets_of(
-        actions,
-        firsts,
-        factors,
-        conditions,
-        spot,
-        class,
-        known,
-        flags,
-    );
-    settle_edges(
-        leaves,
-        actions,
-        bases,
-        moves,
-        costs,
-        kinds,
-        factors,
-        conditions,
-        &flags[..],
-        edges,
-        ends,
-        spot,
-        begin,
-    );
-}
-
-// A successor of node `parent` by `action`, from its layer's begin: dropped, refused for a full table, or settled and kept under the next number.
-fn offer(
-    leaves: usize,
-    actions: usize,
-    bases: &[usize],
-    moves: &[u16],
-    costs: &[u16],
-    kinds: &[u8],
-    factors: [u8; 32],
-    conditions: &[u8],
-    firsts: &[u8],
-    edges: &[u8],
-    ends: &[usize],
-    goals: &[u16],
-    goal: [u8; 32],
-    nodes: usize,
-    spot: Centre,
-    paid: u64,
-    parent: usize,
-    action: usize,
-    key: u64,
-    sign: u64,
-    begin: &mut [u64],
-    table: &mut [u64],
-    scan: &mut [u64],
-    known: &mut [u8],
-    flags: &mut [u8],
-    run: Run,
-) -> Turned
-    requires { ⌜ Sound (boardOf leaves actions (now bases) (now moves) (now costs) (now kinds) factors (now conditions)) ⌝ }
-    requires { ⌜ Firsts (boardOf leaves actions (now bases) (now moves) (now costs) (now kinds) factors (now conditions)) (now firsts)
-        × Edges (boardOf leaves actions (now bases) (now moves) (now costs) (now kinds) factors (now conditions)) (now edges) (now ends)
-        × Known (boardOf leaves actions (now bases) (now moves) (now costs) (now kinds) factors (now conditions)) (now known)
-        × (length (now flags) ≡ 256) ⌝ }
-    requires { ⌜ Cut leaves (now bases) (length (now begin)) × Cut leaves (now bases) (length (now goals)) ⌝ }
-    requires { ⌜ sign ≡ signOf (take (getD (now bases) leaves 0) (now begin)) ⌝ }
-    requires { ⌜ Room (getD (now bases) leaves 0) nodes (now table) (now scan) run ⌝ }
-    ensures offered { λ r. ⌜ Offered (boardOf leaves actions (now (bases .entry)) (now (moves .entry)) (now (costs .entry)) (now (kinds .entry)) factors
-        (now (conditions .entry))) (now (goals .entry)) goal nodes (now (table .entry)) (now (scan .entry)) run spot paid (now (begin .entry)) parent action key
-        (now (table .exit)) (now (scan .exit)) r ⌝ }
-    ensures known { λ _. ⌜ Known (boardOf leaves actions (now (bases .entry)) (now (moves .entry)) (now (costs .entry)) (now (kinds .entry)) factors
-        (now (conditions .entry))) (now (known .exit)) ⌝ }
-{
-    let states = bases[leaves];
-    let count = run.count;
-    if key >= run.best_cost {
-        return Turned { full: false, run };
-    }
-    let class = class_of(spot);
-    if is_dominated(
-        table,
-        states,
-        count,
-        scan,
-        class,
-        sign,
-        spot,
-        paid,
-        &begin[..],
-    ) {
-        return Turned { full: false, run };
-    }
-    if count >= nodes {
-        return Turned { full: true, run };
-    }
-    settle_begin(
-        leaves,
-        actions,
-        bases,
-        moves,
-        costs,
-        kinds,
-        factors,
-        conditions,
-        firsts,
-        edges,
-        ends,
-        spot,
-        class,
-        begin,
-        known,
-        flags,
-    );
-    let more = keep(
-        leaves,
-        bases,
-        goals,
-        factors,
-        goal,
-        spot,
-        paid,
-        parent,
-        action,
-        key,
-        &begin[..],
-        table,
-        scan,
-        run,
-    );
-    Turned {
-        full: false,
-        run: more,
-    }
-}
-
-// The begin of the layer behind centre action a, at the front of `next`, with its key and signature. Where the action moves no leaf state it is the
-// old layer; `low` is the key that this would have, `sign` its signature.
-fn begin_of(
-    leaves: usize,
-    actions: usize,
-    bases: &[usize],
-    moves: &[u16],
-    costs: &[u16],
-    kinds: &[u8],
-    factors: [u8; 32],
-    conditions: &[u8],
-    still: &[u8],
-    a: usize,
-    old: &[u64],
-    low: u64,
-    sign: u64,
-    spent: u64,
-    next: &mut [u64],
-) -> Begun
-    requires { ⌜ Sound (boardOf leaves actions (now bases) (now moves) (now costs) (now kinds) factors (now conditions)) ⌝ }
-    requires { ⌜ Still leaves actions (now bases) (now moves) (now still) ⌝ }
-    requires { ⌜ (a < actions) × (getD (now bases) leaves 0 ≤ length (now old)) × (getD (now bases) leaves 0 ≤ length (now next)) ⌝ }
-    requires { ⌜ sign ≡ signOf (take (getD (now bases) leaves 0) (now old)) ⌝ }
-    ensures { λ r. ⌜ (now (next .exit) ≡ beginOn (boardOf leaves actions (now (bases .entry)) (now (moves .entry)) (now (costs .entry)) (now (kinds .entry))
-        factors (now (conditions .entry))) a (now (old .entry)) ++ drop (getD (now (bases .entry)) leaves 0) (now (next .entry)))
-        × (low ≡ keyBy leaves (now (bases .entry)) spent (now (old .entry)) → r .key ≡ keyBy leaves (now (bases .entry)) spent (now (next .exit)))
-        × (r .sign ≡ signOf (take (getD (now (bases .entry)) leaves 0) (now (next .exit)))) ⌝ }
-{
-    let states = bases[leaves];
-    if still[a] != 0 {
-        copy_words(old, next, states);
-        return Begun { key: low, sign };
-    }
-    begin_layer(
-        leaves,
-        actions,
-        bases,
-        moves,
-        costs,
-        kinds,
-        factors,
-        conditions,
-        a,
-        old,
-        next,
-    );
-    let key = key_of(leaves, bases, spent, &next[..]);
-    let made = sign_of(&next[..states]);
-    Begun { key, sign: made }
 }
 
 // Action a, whose centre conditions hold, at node u, whose parts, key and signature are given: a centre action has its layer's begin offered. No leaf's

@@ -1,9 +1,9 @@
 // The planner: a plan of least cost, "unsolvable", or one numbered refusal.
-use explore::Run;
 use explore::Stop;
 use explore::Why;
 use explore::explore;
 use fields::Refusal;
+use offers::Run;
 use plans::write_plan;
 use record::read_record;
 use tables::action_costs;

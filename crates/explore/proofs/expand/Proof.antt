@@ -1,20 +1,16 @@
 -- `explore::expand` meets its contract: the node's parts are read, with the flags of its centre state, and all actions have their turns. Assumes nothing.
 use mathlib.Core.Path.{_≡_, ap, _∙_}
-use mathlib.Core.List.{List}
-use Prim.Native.Nat.{ℕ, _+_, _*_, _≤_, _<_}
+use Prim.Native.Nat.{_+_, _*_, _≤_, _<_}
 use native.Mathlib.Omega.{arith}
 use denote.Ref.{now}
-use lib.ListN.{length, getD, take, length-take, length-drop}
-use Rattle.task.specs.declared.Centre.{Centre}
+use lib.ListN.{length, length-take, length-drop}
 use Rattle.layer.specs.Board.{Board, rowOn}
 use Rattle.layer.specs.Lent.{boardOf}
 use Rattle.mets.specs.Known.{firsts-asks, known-asks, asks-known, asks-mets}
 use Rattle.nodes.specs.Chain.{signOf}
 use Rattle.nodes.specs.Chain.Laws.{class-lt}
-use Rattle.nodes.specs.Row.{nodeIn}
 use Rattle.nodes.specs.Row.Laws.{row-in}
-use Rattle.explore.specs.Held.{Has}
-use Rattle.explore.specs.Held.Laws.{row-has, cut}
+use Rattle.offers.specs.Held.Laws.{row-has}
 use borrow.Author.Needs.{needs}
 use Rattle.explore.proofs.expand.Statement.{statement}
 use Rattle.explore.proofs.expand.Tie as tie

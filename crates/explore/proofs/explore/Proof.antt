@@ -1,5 +1,5 @@
 -- `explore::explore` meets its contract: before each round what is left of the search is the whole, and each begins another expansion. Assumes nothing.
-use Prim.Native.Nat.{suc, _+_, _-_, _*_, _≤_}
+use Prim.Native.Nat.{suc, _+_, _-_, _≤_}
 use mathlib.Core.Path.{_≡_, refl, sym, _∙_}
 use native.Mathlib.Nat.{mul-le-mul-right}
 use native.Mathlib.Omega.{arith}
@@ -12,8 +12,9 @@ use Rattle.layer.specs.First.{firsts-part}
 use Rattle.layer.specs.Lent.{boardOf}
 use Rattle.mets.specs.Known.{Known, known-none}
 use Rattle.explore.specs.declared.Round.the-variants.{Goes}
-use Rattle.explore.specs.Held.{Suits, Room}
-use Rattle.explore.specs.Held.Laws.{cut}
+use Rattle.explore.specs.Held.{Suits}
+use Rattle.offers.specs.Held.{Room}
+use Rattle.offers.specs.Held.Laws.{cut}
 use Rattle.explore.specs.Held.Start.{tables-suit}
 use Rattle.explore.specs.Held.Rounds.{Ahead, AheadBy, Rounded, ahead-start, ahead-begun, ahead-count}
 use borrow.Author.Needs.{needs}

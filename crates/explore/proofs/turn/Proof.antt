@@ -7,8 +7,8 @@ use lib.ListN.{length, getD, drop}
 use Rattle.layer.specs.Board.{Board, rowOn}
 use Rattle.layer.specs.Lent.{boardOf}
 use Rattle.nodes.specs.Scan.{keyBy}
-use Rattle.explore.specs.Still.{key-more}
-use Rattle.explore.specs.Held.Laws.{cut}
+use Rattle.begins.specs.Still.{key-more}
+use Rattle.offers.specs.Held.Laws.{cut}
 use Rattle.explore.specs.Held.Turns.{moved-leaf, moved-above, moved-stuck, moved-offered}
 use borrow.Author.Needs.{needs}
 use Rattle.explore.proofs.turn.Statement.{statement}

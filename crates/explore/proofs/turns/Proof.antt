@@ -1,6 +1,6 @@
 -- `explore::turns` meets its contract. The invariant: what is left of the expansion from the next action on is the whole. Assumes nothing.
-use mathlib.Core.Path.{_≡_, refl, sym, _∙_}
-use Prim.Native.Nat.{ℕ, _+_, _-_, _≤_, _<_}
+use mathlib.Core.Path.{_≡_, sym, _∙_}
+use Prim.Native.Nat.{_+_, _-_, _<_}
 use native.Mathlib.Omega.{arith}
 use denote.Ref.{now}
 use lib.ListN.{length, getD}
@@ -8,7 +8,6 @@ use Rattle.layer.specs.Board.{Board}
 use Rattle.layer.specs.Lent.{boardOf}
 use Rattle.mets.specs.Known.{Known}
 use Rattle.explore.specs.Held.Turns.{Passed, passed-none, passed-more, passed-full, passed-skip, passed-all}
-use borrow.Author.Needs.{needs}
 use Rattle.explore.proofs.turns.Statement.{statement}
 use Rattle.explore.proofs.turns.Tie as tie
 

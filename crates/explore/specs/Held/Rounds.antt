@@ -29,12 +29,13 @@ use Rattle.nodes.specs.Chain.{Chained}
 use Rattle.nodes.specs.Chain.Laws.{chained-retire}
 use Rattle.nodes.specs.Row.{nodeIn, nodesIn}
 use Rattle.nodes.specs.Scan.{keyOf, chooseBy}
-use Rattle.explore.specs.declared.Run.{Run}
-use Rattle.explore.specs.declared.Turned.{Turned}
+use Rattle.offers.specs.declared.Run.{Run}
+use Rattle.offers.specs.declared.Turned.{Turned}
 use Rattle.explore.specs.declared.Round.{Round}
 use Rattle.explore.specs.declared.Round.the-variants.{Stops, Goes}
-use Rattle.explore.specs.Held.{searchOf, Cached, Suits, Room, expandedOf, stoppedOf}
-use Rattle.explore.specs.Held.Laws.{kept-length, node-at, below-is, best-cap}
+use Rattle.explore.specs.Held.{Suits, expandedOf, stoppedOf}
+use Rattle.offers.specs.Held.{searchOf, Cached, Room}
+use Rattle.offers.specs.Held.Laws.{kept-length, node-at, below-is, best-cap}
 
 -- ---- the flags
 

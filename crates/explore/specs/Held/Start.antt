@@ -33,9 +33,10 @@ use Rattle.nodes.specs.Chain.{Chained}
 use Rattle.nodes.specs.Chain.Laws.{chained-fresh}
 use Rattle.nodes.specs.Row.{nodesIn, nodeWith}
 use Rattle.nodes.specs.Scan.{Cut, keyBy, goalCostBy}
-use Rattle.explore.specs.declared.Run.{Run}
-use Rattle.explore.specs.Held.{searchOf, Cached, Suits, Kept}
-use Rattle.explore.specs.Held.Laws.{key-is, goal-is, keep-is, keep-cached}
+use Rattle.offers.specs.declared.Run.{Run}
+use Rattle.explore.specs.Held.{Suits}
+use Rattle.offers.specs.Held.{searchOf, Cached, Kept}
+use Rattle.offers.specs.Held.Laws.{key-is, goal-is, keep-is, keep-cached}
 use Rattle.explore.specs.Held.Turns.{suits-scans}
 
 -- ---- the tables

@@ -20,10 +20,11 @@ use Rattle.search.specs.Plan.Real.{Real}
 use Rattle.search.specs.Plan.Found.{explored-real}
 use Rattle.nodes.specs.Row.{nodeIn, nodesIn}
 use Rattle.nodes.specs.Row.Laws.{nodesIn-length, nodesIn-at}
-use Rattle.explore.specs.declared.Run.{Run}
+use Rattle.offers.specs.declared.Run.{Run}
 use Rattle.explore.specs.declared.Stop.{Stop}
 use Rattle.explore.specs.declared.Why.the-variants.{Finished, TableFull as FullTable, BudgetSpent as SpentBudget}
-use Rattle.explore.specs.Held.{searchOf, reasonOf, stoppedOf}
+use Rattle.explore.specs.Held.{reasonOf, stoppedOf}
+use Rattle.offers.specs.Held.{searchOf}
 use Rattle.plans.specs.Walk.{heldIn, written}
 use Rattle.plans.specs.Goal.{written-fits, written-not}
 use Rattle.plans.specs.Kept.{plan-kept, real-kept}

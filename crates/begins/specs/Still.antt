@@ -13,13 +13,12 @@ use lib.ListN.{length, getD, set, take, drop, length-take, length-drop, length-s
 use lib.Seq.{take-at, take-add, getD-take, getD-drop, getD-set-same, getD-set-other, ext-getD}
 use Rattle.loops.specs.Count.Laws.{below-cases, sum-ext}
 use Rattle.task.specs.declared.Task.{Task}
-use Rattle.task.specs.declared.Centre.{Centre}
 use Rattle.task.specs.Meaning.{cost}
 use Rattle.leaf.specs.Price.{mark}
 use Rattle.leaf.specs.Settle.Turns.{at-any}
 use Rattle.leaf.specs.Settle.Walks.{Capped}
 use Rattle.leaf.specs.Pass.{pass}
-use Rattle.leaf.specs.Pass.Laws.{pass-length, pass-cap, pass-hit, pass-from}
+use Rattle.leaf.specs.Pass.Laws.{pass-length, pass-hit, pass-from}
 use Rattle.layer.specs.Layer.{leafPart, passLeaf, joined}
 use Rattle.layer.specs.Layer.Leaf.{passLeaf-floor}
 use Rattle.layer.specs.Layer.Front.{part-take}

@@ -1,10 +1,10 @@
--- `explore::is_stuck` meets its contract: the tables say whether the action applies. Assumes nothing.
+-- `begins::is_stuck` meets its contract: the tables say whether the action applies. Assumes nothing.
 use mathlib.Core.Path.{sym, _∙_}
 use mathlib.Core.Bool.{true≢false}
 use borrow.Author.Needs.{needs}
 use borrow.Author.Tests.{not-true}
-use Rattle.explore.proofs.is_stuck.Statement.{statement}
-use Rattle.explore.proofs.is_stuck.Tie as tie
+use Rattle.begins.proofs.is_stuck.Statement.{statement}
+use Rattle.begins.proofs.is_stuck.Tie as tie
 
 shared-slice-read-if1 : tie.Need-shared-slice-read-if1
 shared-slice-read-if1 c = search needs

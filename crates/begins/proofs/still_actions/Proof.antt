@@ -1,11 +1,11 @@
--- `explore::still_actions` meets its contract. The invariant: it holds of the actions so far. Assumes nothing.
-use Prim.Native.Nat.{ℕ, _+_, _*_, _-_, _≤_, _<_}
+-- `begins::still_actions` meets its contract. The invariant: it holds of the actions so far. Assumes nothing.
+use Prim.Native.Nat.{_+_, _*_, _-_, _≤_, _<_}
 use native.Mathlib.Omega.{arith}
 use lib.ListN.{length, getD}
 use borrow.Author.Needs.{needs}
-use Rattle.explore.specs.Still.{Still, action-in, still-none, still-more}
-use Rattle.explore.proofs.still_actions.Statement.{statement}
-use Rattle.explore.proofs.still_actions.Tie as tie
+use Rattle.begins.specs.Still.{Still, action-in, still-none, still-more}
+use Rattle.begins.proofs.still_actions.Statement.{statement}
+use Rattle.begins.proofs.still_actions.Tie as tie
 
 abbrev Inv-loop : tie.InvT-loop
 Inv-loop leaves actions bases moves row still₀ a₀ still a = (a ≤ actions) × Still leaves a bases moves still

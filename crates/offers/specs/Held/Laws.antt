@@ -36,8 +36,8 @@ use Rattle.nodes.specs.Chain.Laws.{linked-key, chained-recalled, chained-more}
 use Rattle.nodes.specs.Row.{spotOf, nodeOf, nodeIn, nodesIn, Packed}
 use Rattle.nodes.specs.Row.Laws.{row-lent, row-kept, row-written, nodesIn-length, nodesIn-at}
 use Rattle.nodes.specs.Scan.{Cut, partBy, goalsBy, keyBy, goalSumBy, goalCostBy}
-use Rattle.explore.specs.declared.Run.{Run}
-use Rattle.explore.specs.Held.{searchOf, Cached, Scans, Room, Has, keptRun, Kept}
+use Rattle.offers.specs.declared.Run.{Run}
+use Rattle.offers.specs.Held.{searchOf, Cached, Scans, Room, Has, keptRun, Kept}
 
 -- ---- rows
 

@@ -1,13 +1,13 @@
--- `explore::is_still` meets its contract. The invariant: the states of the leaves so far stay as they are. Assumes nothing.
-use mathlib.Core.Path.{_≡_, refl}
-use Prim.Native.Nat.{ℕ, _+_, _-_, _≤_, _<_}
+-- `begins::is_still` meets its contract. The invariant: the states of the leaves so far stay as they are. Assumes nothing.
+use mathlib.Core.Path.{refl}
+use Prim.Native.Nat.{_+_, _-_, _≤_}
 use native.Mathlib.Nat.{not-suc-le-zero}
 use native.Mathlib.Omega.{arith}
 use lib.ListN.{length, getD}
 use borrow.Author.Needs.{needs}
-use Rattle.explore.specs.Still.{Stays, stays-more, within, not-false}
-use Rattle.explore.proofs.is_still.Statement.{statement}
-use Rattle.explore.proofs.is_still.Tie as tie
+use Rattle.begins.specs.Still.{Stays, stays-more, within, not-false}
+use Rattle.begins.proofs.is_still.Statement.{statement}
+use Rattle.begins.proofs.is_still.Tie as tie
 
 abbrev Inv-loop : tie.InvT-loop
 Inv-loop leaves bases moves from i₀ i = (i ≤ leaves) × Stays i bases moves from

@@ -1,4 +1,4 @@
--- `explore::begin_of` meets its contract: behind an action that leaves all leaf states as they are the begin is the old layer. Assumes nothing.
+-- `begins::begin_of` meets its contract: behind an action that leaves all leaf states as they are the begin is the old layer. Assumes nothing.
 use mathlib.Core.Path.{_≡_, sym}
 use native.Mathlib.Omega.{arith}
 use denote.Ref.{now}
@@ -6,10 +6,10 @@ use lib.ListN.{length, drop}
 use lib.Seq.{length-take-le}
 use Rattle.layer.specs.Board.{Board, rowOn}
 use Rattle.layer.specs.Lent.{boardOf}
-use Rattle.explore.specs.Still.{begun-still}
+use Rattle.begins.specs.Still.{begun-still}
 use borrow.Author.Needs.{needs}
-use Rattle.explore.proofs.begin_of.Statement.{statement}
-use Rattle.explore.proofs.begin_of.Tie as tie
+use Rattle.begins.proofs.begin_of.Statement.{statement}
+use Rattle.begins.proofs.begin_of.Tie as tie
 
 -- the Board that is lent
 abbrev board : tie.Start → Board

@@ -1,4 +1,4 @@
--- `explore::keep` meets its contract: the row, the links, and the new best by its goal cost. Assumes nothing.
+-- `offers::keep` meets its contract: the row, the links, and the new best by its goal cost. Assumes nothing.
 use Prim.Native.Nat.{ℕ}
 use mathlib.Core.Path.{sym}
 use native.Mathlib.Omega.{arith}
@@ -10,9 +10,9 @@ use Rattle.search.specs.Node.{Node}
 use Rattle.nodes.specs.Chain.Laws.{class-lt}
 use Rattle.nodes.specs.Row.{nodeWith}
 use Rattle.nodes.specs.Scan.{goalCostBy}
-use Rattle.explore.specs.Held.Laws.{kept-best, kept-other}
-use Rattle.explore.proofs.keep.Statement.{statement}
-use Rattle.explore.proofs.keep.Tie as tie
+use Rattle.offers.specs.Held.Laws.{kept-best, kept-other}
+use Rattle.offers.proofs.keep.Statement.{statement}
+use Rattle.offers.proofs.keep.Tie as tie
 
 -- S, the node and its goal cost
 abbrev S : tie.Start → ℕ

@@ -1,18 +1,18 @@
--- `explore::offer` meets its contract: one law for each of its four ends. Assumes nothing.
+-- `offers::offer` meets its contract: one law for each of its four ends. Assumes nothing.
 use mathlib.Core.Path.{_≡_, _∙_}
 use mathlib.Core.List.{List}
-use Prim.Native.Nat.{ℕ, _+_, _≤_, _<_}
+use Prim.Native.Nat.{ℕ, _+_, _≤_}
 use native.Mathlib.Omega.{arith}
 use denote.Ref.{now}
 use lib.ListN.{length}
 use Rattle.layer.specs.Board.{Board}
 use Rattle.layer.specs.Lent.{boardOf}
 use Rattle.nodes.specs.Chain.Laws.{class-lt}
-use Rattle.explore.specs.Held.Laws.{rows-fit, cut}
-use Rattle.explore.specs.Held.Turns.{offered-above, offered-dominated, offered-full, offered-kept}
+use Rattle.offers.specs.Held.Laws.{rows-fit, cut}
+use Rattle.offers.specs.Held.Offers.{offered-above, offered-dominated, offered-full, offered-kept}
 use borrow.Author.Needs.{needs}
-use Rattle.explore.proofs.offer.Statement.{statement}
-use Rattle.explore.proofs.offer.Tie as tie
+use Rattle.offers.proofs.offer.Statement.{statement}
+use Rattle.offers.proofs.offer.Tie as tie
 
 -- the Board that is lent
 abbrev board : tie.Start → Board

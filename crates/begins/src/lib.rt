@@ -1,0 +1,154 @@
+// The begin of a layer behind a centre action, and what makes it cheap: actions that leave all leaf states as they are, and actions that are stuck.
+use layer::applies;
+use layer::begin_layer;
+use nodes::key_of;
+use nodes::sign_of;
+use task::Centre;
+use words::copy_words;
+ghost use mathlib.Core.Path.{_≡_};
+ghost use mathlib.Core.Bool.{true, false};
+ghost use mathlib.Core.List.{_++_};
+ghost use Prim.Native.Nat.{ℕ, _+_, _*_, _≤_, _<_};
+ghost use lib.ListN.{length, getD, take, drop};
+ghost use Rattle.layer.specs.Board.{Sound, beginOn, appliesOn};
+ghost use Rattle.layer.specs.Lent.{boardOf};
+ghost use Rattle.nodes.specs.Chain.{signOf};
+ghost use Rattle.nodes.specs.Scan.{Cut, keyBy};
+ghost use Rattle.begins.specs.Still.{Stays, Still};
+
+// The key and the signature of a layer's begin.
+pub struct Begun {
+    pub key: u64,
+    pub sign: u64,
+}
+
+// Whether an action whose moves of a leaf begin at `at` leaves each of the leaf's states as it is.
+fn is_still_leaf(moves: &[u16], at: usize, states: usize) -> bool
+    requires { ⌜ at + states ≤ length (now moves) ⌝ }
+    ensures { λ r. ⌜ (r ≡ true → (x : ℕ) → x < states → getD (now (moves .entry)) (at + x) 0 ≡ x + 1) ⌝ }
+{
+    for x in 0..states {
+        if moves[at + x] as usize != x + 1 {
+            return false;
+        }
+    }
+    true
+}
+
+// 1 if an action whose moves begin at `from` leaves each state of each leaf as it is, else 0.
+fn is_still(leaves: usize, bases: &[usize], moves: &[u16], from: usize) -> u8
+    requires { ⌜ Cut leaves (now bases) (length (now moves)) × (from + getD (now bases) leaves 0 ≤ length (now moves)) ⌝ }
+    ensures { λ r. ⌜ ((r ≡ 0 → ⊥) → Stays leaves (now (bases .entry)) (now (moves .entry)) from) ⌝ }
+{
+    for i in 0..leaves {
+        let at = bases[i];
+        let to = bases[i + 1];
+        if !is_still_leaf(moves, from + at, to - at) {
+            return 0;
+        }
+    }
+    1
+}
+
+// The actions that leave each state of each leaf as it is: 1 for those, 0 for the others.
+pub fn still_actions(leaves: usize, actions: usize, bases: &[usize], moves: &[u16]) -> [u8; 256]
+    requires { ⌜ Cut leaves (now bases) 1024 × (actions ≤ 255) × (actions * getD (now bases) leaves 0 ≤ length (now moves)) ⌝ }
+    ensures { λ r. ⌜ Still leaves actions (now (bases .entry)) (now (moves .entry)) r ⌝ }
+{
+    let row = bases[leaves];
+    let mut still = [0u8; 256];
+    for a in 0..actions {
+        let stays = is_still(leaves, bases, moves, a * row);
+        still[a] = stays;
+    }
+    still
+}
+
+// Whether an action, whose centre conditions hold, moves leaf states and is stuck: in some leaf no state that is reached passes.
+pub fn is_stuck(
+    leaves: usize,
+    actions: usize,
+    bases: &[usize],
+    moves: &[u16],
+    costs: &[u16],
+    kinds: &[u8],
+    factors: [u8; 32],
+    conditions: &[u8],
+    still: &[u8],
+    spot: Centre,
+    old: &[u64],
+    a: usize,
+) -> bool
+    requires { ⌜ Sound (boardOf leaves actions (now bases) (now moves) (now costs) (now kinds) factors (now conditions)) ⌝ }
+    requires { ⌜ (length (now still) ≡ 256) × (a < actions) × (getD (now bases) leaves 0 ≤ length (now old)) ⌝ }
+    ensures { λ r. ⌜ (r ≡ true → appliesOn (boardOf leaves actions (now (bases .entry)) (now (moves .entry)) (now (costs .entry)) (now (kinds .entry)) factors
+        (now (conditions .entry))) spot (now (old .entry)) a ≡ false) ⌝ }
+{
+    if still[a] != 0 {
+        return false;
+    }
+    !applies(
+        leaves,
+        actions,
+        bases,
+        moves,
+        costs,
+        kinds,
+        factors,
+        conditions,
+        spot,
+        old,
+        a,
+    )
+}
+
+// The begin of the layer behind centre action a, at the front of `next`, with its key and signature. Where the action moves no leaf state it is the
+// old layer; `low` is the key that this would have, `sign` its signature.
+pub fn begin_of(
+    leaves: usize,
+    actions: usize,
+    bases: &[usize],
+    moves: &[u16],
+    costs: &[u16],
+    kinds: &[u8],
+    factors: [u8; 32],
+    conditions: &[u8],
+    still: &[u8],
+    a: usize,
+    old: &[u64],
+    low: u64,
+    sign: u64,
+    spent: u64,
+    next: &mut [u64],
+) -> Begun
+    requires { ⌜ Sound (boardOf leaves actions (now bases) (now moves) (now costs) (now kinds) factors (now conditions)) ⌝ }
+    requires { ⌜ Still leaves actions (now bases) (now moves) (now still) ⌝ }
+    requires { ⌜ (a < actions) × (getD (now bases) leaves 0 ≤ length (now old)) × (getD (now bases) leaves 0 ≤ length (now next)) ⌝ }
+    requires { ⌜ sign ≡ signOf (take (getD (now bases) leaves 0) (now old)) ⌝ }
+    ensures { λ r. ⌜ (now (next .exit) ≡ beginOn (boardOf leaves actions (now (bases .entry)) (now (moves .entry)) (now (costs .entry)) (now (kinds .entry))
+        factors (now (conditions .entry))) a (now (old .entry)) ++ drop (getD (now (bases .entry)) leaves 0) (now (next .entry)))
+        × (low ≡ keyBy leaves (now (bases .entry)) spent (now (old .entry)) → r .key ≡ keyBy leaves (now (bases .entry)) spent (now (next .exit)))
+        × (r .sign ≡ signOf (take (getD (now (bases .entry)) leaves 0) (now (next .exit)))) ⌝ }
+{
+    let states = bases[leaves];
+    if still[a] != 0 {
+        copy_words(old, next, states);
+        return Begun { key: low, sign };
+    }
+    begin_layer(
+        leaves,
+        actions,
+        bases,
+        moves,
+        costs,
+        kinds,
+        factors,
+        conditions,
+        a,
+        old,
+        next,
+    );
+    let key = key_of(leaves, bases, spent, &next[..]);
+    let made = sign_of(&next[..states]);
+    Begun { key, sign: made }
+}

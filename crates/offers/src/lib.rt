@@ -1,0 +1,257 @@
+// A successor is offered to the search that the lent table holds: dropped, refused for a full table, or settled and kept.
+use edges::settle_edges;
+use mets::mets_of;
+use nodes::class_of;
+use nodes::goal_cost;
+use nodes::is_dominated;
+use nodes::link;
+use nodes::sign_of;
+use nodes::write_row;
+use task::Centre;
+ghost use mathlib.Core.Path.{_≡_};
+ghost use mathlib.Core.List.{_++_};
+ghost use Prim.Native.Nat.{_+_, _*_, _≤_, _<_};
+ghost use lib.ListN.{length, getD, take, drop};
+ghost use Rattle.layer.specs.Board.{Sound, settledOn};
+ghost use Rattle.layer.specs.First.{Firsts};
+ghost use Rattle.layer.specs.Lent.{boardOf};
+ghost use Rattle.mets.specs.Known.{Known};
+ghost use Rattle.edges.specs.Edges.{Edges};
+ghost use Rattle.nodes.specs.Chain.{signOf};
+ghost use Rattle.nodes.specs.Row.{nodeWith};
+ghost use Rattle.nodes.specs.Scan.{Cut, goalCostBy};
+ghost use Rattle.offers.specs.Held.{Room, Kept, Offered};
+
+// The search beside its table: nodes kept, expansions begun, one more than best's node (0 for none), best's goal cost (the mark for none).
+pub struct Run {
+    pub count: usize,
+    pub begun: u32,
+    pub best: usize,
+    pub best_cost: u64,
+}
+
+// Whether the table was full, and the search to go on with.
+pub struct Turned {
+    pub full: bool,
+    pub run: Run,
+}
+
+// A node under the next number: its row, its scan words (key, signature, links), and the new best.
+pub fn keep(
+    leaves: usize,
+    bases: &[usize],
+    goals: &[u16],
+    factors: [u8; 32],
+    goal: [u8; 32],
+    spot: Centre,
+    paid: u64,
+    parent: usize,
+    action: usize,
+    key: u64,
+    prices: &[u64],
+    table: &mut [u64],
+    scan: &mut [u64],
+    run: Run,
+) -> Run
+    requires { ⌜ Cut leaves (now bases) (length (now prices)) × Cut leaves (now bases) (length (now goals)) ⌝ }
+    requires { ⌜ (getD (now bases) leaves 0 ≤ 1024) × (run .count < 4096) × ((run .count + 1) * (40 + getD (now bases) leaves 0) ≤ length (now table))
+        × (length (now scan) ≡ 36928) ⌝ }
+    ensures { λ r. ⌜ Kept (getD (now (bases .entry)) leaves 0) (now (table .entry)) (now (scan .entry)) run
+        (nodeWith spot paid (take (getD (now (bases .entry)) leaves 0) (now (prices .entry))) parent action) key
+        (goalCostBy leaves (now (bases .entry)) (now (goals .entry)) factors goal spot paid (now (prices .entry)))
+        (now (table .exit)) (now (scan .exit)) r ⌝ }
+{
+    let states = bases[leaves];
+    let count = run.count;
+    let wide = 40 + states;
+    let at = count * wide;
+    let end = at + wide;
+    write_row(
+        &mut table[at..end],
+        states,
+        spot,
+        paid,
+        parent,
+        action,
+        prices,
+    );
+    let sign = sign_of(&prices[..states]);
+    let class = class_of(spot);
+    link(scan, count, key, sign, class);
+    let cost = goal_cost(leaves, bases, goals, factors, goal, spot, paid, prices);
+    if cost < run.best_cost {
+        return Run {
+            count: count + 1,
+            begun: run.begun,
+            best: count + 1,
+            best_cost: cost,
+        };
+    }
+    Run {
+        count: count + 1,
+        begun: run.begun,
+        best: run.best,
+        best_cost: run.best_cost,
+    }
+}
+
+// A layer's begin settles; `spot` is its centre state, of this class. `flags` is room to work in.
+fn settle_begin(
+    leaves: usize,
+    actions: usize,
+    bases: &[usize],
+    moves: &[u16],
+    costs: &[u16],
+    kinds: &[u8],
+    factors: [u8; 32],
+    conditions: &[u8],
+    firsts: &[u8],
+    edges: &[u8],
+    ends: &[usize],
+    spot: Centre,
+    class: usize,
+    begin: &mut [u64],
+    known: &mut [u8],
+    flags: &mut [u8],
+)
+    requires { ⌜ Sound (boardOf leaves actions (now bases) (now moves) (now costs) (now kinds) factors (now conditions)) ⌝ }
+    requires { ⌜ Firsts (boardOf leaves actions (now bases) (now moves) (now costs) (now kinds) factors (now conditions)) (now firsts)
+        × Edges (boardOf leaves actions (now bases) (now moves) (now costs) (now kinds) factors (now conditions)) (now edges) (now ends)
+        × Known (boardOf leaves actions (now bases) (now moves) (now costs) (now kinds) factors (now conditions)) (now known)
+        × (class < 4096) × (length (now flags) ≡ 256) × (getD (now bases) leaves 0 ≤ length (now begin)) ⌝ }
+    ensures { λ _. ⌜ (now (begin .exit) ≡ settledOn (boardOf leaves actions (now (bases .entry)) (now (moves .entry)) (now (costs .entry)) (now (kinds .entry)) factors
+        (now (conditions .entry))) spot (now (begin .entry)) ++ drop (getD (now (bases .entry)) leaves 0) (now (begin .entry)))
+        × Known (boardOf leaves actions (now (bases .entry)) (now (moves .entry)) (now (costs .entry)) (now (kinds .entry)) factors
+        (now (conditions .entry))) (now (known .exit)) ⌝ }
+{
+    mets_of(
+        actions,
+        firsts,
+        factors,
+        conditions,
+        spot,
+        class,
+        known,
+        flags,
+    );
+    settle_edges(
+        leaves,
+        actions,
+        bases,
+        moves,
+        costs,
+        kinds,
+        factors,
+        conditions,
+        &flags[..],
+        edges,
+        ends,
+        spot,
+        begin,
+    );
+}
+
+// A successor of node `parent` by `action`, from its layer's begin: dropped, refused for a full table, or settled and kept under the next number.
+pub fn offer(
+    leaves: usize,
+    actions: usize,
+    bases: &[usize],
+    moves: &[u16],
+    costs: &[u16],
+    kinds: &[u8],
+    factors: [u8; 32],
+    conditions: &[u8],
+    firsts: &[u8],
+    edges: &[u8],
+    ends: &[usize],
+    goals: &[u16],
+    goal: [u8; 32],
+    nodes: usize,
+    spot: Centre,
+    paid: u64,
+    parent: usize,
+    action: usize,
+    key: u64,
+    sign: u64,
+    begin: &mut [u64],
+    table: &mut [u64],
+    scan: &mut [u64],
+    known: &mut [u8],
+    flags: &mut [u8],
+    run: Run,
+) -> Turned
+    requires { ⌜ Sound (boardOf leaves actions (now bases) (now moves) (now costs) (now kinds) factors (now conditions)) ⌝ }
+    requires { ⌜ Firsts (boardOf leaves actions (now bases) (now moves) (now costs) (now kinds) factors (now conditions)) (now firsts)
+        × Edges (boardOf leaves actions (now bases) (now moves) (now costs) (now kinds) factors (now conditions)) (now edges) (now ends)
+        × Known (boardOf leaves actions (now bases) (now moves) (now costs) (now kinds) factors (now conditions)) (now known)
+        × (length (now flags) ≡ 256) ⌝ }
+    requires { ⌜ Cut leaves (now bases) (length (now begin)) × Cut leaves (now bases) (length (now goals)) ⌝ }
+    requires { ⌜ sign ≡ signOf (take (getD (now bases) leaves 0) (now begin)) ⌝ }
+    requires { ⌜ Room (getD (now bases) leaves 0) nodes (now table) (now scan) run ⌝ }
+    ensures offered { λ r. ⌜ Offered (boardOf leaves actions (now (bases .entry)) (now (moves .entry)) (now (costs .entry)) (now (kinds .entry)) factors
+        (now (conditions .entry))) (now (goals .entry)) goal nodes (now (table .entry)) (now (scan .entry)) run spot paid (now (begin .entry)) parent action key
+        (now (table .exit)) (now (scan .exit)) r ⌝ }
+    ensures known { λ _. ⌜ Known (boardOf leaves actions (now (bases .entry)) (now (moves .entry)) (now (costs .entry)) (now (kinds .entry)) factors
+        (now (conditions .entry))) (now (known .exit)) ⌝ }
+{
+    let states = bases[leaves];
+    let count = run.count;
+    if key >= run.best_cost {
+        return Turned { full: false, run };
+    }
+    let class = class_of(spot);
+    if is_dominated(
+        table,
+        states,
+        count,
+        scan,
+        class,
+        sign,
+        spot,
+        paid,
+        &begin[..],
+    ) {
+        return Turned { full: false, run };
+    }
+    if count >= nodes {
+        return Turned { full: true, run };
+    }
+    settle_begin(
+        leaves,
+        actions,
+        bases,
+        moves,
+        costs,
+        kinds,
+        factors,
+        conditions,
+        firsts,
+        edges,
+        ends,
+        spot,
+        class,
+        begin,
+        known,
+        flags,
+    );
+    let more = keep(
+        leaves,
+        bases,
+        goals,
+        factors,
+        goal,
+        spot,
+        paid,
+        parent,
+        action,
+        key,
+        &begin[..],
+        table,
+        scan,
+        run,
+    );
+    Turned {
+        full: false,
+        run: more,
+    }
+}
