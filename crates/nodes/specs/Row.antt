@@ -53,11 +53,15 @@ nodesIn S T (suc u) = nodesIn S T u ++ (nodeIn S T u ∷ [])
 abbrev pub nodeWith : Centre → ℕ → List ℕ → ℕ → ℕ → Node
 nodeWith c paid P parent action = record { spot = c; paid = paid; prices = P; parent = parent; action = action }
 
+-- no price of the row before place k is higher than that of P
+abbrev pub NotAbove : List ℕ → List ℕ → ℕ → Type 0
+NotAbove row P k = (i : ℕ) → i < k → getD row (40 + i) 0 ≤ getD P i 0
+
 -- k is a place below S where the row's price is higher than that of P, or S where there is none
 pub record Above (S : ℕ) (row P : List ℕ) (k : ℕ) : Type 0 where
   pub inside : k ≤ S
   pub higher : k < S → getD P k 0 < getD row (40 + k) 0
-  pub none : k ≡ S → (i : ℕ) → i < S → getD row (40 + i) 0 ≤ getD P i 0
+  pub none : k ≡ S → NotAbove row P S
 
 -- the answer r to whether m dominates n: it does where r is above S, and else r is a hint where to look next
 pub record Tested (S : ℕ) (m n : Node) (r : ℕ) : Type 0 where

@@ -12,7 +12,7 @@ ghost use Rattle.loops.specs.Count.{all, any};
 ghost use Rattle.task.specs.Centre.{valueIn};
 ghost use Rattle.layer.specs.Layer.{mark};
 ghost use Rattle.search.specs.Node.{leastOf, dominates};
-ghost use Rattle.nodes.specs.Row.{spotOf, nodeOf, rowIn, nodeIn, nodeWith, packOf, Packed, Above, Tested};
+ghost use Rattle.nodes.specs.Row.{spotOf, nodeOf, rowIn, nodeIn, nodeWith, packOf, Packed, NotAbove, Above, Tested};
 ghost use Rattle.nodes.specs.Four.{fourTo};
 ghost use Rattle.nodes.specs.Scan.{Cut, goalsBy, keyBy, goalSumBy, goalCostBy, chooseBy};
 ghost use Rattle.nodes.specs.Block.{blockEnd, Blocked, freshTo, retiredTo};
@@ -73,6 +73,9 @@ fn goal_sum(leaves: usize, bases: &[usize], goals: &[u16], paid: u64, prices: &[
         let from = bases[i];
         let to = bases[i + 1];
         sum = add_price(sum, least_goal(&prices[from..to], &goals[from..to]));
+        if sum >= MARK {
+            return MARK;
+        }
     }
     sum
 }
@@ -326,8 +329,44 @@ fn same_spot(row: &[u64], spot: Centre) -> bool
     true
 }
 
-// A place where the row's price is higher, the number of states if there is none. `hint` is tried first: where one node was too high the next is
-// often too.
+// A place up to which no price of the row is higher, four to a turn: that of the first price that is, or else where the fours end.
+fn place_in_fours(row: &[u64], states: usize, prices: &[u64]) -> usize
+    requires { ⌜ (length (now row) ≡ 40 + states) × (states ≤ length (now prices)) ⌝ }
+    ensures { λ r. ⌜ (r ≤ states) × NotAbove (now (row .entry)) (now (prices .entry)) r ⌝ }
+{
+    let mut k = 0;
+    while k + 4 <= states {
+        if row[40 + k] > prices[k] {
+            return k;
+        }
+        if row[41 + k] > prices[k + 1] {
+            return k + 1;
+        }
+        if row[42 + k] > prices[k + 2] {
+            return k + 2;
+        }
+        if row[43 + k] > prices[k + 3] {
+            return k + 3;
+        }
+        k += 4;
+    }
+    k
+}
+
+// A place where the row's price is higher, the number of states if there is none; up to `from` none is.
+fn place_from(row: &[u64], states: usize, prices: &[u64], from: usize) -> usize
+    requires { ⌜ (length (now row) ≡ 40 + states) × (states ≤ length (now prices)) × (from ≤ states) × NotAbove (now row) (now prices) from ⌝ }
+    ensures { λ r. ⌜ Above states (now (row .entry)) (now (prices .entry)) r ⌝ }
+{
+    for k in from..states {
+        if row[40 + k] > prices[k] {
+            return k;
+        }
+    }
+    states
+}
+
+// The same of all prices. `hint` is tried first: where one node was too high the next is often too.
 fn place_above(row: &[u64], states: usize, prices: &[u64], hint: usize) -> usize
     requires { ⌜ (length (now row) ≡ 40 + states) × (states ≤ length (now prices)) ⌝ }
     ensures { λ r. ⌜ Above states (now (row .entry)) (now (prices .entry)) r ⌝ }
@@ -337,12 +376,8 @@ fn place_above(row: &[u64], states: usize, prices: &[u64], hint: usize) -> usize
             return hint;
         }
     }
-    for k in 0..states {
-        if row[40 + k] > prices[k] {
-            return k;
-        }
-    }
-    states
+    let from = place_in_fours(row, states, prices);
+    place_from(row, states, prices, from)
 }
 
 // Whether the row's node has the same centre state, no higher centre cost and no higher price anywhere: then the answer is above the number of

@@ -1,7 +1,8 @@
 -- `nodes::goal_sum` meets its contract. The invariant: the centre cost and the least price of a goal state of each leaf so far, at most the
 -- mark. Assumes nothing.
 use mathlib.Core.Path.{_≡_, sym, _∙_}
-use Prim.Native.Nat.{_+_, _-_, _≤_, min}
+use mathlib.Core.List.{List}
+use Prim.Native.Nat.{ℕ, _+_, _-_, _≤_, min}
 use native.Mathlib.Omega.{arith}
 use lib.ListN.{length}
 use borrow.Author.Needs.{needs}
@@ -10,13 +11,16 @@ use Rattle.layer.specs.Layer.{mark}
 use Rattle.layer.specs.Board.Turns.{part-length}
 use Rattle.search.specs.Node.{leastOf}
 use Rattle.nodes.specs.Scan.{partBy, goalsBy, goalSumBy}
-use Rattle.nodes.specs.Scan.Laws.{Inside, cut-in, capped-more}
+use Rattle.nodes.specs.Scan.Laws.{Inside, cut-in, capped-more, capped-full}
 use Rattle.nodes.proofs.goal_sum.Statement.{statement}
 use Rattle.nodes.proofs.goal_sum.Tie as tie
 
+-- the sum over the first i leaves
+abbrev sumTo : List ℕ → List ℕ → ℕ → List ℕ → ℕ → ℕ
+sumTo bases goals paid prices i = min (paid + count.sum i (λ k. leastOf (goalsBy (partBy bases k goals) (partBy bases k prices)))) mark
+
 abbrev Inv-loop : tie.InvT-loop
-Inv-loop leaves bases goals paid prices sum₀ i₀ sum i =
-    (i ≤ leaves) × (sum ≡ min (paid + count.sum i (λ k. leastOf (goalsBy (partBy bases k goals) (partBy bases k prices)))) mark)
+Inv-loop leaves bases goals paid prices sum₀ i₀ sum i = (i ≤ leaves) × (sum ≡ sumTo bases goals paid prices i)
 
 abbrev μ-loop : tie.MeasureT-loop
 μ-loop leaves bases goals paid prices sum₀ i₀ sum i = leaves - i
@@ -87,6 +91,20 @@ least-goal-requires c κs =
 add-price-requires : tie.Need-add-price-requires Inv-loop μ-loop
 add-price-requires c κs = search needs
 
+-- the sum with this leaf
+summed : (c : tie.After-add-price Inv-loop μ-loop) → let t = c .before .before .before .before .before .before in let a = start t .args in
+    c .add-price .result ≡ sumTo (a .bases .now) (a .goals .now) (a .paid) (a .prices .now) (t .before .loop .i + 1)
+summed c =
+    let least = c .before in
+    let l = least .before .before .before .before .before .before .loop in
+    c .add-price .ensures ∙ capped-more (l .i) _ _ (l .sum) (least .least-goal .result) (l .inv .1) (least .least-goal .ensures)
+
+returns : tie.Need-returns Inv-loop μ-loop
+unfolding goalSumBy
+returns c =
+    let t = c .before .before .before .before .before .before .before in
+    capped-full _ _ _ _ _ (t .loop-test .taken) (c .if1 .taken) (summed (c .before))
+
 add-i : tie.Need-add-i Inv-loop μ-loop
 add-i c = search needs
 
@@ -94,14 +112,11 @@ loop-less : tie.Need-loop-less Inv-loop μ-loop
 loop-less c = search needs
 
 loop-again : tie.Need-loop-again Inv-loop μ-loop
-loop-again c =
-    let least = c .before in
-    let l = least .before .before .before .before .before .before .loop in
-    (omega arith, c .add-price .ensures ∙ capped-more (l .i) _ _ (l .sum) (least .least-goal .result) (l .inv .1) (least .least-goal .ensures))
+loop-again c = (omega arith, summed (c .before))
 
-returns : tie.Need-returns Inv-loop μ-loop
+returns-2 : tie.Need-returns-2 Inv-loop μ-loop
 unfolding goalSumBy
-returns c =
+returns-2 c =
     let all : c .before .loop .i ≡ c .before .before .before .before .before .args .leaves = omega arith in
     c .before .loop .inv .1 ∙ rw all
 
@@ -127,7 +142,8 @@ goal-sum-spec =
     part-least-goal-end-2
     least-goal-requires
     add-price-requires
+    returns
     add-i
     loop-less
     loop-again
-    returns)
+    returns-2)

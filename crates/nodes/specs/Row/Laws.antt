@@ -19,7 +19,7 @@ use Rattle.layer.specs.Layer.{mark}
 use Rattle.layer.specs.Settle.Turns.{at-any}
 use Rattle.search.specs.Node.{Node, dominates}
 use Rattle.nodes.specs.Four.{fourTo, four-length, four-other, four-first, four-second, four-third, four-fourth}
-use Rattle.nodes.specs.Row.{spotOf, nodeOf, rowIn, nodeIn, nodesIn, nodeWith, packOf, Packed, Above, Tested}
+use Rattle.nodes.specs.Row.{spotOf, nodeOf, rowIn, nodeIn, nodesIn, nodeWith, packOf, Packed, NotAbove, Above, Tested}
 
 -- ---- one row
 
@@ -36,13 +36,12 @@ spot-lt row v h = omega (arith, spot-at row v h)
 abbrev pub notHigher : List ℕ → List ℕ → ℕ → Bool
 notHigher row P k = leb (getD row (40 + k) 0) (getD P k 0)
 
--- no price so far is higher, nor is price k
-pub higher-more : (row P : List ℕ) (k : ℕ) → ((i : ℕ) → i < k → getD row (40 + i) 0 ≤ getD P i 0) → getD row (40 + k) 0 ≤ getD P k 0
-    → (i : ℕ) → i < k + 1 → getD row (40 + i) 0 ≤ getD P i 0
-higher-more row P k h e i l = go (ℕ-discrete i k)
+-- no price so far is higher, nor is price k; j is its place in the row
+pub higher-more : (row P : List ℕ) (k j m : ℕ) → NotAbove row P k → getD row j 0 ≤ getD P k 0 → j ≡ 40 + k → m ≡ k + 1 → NotAbove row P m
+higher-more row P k j m h e p q i l = go (ℕ-discrete i k)
   where
     go : Dec (i ≡ k) → getD row (40 + i) 0 ≤ getD P i 0
-    go (yes q) = rw q e
+    go (yes s) = rw (s, sym p) e
     go (no d) = h i (omega arith)
 
 -- a place where the price is higher
@@ -50,7 +49,7 @@ pub above-at : (S : ℕ) (row P : List ℕ) (k : ℕ) → k < S → getD P k 0 <
 above-at S row P k l h = record { inside = omega arith; higher = λ _. h; none = λ e. absurd (omega arith) }
 
 -- there is none
-pub above-none : (S : ℕ) (row P : List ℕ) → ((i : ℕ) → i < S → getD row (40 + i) 0 ≤ getD P i 0) → Above S row P S
+pub above-none : (S : ℕ) (row P : List ℕ) → NotAbove row P S → Above S row P S
 above-none S row P h = record { inside = omega arith; higher = λ l. absurd (omega arith); none = λ _. h }
 
 -- dominance of the node in a row, by what stands in the row
@@ -96,7 +95,7 @@ module _ (S paid : ℕ) (row P : List ℕ) (c : Centre) (long : length row ≡ 4
   test-spot r l e = missed r l (dominates-is S paid row P c long many ∙ rw e)
 
   -- nothing is against it
-  pub test-found : getD row 32 0 ≤ paid → ((i : ℕ) → i < S → getD row (40 + i) 0 ≤ getD P i 0) → same ≡ true
+  pub test-found : getD row 32 0 ≤ paid → NotAbove row P S → same ≡ true
       → Tested S (nodeOf S row) (nodeWith c paid (take S P) 0 0) (S + 1)
   test-found p q e =
       let low = all-in S (notHigher row P) (λ k l. le-leb _ _ (q k l)) in

@@ -71,6 +71,20 @@ cut-in leaves bases n cut i h = omega (arith, cut .rise i h, cut-up leaves bases
 pub capped-more : (n : ℕ) (f : ℕ → ℕ) (paid k x : ℕ) → k ≡ min (paid + sum n f) mark → x ≡ f n → min (k + x) mark ≡ min (paid + sum (n + 1) f) mark
 capped-more n f paid k x p q = omega (arith, sum-more n f)
 
+-- what is summed up does not fall
+sum-up : (f : ℕ → ℕ) (n m : ℕ) → n ≤ m → sum n f ≤ sum m f
+unfolding sum
+sum-up f n zero h = let e : n ≡ 0 = omega arith in rw e (omega arith)
+sum-up f n (suc m) h = go (ℕ-discrete n (suc m)) (sum-up f n m)
+  where
+    go : Dec (n ≡ suc m) → (n ≤ m → sum n f ≤ sum m f) → sum n f ≤ sum (suc m) f
+    go (yes e) r = rw e (omega arith)
+    go (no d) r = omega (arith, r (omega arith))
+
+-- a sum that is the mark stays the mark
+pub capped-full : (n m : ℕ) (f : ℕ → ℕ) (paid k : ℕ) → n < m → mark ≤ k → k ≡ min (paid + sum (n + 1) f) mark → mark ≡ min (paid + sum m f) mark
+capped-full n m f paid k l h e = omega (arith, sum-up f (n + 1) m (omega arith))
+
 -- ---- the choice
 
 module _ (bound : ℕ) (keys : List ℕ) where
