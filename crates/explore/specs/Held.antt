@@ -22,8 +22,8 @@ use Rattle.search.specs.Node.{Node, key, goalCost, dominates}
 use Rattle.search.specs.Explore.{Search, Reason, finished, tableFull, budgetSpent, Stopped, Turn, on, full, offer, turn, Expanded, through, filled, expand}
 use Rattle.search.specs.Explore.Laws.{Base}
 use Rattle.search.specs.Made.{Made}
+use Rattle.rows.specs.Row.{nodeIn, nodesIn, nodeWith}
 use Rattle.nodes.specs.Chain.{Chained, Recalled}
-use Rattle.nodes.specs.Row.{nodeIn, nodesIn, nodeWith}
 use Rattle.explore.specs.declared.Run.{Run}
 use Rattle.explore.specs.declared.Turned.{Turned}
 use Rattle.explore.specs.declared.Stop.{Stop}

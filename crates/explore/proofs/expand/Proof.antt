@@ -9,10 +9,10 @@ use Rattle.task.specs.declared.Centre.{Centre}
 use Rattle.layer.specs.Board.{Board, rowOn}
 use Rattle.layer.specs.Lent.{boardOf}
 use Rattle.mets.specs.Known.{firsts-asks, known-asks, asks-known, asks-mets}
-use Rattle.nodes.specs.Chain.{signOf}
-use Rattle.nodes.specs.Chain.Laws.{class-lt}
-use Rattle.nodes.specs.Row.{nodeIn}
-use Rattle.nodes.specs.Row.Laws.{row-in}
+use Rattle.rows.specs.Row.{nodeIn}
+use Rattle.rows.specs.Row.Laws.{row-in}
+use Rattle.rows.specs.Sign.{signOf}
+use Rattle.rows.specs.Sign.Laws.{class-lt}
 use Rattle.explore.specs.Held.{Has}
 use Rattle.explore.specs.Held.Laws.{row-has, cut}
 use borrow.Author.Needs.{needs}

@@ -30,10 +30,10 @@ use Rattle.search.specs.Begin.{beginPrices, beginNode, begin-on, settled-next, 
 use Rattle.search.specs.Explore.{Search, nodeAt, belowBest, keep, on, full, offer, turn, through, filled, expand}
 use Rattle.search.specs.Explore.Laws.{Base}
 use Rattle.search.specs.Explore.Turns.{turn-on}
+use Rattle.rows.specs.Row.{nodeIn, nodeWith}
+use Rattle.rows.specs.Scan.{keyBy, goalCostBy}
 use Rattle.nodes.specs.Chain.{Chained, Recalled}
 use Rattle.nodes.specs.Chain.Laws.{recalled-none, chained-recalled}
-use Rattle.nodes.specs.Row.{nodeIn, nodeWith}
-use Rattle.nodes.specs.Scan.{keyBy, goalCostBy}
 use Rattle.explore.specs.declared.Run.{Run}
 use Rattle.explore.specs.declared.Turned.{Turned}
 use Rattle.explore.specs.Still.{key-rises}
