@@ -28,9 +28,9 @@ use Rattle.price.specs.Sums.{sum-le}
 use Rattle.search.specs.Node.{Node, nextNode, leastOf, key}
 use Rattle.search.specs.Node.Laws.{leastOf-le, leastOf-cap, leastOf-ge}
 use Rattle.search.specs.Begin.{beginNode, part-begin, key-begin}
-use Rattle.nodes.specs.Chain.{signOf}
-use Rattle.nodes.specs.Scan.{Cut, keyBy}
-use Rattle.nodes.specs.Scan.Laws.{cut-in}
+use Rattle.rows.specs.Scan.{Cut, keyBy}
+use Rattle.rows.specs.Scan.Laws.{cut-in}
+use Rattle.rows.specs.Sign.{signOf}
 
 -- an action whose moves begin at `from` leaves each state of the first n leaves as it is
 abbrev pub Stays : ℕ → List ℕ → List ℕ → ℕ → Type 0

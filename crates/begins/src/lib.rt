@@ -1,8 +1,8 @@
 // The begin of a layer behind a centre action, and what makes it cheap: actions that leave all leaf states as they are, and actions that are stuck.
 use layer::applies;
 use layer::begin_layer;
-use nodes::key_of;
-use nodes::sign_of;
+use rows::key_of;
+use rows::sign_of;
 use task::Centre;
 use words::copy_words;
 ghost use mathlib.Core.Path.{_≡_};
@@ -12,8 +12,8 @@ ghost use Prim.Native.Nat.{ℕ, _+_, _*_, _≤_, _<_};
 ghost use lib.ListN.{length, getD, take, drop};
 ghost use Rattle.layer.specs.Board.{Sound, beginOn, appliesOn};
 ghost use Rattle.layer.specs.Lent.{boardOf};
-ghost use Rattle.nodes.specs.Chain.{signOf};
-ghost use Rattle.nodes.specs.Scan.{Cut, keyBy};
+ghost use Rattle.rows.specs.Scan.{Cut, keyBy};
+ghost use Rattle.rows.specs.Sign.{signOf};
 ghost use Rattle.begins.specs.Still.{Stays, Still};
 
 // The key and the signature of a layer's begin.

@@ -17,9 +17,9 @@ use Rattle.tables.specs.Tables.{Goals}
 use Rattle.search.specs.Node.{key}
 use Rattle.search.specs.Explore.{Search, Reason, finished, tableFull, budgetSpent, Stopped, full, turn, Expanded, through, filled, expand}
 use Rattle.search.specs.Explore.Laws.{Base}
+use Rattle.rows.specs.Row.{nodeIn}
+use Rattle.rows.specs.Scan.{keyBy}
 use Rattle.nodes.specs.Chain.{Chained}
-use Rattle.nodes.specs.Row.{nodeIn}
-use Rattle.nodes.specs.Scan.{keyBy}
 use Rattle.offers.specs.declared.Run.{Run}
 use Rattle.offers.specs.declared.Turned.{Turned}
 use Rattle.explore.specs.declared.Stop.{Stop}

@@ -9,19 +9,18 @@ pub mod Back
 pub mod Laws
 pub mod Walk
 use mathlib.Core.Path.{_≡_}
-use mathlib.Core.Bool.{Bool, cond, true, false, not, _&&_}
+use mathlib.Core.Bool.{Bool, true, false, not, _&&_}
 use mathlib.Core.List.{List}
-use Prim.Native.Nat.{ℕ, zero, suc, _+_, _*_, _/_, _%_, _^_, _≤_, _<_, min}
+use Prim.Native.Nat.{ℕ, zero, suc, _+_, _*_, _/_, _%_, _≤_, _<_, min}
 use lib.Bits.{bitOr}
-use lib.Dec.{ltb, eqb}
+use lib.Dec.{eqb}
 use lib.ListN.{length, getD, set}
 use Rattle.loops.specs.Count.{any}
-use Rattle.task.specs.declared.Centre.{Centre}
-use Rattle.leaf.specs.Price.{mark}
 use Rattle.search.specs.Node.{Node, dominates}
-use Rattle.nodes.specs.Row.{rowIn, nodeIn, packOf, Packed}
+use Rattle.rows.specs.Four.{fourTo}
+use Rattle.rows.specs.Row.{rowIn, nodeIn, Packed}
+use Rattle.rows.specs.Sign.{classOf, signOf}
 use Rattle.nodes.specs.Block.{blockAt, Blocked}
-use Rattle.nodes.specs.Four.{fourTo}
 
 -- the signature of node u
 abbrev pub signAt : List ℕ → ℕ → ℕ
@@ -56,22 +55,9 @@ backLink C = backAt C (λ u. 8192 + u)
 abbrev pub backFurther : List ℕ → ℕ → ℕ → ℕ
 backFurther C k = backAt C (λ u. 16448 + 4 * u + k)
 
--- the class of a centre state, from its four packs; any function of its values below 4,096 is right, only speed depends on it
-unfoldable pub classOf : Centre → ℕ
-classOf c = (packOf c 0 % 4093 + packOf c 8 % 4091 + packOf c 16 % 4079 + packOf c 24 % 4073) % 4096
-
 -- the place of the recent word of a class h and a signature s; any number below 4,096 is right, only speed depends on it
 unfoldable pub slotOf : ℕ → ℕ → ℕ
 slotOf h s = (h * 5 + s % 4093) % 4096
-
--- the signature of the first n prices: bit k % 64 is set where state k is reachable
-unfoldable pub signTo : List ℕ → ℕ → ℕ
-signTo P zero = 0
-signTo P (suc k) = cond (ltb (getD P k mark) mark) (bitOr (signTo P k) (2 ^ (k % 64))) (signTo P k)
-
--- the signature of a node's prices
-abbrev pub signOf : List ℕ → ℕ
-signOf P = signTo P (length P)
 
 -- node n is chained: its key, its signature s, the old head of its class h as its link, and n as the new head
 unfoldable pub chainedTo : List ℕ → ℕ → ℕ → ℕ → ℕ → List ℕ

@@ -1,5 +1,3 @@
-pub mod Four
-pub mod Row
-pub mod Scan
+pub mod Choice
 pub mod Block
 pub mod Chain

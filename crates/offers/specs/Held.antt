@@ -20,9 +20,9 @@ use Rattle.search.specs.Node.{Node, key, goalCost, dominates}
 use Rattle.search.specs.Explore.{Search, Turn, on, full, offer}
 use Rattle.search.specs.Explore.Laws.{Base}
 use Rattle.search.specs.Made.{Made}
+use Rattle.rows.specs.Row.{nodeIn, nodesIn, nodeWith}
+use Rattle.rows.specs.Scan.{keyBy}
 use Rattle.nodes.specs.Chain.{Chained, Recalled}
-use Rattle.nodes.specs.Row.{nodeIn, nodesIn, nodeWith}
-use Rattle.nodes.specs.Scan.{keyBy}
 use Rattle.offers.specs.declared.Run.{Run}
 use Rattle.offers.specs.declared.Turned.{Turned}
 

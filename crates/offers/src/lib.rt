@@ -1,12 +1,12 @@
 // A successor is offered to the search that the lent table holds: dropped, refused for a full table, or settled and kept.
 use edges::settle_edges;
 use mets::mets_of;
-use nodes::class_of;
-use nodes::goal_cost;
 use nodes::is_dominated;
 use nodes::link;
-use nodes::sign_of;
-use nodes::write_row;
+use rows::class_of;
+use rows::goal_cost;
+use rows::sign_of;
+use rows::write_row;
 use task::Centre;
 ghost use mathlib.Core.Path.{_≡_};
 ghost use mathlib.Core.List.{_++_};
@@ -17,9 +17,9 @@ ghost use Rattle.layer.specs.First.{Firsts};
 ghost use Rattle.layer.specs.Lent.{boardOf};
 ghost use Rattle.mets.specs.Known.{Known};
 ghost use Rattle.edges.specs.Edges.{Edges};
-ghost use Rattle.nodes.specs.Chain.{signOf};
-ghost use Rattle.nodes.specs.Row.{nodeWith};
-ghost use Rattle.nodes.specs.Scan.{Cut, goalCostBy};
+ghost use Rattle.rows.specs.Row.{nodeWith};
+ghost use Rattle.rows.specs.Scan.{Cut, goalCostBy};
+ghost use Rattle.rows.specs.Sign.{signOf};
 ghost use Rattle.offers.specs.Held.{Room, Kept, Offered};
 
 // The search beside its table: nodes kept, expansions begun, one more than best's node (0 for none), best's goal cost (the mark for none).

@@ -22,7 +22,7 @@ use Rattle.search.specs.Explore.{Search, nodeAt}
 use Rattle.search.specs.Plan.{begins, backIn, over}
 use Rattle.search.specs.Plan.Real.{Real, node-part, begins-length, begins-cap}
 use Rattle.search.specs.Plan.Stages.{priceIn}
-use Rattle.nodes.specs.Row.Laws.{nodesIn-length, nodesIn-at}
+use Rattle.rows.specs.Row.Laws.{nodesIn-length, nodesIn-at}
 use Rattle.wayback.specs.Steps.{tightBy, depthsBy, originBy, backBy, wayBy}
 use Rattle.wayback.specs.Sources.{depths-bound}
 use Rattle.wayback.specs.On.{back-on, walkable-on}

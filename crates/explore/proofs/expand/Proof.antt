@@ -7,9 +7,9 @@ use lib.ListN.{length, length-take, length-drop}
 use Rattle.layer.specs.Board.{Board, rowOn}
 use Rattle.layer.specs.Lent.{boardOf}
 use Rattle.mets.specs.Known.{firsts-asks, known-asks, asks-known, asks-mets}
-use Rattle.nodes.specs.Chain.{signOf}
-use Rattle.nodes.specs.Chain.Laws.{class-lt}
-use Rattle.nodes.specs.Row.Laws.{row-in}
+use Rattle.rows.specs.Row.Laws.{row-in}
+use Rattle.rows.specs.Sign.{signOf}
+use Rattle.rows.specs.Sign.Laws.{class-lt}
 use Rattle.offers.specs.Held.Laws.{row-has}
 use borrow.Author.Needs.{needs}
 use Rattle.explore.proofs.expand.Statement.{statement}

@@ -12,7 +12,7 @@ use Rattle.layer.specs.Board.{Board, Sound}
 use Rattle.layer.specs.Board.Laws.{row-on}
 use Rattle.layer.specs.Lent.{boardOf}
 use Rattle.tables.specs.Fit.{start-in}
-use Rattle.nodes.specs.Scan.{Cut}
+use Rattle.rows.specs.Scan.{Cut}
 use Rattle.explore.specs.Held.{Suits}
 use Rattle.explore.specs.Held.Start.{sound-cut, tables-suit, start-is}
 use Rattle.explore.proofs.start.Statement.{statement}

@@ -6,7 +6,7 @@ use denote.Ref.{now}
 use lib.ListN.{length, getD, drop}
 use Rattle.layer.specs.Board.{Board, rowOn}
 use Rattle.layer.specs.Lent.{boardOf}
-use Rattle.nodes.specs.Scan.{keyBy}
+use Rattle.rows.specs.Scan.{keyBy}
 use Rattle.begins.specs.Still.{key-more}
 use Rattle.offers.specs.Held.Laws.{cut}
 use Rattle.explore.specs.Held.Turns.{moved-leaf, moved-above, moved-stuck, moved-offered}

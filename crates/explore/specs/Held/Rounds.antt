@@ -23,12 +23,12 @@ use Rattle.search.specs.Explore.{Search, Reason, finished, tableFull, budgetSpe
 use Rattle.search.specs.Explore.Laws.{ones, ones-le, flag-in, Base}
 use Rattle.search.specs.Explore.Rounds.{Holds, holds-start, start-ones, begin-base, round-ones, round-holds}
 use Rattle.search.specs.Explore.Turns.{waits-out, choose-some}
+use Rattle.rows.specs.Row.{nodeIn, nodesIn}
 use Rattle.nodes.specs.Block.{retiredTo}
 use Rattle.nodes.specs.Block.Laws.{retired-length, retired-key}
 use Rattle.nodes.specs.Chain.{Chained}
 use Rattle.nodes.specs.Chain.Laws.{chained-retire}
-use Rattle.nodes.specs.Row.{nodeIn, nodesIn}
-use Rattle.nodes.specs.Scan.{keyOf, chooseBy}
+use Rattle.nodes.specs.Choice.{keyOf, chooseBy}
 use Rattle.offers.specs.declared.Run.{Run}
 use Rattle.offers.specs.declared.Turned.{Turned}
 use Rattle.explore.specs.declared.Round.{Round}

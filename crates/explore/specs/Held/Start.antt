@@ -27,12 +27,12 @@ use Rattle.search.specs.Small.{made-key, made-goal}
 use Rattle.search.specs.Explore.{keep, start}
 use Rattle.search.specs.Explore.Laws.{Base}
 use Rattle.search.specs.Explore.Rounds.{base-none}
+use Rattle.rows.specs.Row.{nodesIn, nodeWith}
+use Rattle.rows.specs.Scan.{Cut, keyBy, goalCostBy}
 use Rattle.nodes.specs.Block.{freshTo}
 use Rattle.nodes.specs.Block.Laws.{fresh-length}
 use Rattle.nodes.specs.Chain.{Chained}
 use Rattle.nodes.specs.Chain.Laws.{chained-fresh}
-use Rattle.nodes.specs.Row.{nodesIn, nodeWith}
-use Rattle.nodes.specs.Scan.{Cut, keyBy, goalCostBy}
 use Rattle.offers.specs.declared.Run.{Run}
 use Rattle.explore.specs.Held.{Suits}
 use Rattle.offers.specs.Held.{searchOf, Cached, Kept}

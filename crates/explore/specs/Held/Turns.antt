@@ -30,8 +30,8 @@ use Rattle.search.specs.Begin.{beginPrices, beginNode, begin-on, settled-next, 
 use Rattle.search.specs.Explore.{Search, nodeAt, belowBest, on, full, offer, turn, through, filled, expand}
 use Rattle.search.specs.Explore.Laws.{Base}
 use Rattle.search.specs.Explore.Turns.{turn-on}
-use Rattle.nodes.specs.Row.{nodeIn}
-use Rattle.nodes.specs.Scan.{keyBy}
+use Rattle.rows.specs.Row.{nodeIn}
+use Rattle.rows.specs.Scan.{keyBy}
 use Rattle.offers.specs.declared.Run.{Run}
 use Rattle.offers.specs.declared.Turned.{Turned}
 use Rattle.begins.specs.Still.{key-rises}

@@ -3,8 +3,8 @@ use mathlib.Core.Path.{_≡_, sym, ap, _∙_}
 use Prim.Native.Nat.{ℕ, suc, _+_, _-_, _*_, _/_, _<_}
 use native.Mathlib.Omega.{arith}
 use borrow.Author.Needs.{needs}
-use Rattle.nodes.specs.Scan.{chooseBy}
-use Rattle.nodes.specs.Scan.Laws.{choose-most}
+use Rattle.nodes.specs.Choice.{chooseBy}
+use Rattle.nodes.specs.Choice.Laws.{choose-most}
 use Rattle.nodes.specs.Block.{blockWords, blockEnd, blockOf}
 use Rattle.nodes.specs.Block.Laws.{blocks-none, blocks-chosen}
 use Rattle.nodes.proofs.choose.Statement.{statement}

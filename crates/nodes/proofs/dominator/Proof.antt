@@ -5,9 +5,10 @@ use native.Mathlib.Omega.{arith}
 use lib.ListN.{getD, take}
 use borrow.Author.Needs.{needs}
 use Rattle.search.specs.Node.{Node}
-use Rattle.nodes.specs.Row.{nodeIn, nodeWith, Tested}
-use Rattle.nodes.specs.Row.Laws.{row-in}
-use Rattle.nodes.specs.Chain.Laws.{class-lt, slot-lt}
+use Rattle.rows.specs.Row.{nodeIn, nodeWith, Tested}
+use Rattle.rows.specs.Row.Laws.{row-in}
+use Rattle.rows.specs.Sign.Laws.{class-lt}
+use Rattle.nodes.specs.Chain.Laws.{slot-lt}
 use Rattle.nodes.specs.Chain.Walk.{dominator-found}
 use Rattle.nodes.proofs.dominator.Statement.{statement}
 use Rattle.nodes.proofs.dominator.Tie as tie

@@ -7,8 +7,9 @@ use lib.ListN.{take}
 use borrow.Author.Needs.{needs}
 use Rattle.loops.specs.Count.{any}
 use Rattle.search.specs.Node.{Node, dominates}
-use Rattle.nodes.specs.Row.{nodeIn, nodeWith}
-use Rattle.nodes.specs.Chain.Laws.{class-lt, slot-lt, recalled-none, recalled-set}
+use Rattle.rows.specs.Row.{nodeIn, nodeWith}
+use Rattle.rows.specs.Sign.Laws.{class-lt}
+use Rattle.nodes.specs.Chain.Laws.{slot-lt, recalled-none, recalled-set}
 use Rattle.nodes.specs.Chain.Walk.{dominator-some}
 use Rattle.nodes.proofs.is_dominated.Statement.{statement}
 use Rattle.nodes.proofs.is_dominated.Tie as tie

@@ -2,8 +2,8 @@
 use native.Mathlib.Omega.{arith}
 use lib.ListN.{length-set}
 use borrow.Author.Needs.{needs}
+use Rattle.rows.specs.Four.{fourTo}
 use Rattle.nodes.specs.Chain.{furtherTo}
-use Rattle.nodes.specs.Four.{fourTo}
 use Rattle.nodes.proofs.link_further.Statement.{statement}
 use Rattle.nodes.proofs.link_further.Tie as tie
 

@@ -4,8 +4,8 @@ use mathlib.Core.Logic.{⊎-elim}
 use Prim.Native.Nat.{_-_, _≤_}
 use native.Mathlib.Omega.{arith}
 use borrow.Author.Needs.{needs}
-use Rattle.nodes.specs.Scan.{keyOf, chooseBy}
-use Rattle.nodes.specs.Scan.Laws.{choose-here, choose-kept, key-next}
+use Rattle.nodes.specs.Choice.{keyOf, chooseBy}
+use Rattle.nodes.specs.Choice.Laws.{choose-here, choose-kept, key-next}
 use Rattle.nodes.proofs.pick.Statement.{statement}
 use Rattle.nodes.proofs.pick.Tie as tie
 

@@ -1,6 +1,6 @@
 -- `nodes::test_at` meets its contract: the row is that of the node. Assumes nothing.
 use borrow.Author.Needs.{needs}
-use Rattle.nodes.specs.Row.Laws.{row-lent}
+use Rattle.rows.specs.Row.Laws.{row-lent}
 use Rattle.nodes.proofs.test_at.Statement.{statement}
 use Rattle.nodes.proofs.test_at.Tie as tie
 

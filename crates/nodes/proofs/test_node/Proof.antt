@@ -5,8 +5,9 @@ use lib.Bits.{bitOr}
 use lib.ListN.{take}
 use lib.Seq.{length-take-le}
 use borrow.Author.Needs.{needs}
-use Rattle.nodes.specs.Row.{nodeIn, nodeWith}
-use Rattle.nodes.specs.Chain.Laws.{other-sign, prices-length}
+use Rattle.rows.specs.Row.{nodeIn, nodeWith}
+use Rattle.rows.specs.Row.Laws.{prices-length}
+use Rattle.rows.specs.Sign.Laws.{other-sign}
 use Rattle.nodes.proofs.test_node.Statement.{statement}
 use Rattle.nodes.proofs.test_node.Tie as tie
 

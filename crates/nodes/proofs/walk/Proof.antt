@@ -9,10 +9,11 @@ use lib.Seq.{length-take-le}
 use borrow.Author.Needs.{needs}
 use Rattle.loops.specs.Count.Laws.{told}
 use Rattle.search.specs.Node.{Node}
-use Rattle.nodes.specs.Row.{nodeIn, nodeWith, Tested}
-use Rattle.nodes.specs.Row.Laws.{row-in}
-use Rattle.nodes.specs.Chain.{signOf, allLack, Walked}
-use Rattle.nodes.specs.Chain.Laws.{class-lt}
+use Rattle.rows.specs.Row.{nodeIn, nodeWith, Tested}
+use Rattle.rows.specs.Row.Laws.{row-in}
+use Rattle.rows.specs.Sign.{signOf}
+use Rattle.rows.specs.Sign.Laws.{class-lt}
+use Rattle.nodes.specs.Chain.{allLack, Walked}
 use Rattle.nodes.specs.Chain.Walk.{walk-start, walk-more, walk-jump, jump-le, dominator-none, dominator-found}
 use Rattle.nodes.proofs.walk.Statement.{statement}
 use Rattle.nodes.proofs.walk.Tie as tie

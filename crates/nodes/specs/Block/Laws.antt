@@ -14,8 +14,8 @@ use Rattle.leaf.specs.Price.{mark}
 use Rattle.leaf.specs.Settle.Turns.{at-any}
 use Rattle.search.specs.Node.{leastOf}
 use Rattle.search.specs.Node.Laws.{leastOf-le}
-use Rattle.nodes.specs.Scan.{chooseBy, Picked, Choice}
-use Rattle.nodes.specs.Scan.Laws.{choose-cases, choose-none, choose-first}
+use Rattle.nodes.specs.Choice.{chooseBy, Picked, Choice}
+use Rattle.nodes.specs.Choice.Laws.{choose-cases, choose-none, choose-first}
 use Rattle.nodes.specs.Block.{blockAt, blockWords, blockEnd, blockOf, Held, Blocked, freshTo, retiredTo}
 
 -- ---- the keys of a block

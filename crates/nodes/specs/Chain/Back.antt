@@ -6,7 +6,7 @@ use Prim.Native.Nat.{ℕ, zero, suc, _+_, _-_, _*_, _%_, _≤_, _<_}
 use native.Mathlib.Omega.{arith}
 use lib.ListN.{length, getD}
 use Rattle.loops.specs.Count.Laws.{below-cases}
-use Rattle.nodes.specs.Four.{four-length, four-other, four-first, four-second, four-third, four-fourth}
+use Rattle.rows.specs.Four.{four-length, four-other, four-first, four-second, four-third, four-fourth}
 use Rattle.nodes.specs.Chain.{signAt, linkAt, furtherAt, backAt, backSign, backLink, backFurther, furtherTo, Further}
 
 -- ---- the node of a link

@@ -12,11 +12,12 @@ use lib.ListN.{length}
 use Rattle.loops.specs.Count.{any}
 use Rattle.loops.specs.Count.Laws.{and-out, any-in, any-out, test-cases}
 use Rattle.search.specs.Node.{Node, dominates}
-use Rattle.nodes.specs.Row.{nodeIn}
-use Rattle.nodes.specs.Row.Laws.{row-in}
-use Rattle.nodes.specs.Chain.{signAt, linkAt, headAt, furtherAt, backAt, backSign, backLink, signOf, classOf, lacking, allLack, Chained, Dominator, Walked}
+use Rattle.rows.specs.Row.{nodeIn}
+use Rattle.rows.specs.Row.Laws.{row-in, prices-length}
+use Rattle.rows.specs.Sign.{signOf, classOf}
+use Rattle.rows.specs.Sign.Laws.{class-lt, other-class, other-sign}
+use Rattle.nodes.specs.Chain.{signAt, linkAt, headAt, furtherAt, backAt, backSign, backLink, lacking, allLack, Chained, Dominator, Walked}
 use Rattle.nodes.specs.Chain.Back.{back-is, back-le}
-use Rattle.nodes.specs.Chain.Laws.{class-lt, other-class, other-sign, prices-length}
 
 -- ---- walks along a chain
 

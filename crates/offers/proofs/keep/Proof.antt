@@ -7,9 +7,9 @@ use lib.ListN.{getD, take}
 use lib.Seq.{length-take-le}
 use borrow.Author.Needs.{needs}
 use Rattle.search.specs.Node.{Node}
-use Rattle.nodes.specs.Chain.Laws.{class-lt}
-use Rattle.nodes.specs.Row.{nodeWith}
-use Rattle.nodes.specs.Scan.{goalCostBy}
+use Rattle.rows.specs.Row.{nodeWith}
+use Rattle.rows.specs.Scan.{goalCostBy}
+use Rattle.rows.specs.Sign.Laws.{class-lt}
 use Rattle.offers.specs.Held.Laws.{kept-best, kept-other}
 use Rattle.offers.proofs.keep.Statement.{statement}
 use Rattle.offers.proofs.keep.Tie as tie

@@ -7,7 +7,7 @@ use denote.Ref.{now}
 use lib.ListN.{length}
 use Rattle.layer.specs.Board.{Board}
 use Rattle.layer.specs.Lent.{boardOf}
-use Rattle.nodes.specs.Chain.Laws.{class-lt}
+use Rattle.rows.specs.Sign.Laws.{class-lt}
 use Rattle.offers.specs.Held.Laws.{rows-fit, cut}
 use Rattle.offers.specs.Held.Offers.{offered-above, offered-dominated, offered-full, offered-kept}
 use borrow.Author.Needs.{needs}

@@ -31,11 +31,12 @@ use Rattle.search.specs.Made.{Made, made-sound}
 use Rattle.search.specs.Small.{made-key, made-goal}
 use Rattle.search.specs.Explore.{nodeAt, belowBest, bestWith, keep}
 use Rattle.search.specs.Explore.Laws.{Base}
-use Rattle.nodes.specs.Chain.{signOf, classOf, linkedTo, Recalled}
+use Rattle.rows.specs.Row.{spotOf, nodeOf, nodeIn, nodesIn, Packed}
+use Rattle.rows.specs.Row.Laws.{row-lent, row-kept, row-written, nodesIn-length, nodesIn-at}
+use Rattle.rows.specs.Scan.{Cut, partBy, goalsBy, keyBy, goalSumBy, goalCostBy}
+use Rattle.rows.specs.Sign.{signOf, classOf}
+use Rattle.nodes.specs.Chain.{linkedTo, Recalled}
 use Rattle.nodes.specs.Chain.Laws.{linked-key, chained-recalled, chained-more}
-use Rattle.nodes.specs.Row.{spotOf, nodeOf, nodeIn, nodesIn, Packed}
-use Rattle.nodes.specs.Row.Laws.{row-lent, row-kept, row-written, nodesIn-length, nodesIn-at}
-use Rattle.nodes.specs.Scan.{Cut, partBy, goalsBy, keyBy, goalSumBy, goalCostBy}
 use Rattle.offers.specs.declared.Run.{Run}
 use Rattle.offers.specs.Held.{searchOf, Cached, Scans, Room, Has, keptRun, Kept}
 

@@ -18,8 +18,8 @@ use Rattle.search.specs.Explore.Rounds.{explored-base}
 use Rattle.search.specs.Plan.{planOf}
 use Rattle.search.specs.Plan.Real.{Real}
 use Rattle.search.specs.Plan.Found.{explored-real}
-use Rattle.nodes.specs.Row.{nodeIn, nodesIn}
-use Rattle.nodes.specs.Row.Laws.{nodesIn-length, nodesIn-at}
+use Rattle.rows.specs.Row.{nodeIn, nodesIn}
+use Rattle.rows.specs.Row.Laws.{nodesIn-length, nodesIn-at}
 use Rattle.offers.specs.declared.Run.{Run}
 use Rattle.explore.specs.declared.Stop.{Stop}
 use Rattle.explore.specs.declared.Why.the-variants.{Finished, TableFull as FullTable, BudgetSpent as SpentBudget}

@@ -12,7 +12,7 @@ use Rattle.layer.specs.Board.Laws.{row-on}
 use Rattle.layer.specs.Lent.{boardOf}
 use Rattle.search.specs.Plan.Backwards.{planBack}
 use Rattle.search.specs.Plan.Laid.{laid}
-use Rattle.nodes.specs.Row.{nodeIn}
+use Rattle.rows.specs.Row.{nodeIn}
 use Rattle.plans.specs.Walk.{heldIn, Roomy, Standing}
 use Rattle.plans.specs.Fit.{Grounds, searchOn, grounds-on, standing-on}
 use Rattle.plans.specs.Steps.{Priced, walks, lands, Along, along-none, along-more, along-few, along-end}

@@ -1,0 +1,4 @@
+pub mod Four
+pub mod Row
+pub mod Scan
+pub mod Sign
