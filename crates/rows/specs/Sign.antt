@@ -2,7 +2,7 @@
 pub mod Laws
 use mathlib.Core.Bool.{cond}
 use mathlib.Core.List.{List}
-use Prim.Native.Nat.{ℕ, zero, suc, _+_, _%_, _^_}
+use Prim.Native.Nat.{ℕ, zero, suc, _+_, _*_, _/_, _%_, _^_}
 use lib.Bits.{bitOr}
 use lib.Dec.{ltb}
 use lib.ListN.{length, getD}
@@ -14,11 +14,15 @@ use Rattle.rows.specs.Row.{packOf}
 unfoldable pub classOf : Centre → ℕ
 classOf c = (packOf c 0 % 4093 + packOf c 8 % 4091 + packOf c 16 % 4079 + packOf c 24 % 4073) % 4096
 
--- the signature of the first n prices: bit k % 64 is set where state k is reachable
-unfoldable pub signTo : List ℕ → ℕ → ℕ
-signTo P zero = 0
-signTo P (suc k) = cond (ltb (getD P k mark) mark) (bitOr (signTo P k) (2 ^ (k % 64))) (signTo P k)
+-- the signature of the first n states looked at: bit k % 64 is set where state k * step is reachable
+unfoldable pub signTo : ℕ → List ℕ → ℕ → ℕ
+signTo step P zero = 0
+signTo step P (suc k) = cond (ltb (getD P (k * step) mark) mark) (bitOr (signTo step P k) (2 ^ (k % 64))) (signTo step P k)
 
--- the signature of a node's prices
-abbrev pub signOf : List ℕ → ℕ
-signOf P = signTo P (length P)
+-- every so many states one is looked at, of n states: each where there are fewer than 128
+unfoldable pub strideOf : ℕ → ℕ
+strideOf n = cond (ltb n 64) 1 (n / 64)
+
+-- the signature of a node's prices; any states may be looked at, only speed depends on which
+unfoldable pub signOf : List ℕ → ℕ
+signOf P = signTo (strideOf (length P)) P (length P / strideOf (length P))

@@ -14,7 +14,7 @@ ghost use Rattle.search.specs.Node.{leastOf};
 ghost use Rattle.rows.specs.Four.{fourTo};
 ghost use Rattle.rows.specs.Row.{spotOf, nodeOf, nodeWith, packOf, Packed, NotAbove, Above, Tested};
 ghost use Rattle.rows.specs.Scan.{Cut, goalsBy, keyBy, goalSumBy, goalCostBy};
-ghost use Rattle.rows.specs.Sign.{classOf, signOf};
+ghost use Rattle.rows.specs.Sign.{classOf, strideOf, signOf};
 
 // ---- prices
 
@@ -98,13 +98,25 @@ pub fn goal_cost(
     goal_sum(leaves, bases, goals, paid, prices)
 }
 
-// The signature of the prices: a bit for each reachable state, the same for every 64th.
+// Every so many states one is looked at for the signature: each where there are fewer than 128.
+fn stride(states: usize) -> usize
+    ensures { λ r. ⌜ r ≡ strideOf states ⌝ }
+{
+    if states < 64 {
+        return 1;
+    }
+    states / 64
+}
+
+// The signature of the prices: a bit for each reachable state that is looked at, the same for every 64th.
 pub fn sign_of(prices: &[u64]) -> u64
     ensures { λ r. ⌜ r ≡ signOf (now (prices .entry)) ⌝ }
 {
+    let step = stride(prices.len());
+    let count = prices.len() / step;
     let mut sign = 0;
-    for k in 0..prices.len() {
-        if prices[k] < MARK {
+    for k in 0..count {
+        if prices[k * step] < MARK {
             sign = sign | (1 << (k % 64));
         }
     }

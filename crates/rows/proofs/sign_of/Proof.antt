@@ -1,38 +1,58 @@
--- `rows::sign_of` meets its contract. The invariant: `sign` is the signature of the prices so far. Assumes nothing.
+-- `rows::sign_of` meets its contract. The invariant: `sign` is the signature of the states looked at so far. Assumes nothing.
 use mathlib.Core.Path.{_≡_, refl, sym, _∙_}
 use mathlib.Core.Logic.{⊎-elim}
-use Prim.Native.Nat.{_-_, _≤_}
+use Prim.Native.Nat.{_+_, _*_, _/_, _-_, _≤_, _<_}
+use native.Mathlib.Nat.{div-le-self}
 use native.Mathlib.Omega.{arith}
 use lib.ListN.{length}
 use borrow.Author.Needs.{needs}
 use Rattle.leaf.specs.Price.{mark}
 use Rattle.leaf.specs.Settle.Turns.{at-any}
-use Rattle.rows.specs.Sign.{signTo}
-use Rattle.rows.specs.Sign.Laws.{one-bit, sign-here, sign-kept}
+use Rattle.rows.specs.Sign.{strideOf, signTo, signOf}
+use Rattle.rows.specs.Sign.Laws.{one-bit, stride-some, look-in, sign-here, sign-kept}
 use Rattle.rows.proofs.sign_of.Statement.{statement}
 use Rattle.rows.proofs.sign_of.Tie as tie
 
 abbrev Inv-loop : tie.InvT-loop
-Inv-loop prices sign₀ k₀ k-end sign k = (k-end ≡ length prices) × (k ≤ k-end) × (sign ≡ signTo prices k)
+Inv-loop prices step count sign₀ k₀ sign k =
+    (step ≡ strideOf (length prices)) × (count ≡ length prices / step) × (k ≤ count) × (sign ≡ signTo step prices k)
 
 abbrev μ-loop : tie.MeasureT-loop
-μ-loop prices sign₀ k₀ k-end sign k = k-end - k
+μ-loop prices step count sign₀ k₀ sign k = count - k
+
+stride-requires : tie.Need-stride-requires Inv-loop μ-loop
+stride-requires c κs = search needs
+
+div-count : tie.Need-div-count Inv-loop μ-loop
+div-count c = rw (c .stride .ensures) (stride-some (length (c .before .before .args .prices .now)))
 
 loop-holds : tie.Need-loop-holds Inv-loop μ-loop
 unfolding signTo
-loop-holds c = (refl, omega arith, refl)
+loop-holds c = (c .stride .ensures, refl, omega arith, refl)
+
+-- the state that is looked at is one of all
+inside : (c : tie.In-loop Inv-loop μ-loop) → let n = length (c .before .before .before .before .args .prices .now) in
+    (c .before .loop .k * c .before .before .stride .result < n) × (c .before .loop .k < n)
+inside c =
+    let n = length (c .before .before .before .before .args .prices .now) in
+    let step = c .before .before .stride .result in
+    let some : 1 ≤ step = rw (c .before .loop .inv .0) (stride-some n) in
+    (look-in n step (c .before .loop .k) some (c .loop-test .taken), omega (arith, c .loop-test .taken, div-le-self n step))
 
 mul-if1 : tie.Need-mul-if1 Inv-loop μ-loop
-mul-if1 c = search needs
+mul-if1 c = omega (arith, c .before .before .before .before .good, inside c)
+
+mul-if1-2 : tie.Need-mul-if1-2 Inv-loop μ-loop
+mul-if1-2 c = omega (arith, c .before .before .before .before .good, inside c)
 
 shared-slice-read-if1 : tie.Need-shared-slice-read-if1 Inv-loop μ-loop
-shared-slice-read-if1 c = search needs
+shared-slice-read-if1 c = inside (c .before) .0
 
 shl-sign : tie.Need-shl-sign Inv-loop μ-loop
 shl-sign c = search needs
 
 add-k : tie.Need-add-k Inv-loop μ-loop
-add-k c = search needs
+add-k c = omega (arith, c .before .before .before .before .before .before .good, inside (c .before .before))
 
 loop-less : tie.Need-loop-less Inv-loop μ-loop
 loop-less c = search needs
@@ -40,22 +60,27 @@ loop-less c = search needs
 loop-again : tie.Need-loop-again Inv-loop μ-loop
 loop-again c =
     let l = c .before .before .before .loop in
-    let P = c .before .before .before .before .args .prices .now in
-    let here = at-any P (l .k) mark 0 (omega arith) in
+    let P = c .before .before .before .before .before .before .args .prices .now in
+    let step = c .before .before .before .before .stride .result in
+    let here = at-any P (l .k * step) mark 0 (inside (c .before .before) .0) in
+    let more : l .k + 1 ≤ length P / step = omega (arith, c .before .before .loop-test .taken) in
     ⊎-elim
     (λ w.
-    let more = sign-here P (l .k) (omega (arith, here, w .0 .taken)) in
-    (refl, omega arith, w .1 ∙ cc (one-bit (l .k), l .inv .2, more)))
+    let more-sign = sign-here step P (l .k) (omega (arith, here, w .0 .taken)) in
+    (l .inv .0, refl, omega arith, w .1 ∙ cc (one-bit (l .k), l .inv .3, more-sign)))
     (λ w.
-    let kept = sign-kept P (l .k) (omega (arith, here, w .0 .left)) in
-    (refl, omega arith, w .1 ∙ l .inv .2 ∙ sym kept))
+    let kept = sign-kept step P (l .k) (omega (arith, here, w .0 .left)) in
+    (l .inv .0, refl, omega arith, w .1 ∙ l .inv .3 ∙ sym kept))
     (c .if1 .came)
 
 returns : tie.Need-returns Inv-loop μ-loop
+unfolding signOf
 returns c =
     let l = c .before .loop in
-    let all : l .k ≡ length (c .before .before .args .prices .now) = omega arith in
-    l .inv .2 ∙ rw all
+    let P = c .before .before .before .before .args .prices .now in
+    let step = c .before .before .stride .result in
+    let all : l .k ≡ length P / step = omega (arith, c .loop-test .left, l .inv .2) in
+    l .inv .3 ∙ rw (all, l .inv .0)
 
 pub sign-of-spec : {M : Type 1} → statement M
 sign-of-spec =
@@ -63,8 +88,11 @@ sign-of-spec =
     (tie.spec
     Inv-loop
     μ-loop
+    stride-requires
+    div-count
     loop-holds
     mul-if1
+    mul-if1-2
     shared-slice-read-if1
     shl-sign
     add-k

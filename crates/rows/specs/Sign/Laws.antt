@@ -1,17 +1,17 @@
 -- Laws of classes and signatures: a node of another class, or whose signature lacks a bit, does not dominate. Assumes nothing.
 use mathlib.Core.Path.{_≡_, refl, sym, ap, ap₂, _∙_}
 use mathlib.Core.Logic.{_⊎_, inl, inr}
-use mathlib.Core.Bool.{true, false}
+use mathlib.Core.Bool.{true, false, cond}
 use mathlib.Core.List.{List}
 use Prim.Native.Nat.{ℕ, zero, suc, _+_, _*_, _/_, _%_, _^_, _≤_, _<_, max}
-use native.Mathlib.Nat.{one-mul}
+use native.Mathlib.Nat.{one-mul, lt-of-lt-of-le, mul-lt-mul-of-pos-right, div-mul-le-self}
 use native.Mathlib.Numerals.{add-one}
 use native.Mathlib.Omega.{arith}
 use native.Mathlib.Decide.{decLt}
 use borrow.Author.Tests.{lt-ltb, le-ltb, leb-true, eqb-true}
 use lib.Arith.{bin-ind}
 use lib.Bits.{bitOr, or-step, or-comm, or-self}
-use lib.Dec.{leb, eqb, lit<}
+use lib.Dec.{ltb, leb, eqb, lit<}
 use lib.Pow.{shl-exact}
 use lib.ListN.{length, getD}
 use Rattle.loops.specs.Count.{all}
@@ -22,7 +22,7 @@ use Rattle.leaf.specs.Price.{mark}
 use Rattle.search.specs.Node.{Node, dominates}
 use Rattle.rows.specs.Row.{packOf}
 use Rattle.rows.specs.Row.Packs.{pack-same}
-use Rattle.rows.specs.Sign.{classOf, signTo, signOf}
+use Rattle.rows.specs.Sign.{classOf, signTo, strideOf, signOf}
 
 -- ---- bits
 
@@ -62,36 +62,53 @@ one-bit k = shl-exact {a = 1} 1 (k % 64) 64 (lit< tt) (omega arith) ∙ one-mul 
 
 -- ---- signatures
 
--- a turn of the loop: state k is reachable
-pub sign-here : (P : List ℕ) (k : ℕ) → getD P k mark < mark → signTo P (k + 1) ≡ bitOr (signTo P k) (2 ^ (k % 64))
+-- the stride is not 0, and so the states looked at are among all
+pub stride-some : (n : ℕ) → 1 ≤ strideOf n
+unfolding strideOf
+stride-some n = go (decLt n 64)
+  where
+    go : Dec (n < 64) → 1 ≤ cond (ltb n 64) 1 (n / 64)
+    go (yes l) = rw (lt-ltb n 64 l) (omega arith)
+    go (no l) = rw (le-ltb n 64 (omega arith)) (omega arith)
+
+pub look-in : (n step k : ℕ) → 1 ≤ step → k < n / step → k * step < n
+look-in n step k h l = lt-of-lt-of-le (mul-lt-mul-of-pos-right l h) (div-mul-le-self n step)
+
+-- a turn of the loop: the next state is reachable
+pub sign-here : (step : ℕ) (P : List ℕ) (k : ℕ) → getD P (k * step) mark < mark → signTo step P (k + 1) ≡ bitOr (signTo step P k) (2 ^ (k % 64))
 unfolding signTo
-sign-here P k h = rw (add-one, signTo, lt-ltb (getD P k mark) mark h)
+sign-here step P k h = rw (add-one, signTo, lt-ltb (getD P (k * step) mark) mark h)
 
 -- it is not
-pub sign-kept : (P : List ℕ) (k : ℕ) → mark ≤ getD P k mark → signTo P (k + 1) ≡ signTo P k
+pub sign-kept : (step : ℕ) (P : List ℕ) (k : ℕ) → mark ≤ getD P (k * step) mark → signTo step P (k + 1) ≡ signTo step P k
 unfolding signTo
-sign-kept P k h = rw (add-one, signTo, le-ltb (getD P k mark) mark h)
+sign-kept step P k h = rw (add-one, signTo, le-ltb (getD P (k * step) mark) mark h)
 
 -- where no price of P is higher than that of Q, the signature of P has every bit of that of Q
-sign-below : (P Q : List ℕ) (n : ℕ) → ((k : ℕ) → k < n → getD P k mark ≤ getD Q k mark) → bitOr (signTo Q n) (signTo P n) ≡ signTo P n
+sign-below : (step : ℕ) (P Q : List ℕ) (n : ℕ) → ((k : ℕ) → k < n → getD P (k * step) mark ≤ getD Q (k * step) mark)
+    → bitOr (signTo step Q n) (signTo step P n) ≡ signTo step P n
 unfolding signTo
-sign-below P Q zero h = refl
-sign-below P Q (suc n) h =
-    go (decLt (getD Q n mark) mark) (decLt (getD P n mark) mark) (h n (omega arith)) (sign-below P Q n (λ k l. h k (omega arith)))
+sign-below step P Q zero h = refl
+sign-below step P Q (suc n) h =
+    go (decLt (getD Q (n * step) mark) mark) (decLt (getD P (n * step) mark) mark) (h n (omega arith)) (sign-below step P Q n (λ k l. h k (omega arith)))
   where
-    go : Dec (getD Q n mark < mark) → Dec (getD P n mark < mark) → getD P n mark ≤ getD Q n mark → bitOr (signTo Q n) (signTo P n) ≡ signTo P n
-        → bitOr (signTo Q (suc n)) (signTo P (suc n)) ≡ signTo P (suc n)
+    go : Dec (getD Q (n * step) mark < mark) → Dec (getD P (n * step) mark < mark) → getD P (n * step) mark ≤ getD Q (n * step) mark
+        → bitOr (signTo step Q n) (signTo step P n) ≡ signTo step P n
+        → bitOr (signTo step Q (suc n)) (signTo step P (suc n)) ≡ signTo step P (suc n)
     go (yes q) (yes p) l e =
-        rw (lt-ltb (getD Q n mark) mark q, lt-ltb (getD P n mark) mark p) (or-both (signTo Q n) (signTo P n) (2 ^ (n % 64)) e)
+        rw (lt-ltb (getD Q (n * step) mark) mark q, lt-ltb (getD P (n * step) mark) mark p) (or-both (signTo step Q n) (signTo step P n) (2 ^ (n % 64)) e)
     go (yes q) (no p) l e = absurd (omega arith)
     go (no q) (yes p) l e =
-        rw (le-ltb (getD Q n mark) mark (omega arith), lt-ltb (getD P n mark) mark p) (or-more (signTo Q n) (signTo P n) (2 ^ (n % 64)) e)
-    go (no q) (no p) l e = rw (le-ltb (getD Q n mark) mark (omega arith), le-ltb (getD P n mark) mark (omega arith)) e
+        rw (le-ltb (getD Q (n * step) mark) mark (omega arith), lt-ltb (getD P (n * step) mark) mark p) (or-more (signTo step Q n) (signTo step P n) (2 ^ (n % 64)) e)
+    go (no q) (no p) l e = rw (le-ltb (getD Q (n * step) mark) mark (omega arith), le-ltb (getD P (n * step) mark) mark (omega arith)) e
 
 -- the same of two lists of one length
 pub sign-within : (P Q : List ℕ) → length P ≡ length Q → ((k : ℕ) → k < length Q → getD P k mark ≤ getD Q k mark)
     → bitOr (signOf Q) (signOf P) ≡ signOf P
-sign-within P Q e h = rw e (sign-below P Q (length Q) h)
+unfolding signOf
+sign-within P Q e h =
+    let step = strideOf (length Q) in
+    rw e (sign-below step P Q (length Q / step) (λ k l. h (k * step) (look-in (length Q) step k (stride-some (length Q)) l)))
 
 -- ---- classes
 
