@@ -46,7 +46,7 @@ fn pair_too(holds: bool, factor: u8, pair: u8, value: u8) -> bool
 }
 
 // Whether the centre conditions of an action hold. All 32 are looked at, so that no turn waits for a test.
-fn is_met(factors: [u8; 32], conditions: &[u8], centre: Centre, action: usize) -> bool
+pub fn is_met(factors: [u8; 32], conditions: &[u8], centre: Centre, action: usize) -> bool
     requires { ⌜ action * 32 + 32 ≤ length (now conditions) ⌝ }
     ensures { λ r. ⌜ r ≡ metOn (testsOf [] factors (now (conditions .entry))) centre action ⌝ }
 {

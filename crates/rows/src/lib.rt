@@ -1,4 +1,5 @@
 // Rows of nodes in the lent table, and what is read from prices: keys, goal costs, signatures, whether one node dominates another.
+use layer::is_met;
 use leaf::MARK;
 use leaf::add_price;
 use task::Centre;
@@ -92,7 +93,7 @@ pub fn goal_cost(
     requires { ⌜ Cut leaves (now bases) (length (now prices)) × Cut leaves (now bases) (length (now goals)) ⌝ }
     ensures { λ r. ⌜ r ≡ goalCostBy leaves (now (bases .entry)) (now (goals .entry)) factors goal spot paid (now (prices .entry)) ⌝ }
 {
-    if !spot.meets(factors, goal) {
+    if !is_met(factors, &goal, spot, 0) {
         return MARK;
     }
     goal_sum(leaves, bases, goals, paid, prices)

@@ -2,7 +2,7 @@
 use mathlib.Core.Path.{_≡_}
 use mathlib.Core.Bool.{cond}
 use mathlib.Core.List.{List, [], _∷_, _++_}
-use Prim.Native.Nat.{ℕ, zero, suc, _+_, _≤_, _<_, min}
+use Prim.Native.Nat.{ℕ, zero, suc, _+_, _*_, _≤_, _<_, min}
 use native.Mathlib.Numerals.{add-one}
 use native.Mathlib.Omega.{arith}
 use native.Mathlib.Decide.{ℕ-discrete}
@@ -11,9 +11,14 @@ use lib.Dec.{eqb}
 use lib.ListN.{length, getD, take}
 use lib.Seq.{take-suc}
 use Rattle.loops.specs.Count.{list, sum}
-use Rattle.loops.specs.Count.Laws.{sum-more}
+use Rattle.loops.specs.Count.Laws.{all-ext, sum-more}
+use Rattle.task.specs.declared.Centre.{Centre}
+use Rattle.task.specs.Factors.{holdsIn}
+use Rattle.task.specs.Centre.{centreMeets}
 use Rattle.leaf.specs.Price.{mark}
 use Rattle.leaf.specs.Settle.Turns.{at-any}
+use Rattle.layer.specs.Board.{metOn}
+use Rattle.layer.specs.Lent.{testsOf}
 use Rattle.search.specs.Node.{leastOf}
 use Rattle.rows.specs.Scan.{Cut}
 
@@ -82,3 +87,8 @@ sum-up f n (suc m) h = go (ℕ-discrete n (suc m)) (sum-up f n m)
 -- a sum that is the mark stays the mark
 pub capped-full : (n m : ℕ) (f : ℕ → ℕ) (paid k : ℕ) → n < m → mark ≤ k → k ≡ min (paid + sum (n + 1) f) mark → mark ≡ min (paid + sum m f) mark
 capped-full n m f paid k l h e = omega (arith, sum-up f (n + 1) m (omega arith))
+
+-- the goal's centre pairs as the conditions of a single action
+pub goal-met : (factors goal : List ℕ) (c : Centre) → metOn (testsOf [] factors goal) c 0 ≡ centreMeets (λ v. getD factors v 0) (λ v. getD goal v 0) c
+unfolding centreMeets holdsIn
+goal-met factors goal c = all-ext 32 _ _ (λ v l. let z : 0 * 32 + v ≡ v = omega arith in rw z)
