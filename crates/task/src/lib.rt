@@ -1,11 +1,10 @@
 // The task as the reader hands it over, and the centre state. What a task means stands in specs/: Meaning first, then Factors.
 ghost use mathlib.Core.Path.{_≡_};
-ghost use mathlib.Core.Bool.{cond, not, _&&_, _||_};
+ghost use mathlib.Core.Bool.{cond, _&&_};
 ghost use lib.Dec.{eqb};
 ghost use lib.ListN.{getD};
-ghost use Rattle.task.specs.Meaning.{met};
 ghost use Rattle.task.specs.Factors.{named};
-ghost use Rattle.task.specs.Centre.{blankCentre, centreAfter, centreMeets};
+ghost use Rattle.task.specs.Centre.{blankCentre, centreAfter};
 
 // In a condition, an effect or the goal: the variable is not named. No value is 16.
 pub const FREE: u8 = 16;
@@ -43,19 +42,6 @@ fn next_value(factor: u8, effect: u8, value: u8) -> u8
     value
 }
 
-// Whether a pair holds of a variable's value; on a leaf's variable, or where there is no pair, nothing is asked.
-fn pair_holds(factor: u8, pair: u8, value: u8) -> bool
-    ensures { λ r. ⌜ r ≡ (not (eqb factor 0) || met pair value) ⌝ }
-{
-    if factor != 0 {
-        return true;
-    }
-    if pair == FREE {
-        return true;
-    }
-    pair == value
-}
-
 impl Centre {
     // Every entry 0, before any value is set.
     pub fn blank() -> Centre
@@ -72,17 +58,5 @@ impl Centre {
             self.values[v] = next_value(factors[v], effects[v], self.values[v]);
         }
         self
-    }
-
-    // Whether the pairs on centre variables hold.
-    pub fn meets(self, factors: [u8; 32], pairs: [u8; 32]) -> bool
-        ensures { λ r. ⌜ r ≡ centreMeets (λ v. getD factors v 0) (λ v. getD pairs v 0) self ⌝ }
-    {
-        for v in 0..32 {
-            if !pair_holds(factors[v], pairs[v], self.values[v]) {
-                return false;
-            }
-        }
-        true
     }
 }
