@@ -3,7 +3,7 @@ pub mod Laws
 use mathlib.Core.Bool.{cond}
 use mathlib.Core.List.{List}
 use Prim.Native.Nat.{ℕ, zero, suc, _+_, _*_, _/_, _%_, _^_}
-use lib.Bits.{bitOr}
+use lib.Bits.{bitOr, bitXor}
 use lib.Dec.{ltb}
 use lib.ListN.{length, getD}
 use Rattle.task.specs.declared.Centre.{Centre}
@@ -12,7 +12,7 @@ use Rattle.rows.specs.Row.{packOf}
 
 -- the class of a centre state, from its four packs; any function of its values below 4,096 is right, only speed depends on it
 unfoldable pub classOf : Centre → ℕ
-classOf c = (packOf c 0 % 4093 + packOf c 8 % 4091 + packOf c 16 % 4079 + packOf c 24 % 4073) % 4096
+classOf c = bitXor (bitXor (packOf c 0) (packOf c 8)) (bitXor (packOf c 16) (packOf c 24)) % 4093
 
 -- the signature of the first n states looked at: bit k % 64 is set where state k * step is reachable
 unfoldable pub signTo : ℕ → List ℕ → ℕ → ℕ

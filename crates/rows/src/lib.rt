@@ -201,11 +201,9 @@ pub fn write_row(
 pub fn class_of(spot: Centre) -> usize
     ensures { λ r. ⌜ r ≡ classOf spot ⌝ }
 {
-    let first = pack(spot, 0) % 4093;
-    let second = pack(spot, 8) % 4091;
-    let third = pack(spot, 16) % 4079;
-    let fourth = pack(spot, 24) % 4073;
-    ((first + second + third + fourth) % 4096) as usize
+    let low = pack(spot, 0) ^ pack(spot, 8);
+    let high = pack(spot, 16) ^ pack(spot, 24);
+    ((low ^ high) % 4093) as usize
 }
 
 // ---- dominance

@@ -16,15 +16,6 @@ pack-requires-3 c κs = search needs
 pack-requires-4 : tie.Need-pack-requires-4
 pack-requires-4 c κs = search needs
 
-add-result : tie.Need-add-result
-add-result c = search needs
-
-add-result-2 : tie.Need-add-result-2
-add-result-2 c = search needs
-
-add-result-3 : tie.Need-add-result-3
-add-result-3 c = search needs
-
 returns : tie.Need-returns
 unfolding classOf
 returns c = rw (c .before .before .before .pack .ensures, c .before .before .pack2 .ensures, c .before .pack3 .ensures, c .pack4 .ensures)
@@ -37,7 +28,4 @@ class-of-spec =
     pack-requires-2
     pack-requires-3
     pack-requires-4
-    add-result
-    add-result-2
-    add-result-3
     returns)
