@@ -280,7 +280,7 @@ fn some_met(mets: &[u8], acts: &[u8]) -> bool
 }
 
 // The prices of the leaf behind i leaves settle: every state is dirty at first, and sweeps go on as long as a price falls. Where no edge of the leaf
-// has its flag set, the prices are settled as they are.
+// has its flag set, the prices are settled as they are. Whether it was swept.
 fn settle_leaf(
     leaves: usize,
     actions: usize,
@@ -296,27 +296,28 @@ fn settle_leaf(
     centre: Centre,
     i: usize,
     prices: &mut [u64],
-)
+) -> bool
     requires { ⌜ Sound (boardOf leaves actions (now bases) (now moves) (now costs) (now kinds) factors (now conditions))
         × Mets (boardOf leaves actions (now bases) (now moves) (now costs) (now kinds) factors (now conditions)) centre (now mets)
         × Edges (boardOf leaves actions (now bases) (now moves) (now costs) (now kinds) factors (now conditions)) (now edges) (now ends)
         × (i < leaves) × (length (now prices) ≡ getD (now bases) (i + 1) 0 - getD (now bases) i 0) ⌝ }
-    ensures { λ _. ⌜ now (prices .exit) ≡ settleOn (boardOf leaves actions (now (bases .entry)) (now (moves .entry)) (now (costs .entry)) (now (kinds .entry))
-        factors (now (conditions .entry))) i centre (now (prices .entry)) ⌝ }
+    ensures { λ r. ⌜ (now (prices .exit) ≡ settleOn (boardOf leaves actions (now (bases .entry)) (now (moves .entry)) (now (costs .entry)) (now (kinds .entry))
+        factors (now (conditions .entry))) i centre (now (prices .entry))) × (r ≡ false → now (prices .exit) ≡ now (prices .entry)) ⌝ }
 {
     let row = bases[leaves];
     let at = bases[i];
     let from = ends[at];
     let to = ends[bases[i + 1]];
     if !some_met(mets, &edges[from..to]) {
-        return;
+        return false;
     }
     let mut dirty = [1u8; 256];
     while sweep(prices, &mut dirty, moves, row, at, costs, mets, edges, ends) {}
+    true
 }
 
 // The prices at the front of `new` settle along the edges, leaf by leaf; `centre` is the layer's centre state, and `mets` flags the actions whose
-// centre conditions hold there.
+// centre conditions hold there. Whether a leaf was swept: else all is as it was.
 pub fn settle_edges(
     leaves: usize,
     actions: usize,
@@ -331,18 +332,20 @@ pub fn settle_edges(
     ends: &[usize],
     centre: Centre,
     new: &mut [u64],
-)
+) -> bool
     requires { ⌜ Sound (boardOf leaves actions (now bases) (now moves) (now costs) (now kinds) factors (now conditions))
         × Mets (boardOf leaves actions (now bases) (now moves) (now costs) (now kinds) factors (now conditions)) centre (now mets)
         × Edges (boardOf leaves actions (now bases) (now moves) (now costs) (now kinds) factors (now conditions)) (now edges) (now ends)
         × (getD (now bases) leaves 0 ≤ length (now new)) ⌝ }
-    ensures { λ _. ⌜ now (new .exit) ≡ settledOn (boardOf leaves actions (now (bases .entry)) (now (moves .entry)) (now (costs .entry)) (now (kinds .entry))
-        factors (now (conditions .entry))) centre (now (new .entry)) ++ drop (getD (now (bases .entry)) leaves 0) (now (new .entry)) ⌝ }
+    ensures { λ r. ⌜ (now (new .exit) ≡ settledOn (boardOf leaves actions (now (bases .entry)) (now (moves .entry)) (now (costs .entry)) (now (kinds .entry))
+        factors (now (conditions .entry))) centre (now (new .entry)) ++ drop (getD (now (bases .entry)) leaves 0) (now (new .entry)))
+        × (r ≡ false → now (new .exit) ≡ now (new .entry)) ⌝ }
 {
+    let mut swept = false;
     for i in 0..leaves {
         let from = bases[i];
         let to = bases[i + 1];
-        settle_leaf(
+        let one = settle_leaf(
             leaves,
             actions,
             bases,
@@ -358,5 +361,7 @@ pub fn settle_edges(
             i,
             &mut new[from..to],
         );
+        swept = swept | one;
     }
+    swept
 }

@@ -441,6 +441,8 @@ fn start(
         0,
         0,
         key,
+        0,
+        true,
         &prices,
         table,
         scan,

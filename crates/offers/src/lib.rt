@@ -9,6 +9,7 @@ use rows::sign_of;
 use rows::write_row;
 use task::Centre;
 ghost use mathlib.Core.Path.{_≡_};
+ghost use mathlib.Core.Bool.{false};
 ghost use mathlib.Core.List.{_++_};
 ghost use Prim.Native.Nat.{_+_, _*_, _≤_, _<_};
 ghost use lib.ListN.{length, getD, take, drop};
@@ -36,7 +37,19 @@ pub struct Turned {
     pub run: Run,
 }
 
-// A node under the next number: its row, its scan words (key, signature, links), and the new best.
+// The signature of a layer whose begin has the signature `sign`: the same where no leaf was swept.
+fn sign_behind(swept: bool, sign: u64, prices: &[u64]) -> u64
+    requires { ⌜ (swept ≡ false → sign ≡ signOf (now prices)) ⌝ }
+    ensures { λ r. ⌜ r ≡ signOf (now (prices .entry)) ⌝ }
+{
+    if swept {
+        return sign_of(prices);
+    }
+    sign
+}
+
+// A node under the next number: its row, its scan words (key, signature, links), and the new best. `sign` is the signature of its layer's begin, and
+// `swept` whether a leaf was swept since.
 pub fn keep(
     leaves: usize,
     bases: &[usize],
@@ -48,6 +61,8 @@ pub fn keep(
     parent: usize,
     action: usize,
     key: u64,
+    sign: u64,
+    swept: bool,
     prices: &[u64],
     table: &mut [u64],
     scan: &mut [u64],
@@ -56,6 +71,7 @@ pub fn keep(
     requires { ⌜ Cut leaves (now bases) (length (now prices)) × Cut leaves (now bases) (length (now goals)) ⌝ }
     requires { ⌜ (getD (now bases) leaves 0 ≤ 1024) × (run .count < 4096) × ((run .count + 1) * (40 + getD (now bases) leaves 0) ≤ length (now table))
         × (length (now scan) ≡ 36928) ⌝ }
+    requires { ⌜ (swept ≡ false → sign ≡ signOf (take (getD (now bases) leaves 0) (now prices))) ⌝ }
     ensures { λ r. ⌜ Kept (getD (now (bases .entry)) leaves 0) (now (table .entry)) (now (scan .entry)) run
         (nodeWith spot paid (take (getD (now (bases .entry)) leaves 0) (now (prices .entry))) parent action) key
         (goalCostBy leaves (now (bases .entry)) (now (goals .entry)) factors goal spot paid (now (prices .entry)))
@@ -75,9 +91,9 @@ pub fn keep(
         action,
         prices,
     );
-    let sign = sign_of(&prices[..states]);
+    let own = sign_behind(swept, sign, &prices[..states]);
     let class = class_of(spot);
-    link(scan, count, key, sign, class);
+    link(scan, count, key, own, class);
     let cost = goal_cost(leaves, bases, goals, factors, goal, spot, paid, prices);
     if cost < run.best_cost {
         return Run {
@@ -95,7 +111,7 @@ pub fn keep(
     }
 }
 
-// A layer's begin settles; `spot` is its centre state, of this class. `flags` is room to work in.
+// A layer's begin settles; `spot` is its centre state, of this class. `flags` is room to work in. Whether a leaf was swept: else all is as it was.
 fn settle_begin(
     leaves: usize,
     actions: usize,
@@ -113,16 +129,17 @@ fn settle_begin(
     begin: &mut [u64],
     known: &mut [u8],
     flags: &mut [u8],
-)
+) -> bool
     requires { ⌜ Sound (boardOf leaves actions (now bases) (now moves) (now costs) (now kinds) factors (now conditions)) ⌝ }
     requires { ⌜ Firsts (boardOf leaves actions (now bases) (now moves) (now costs) (now kinds) factors (now conditions)) (now firsts)
         × Edges (boardOf leaves actions (now bases) (now moves) (now costs) (now kinds) factors (now conditions)) (now edges) (now ends)
         × Known (boardOf leaves actions (now bases) (now moves) (now costs) (now kinds) factors (now conditions)) (now known)
         × (class < 4096) × (length (now flags) ≡ 256) × (getD (now bases) leaves 0 ≤ length (now begin)) ⌝ }
-    ensures { λ _. ⌜ (now (begin .exit) ≡ settledOn (boardOf leaves actions (now (bases .entry)) (now (moves .entry)) (now (costs .entry)) (now (kinds .entry)) factors
+    ensures { λ r. ⌜ (now (begin .exit) ≡ settledOn (boardOf leaves actions (now (bases .entry)) (now (moves .entry)) (now (costs .entry)) (now (kinds .entry)) factors
         (now (conditions .entry))) spot (now (begin .entry)) ++ drop (getD (now (bases .entry)) leaves 0) (now (begin .entry)))
         × Known (boardOf leaves actions (now (bases .entry)) (now (moves .entry)) (now (costs .entry)) (now (kinds .entry)) factors
-        (now (conditions .entry))) (now (known .exit)) ⌝ }
+        (now (conditions .entry))) (now (known .exit))
+        × (r ≡ false → now (begin .exit) ≡ now (begin .entry)) ⌝ }
 {
     mets_of(
         actions,
@@ -148,7 +165,7 @@ fn settle_begin(
         ends,
         spot,
         begin,
-    );
+    )
 }
 
 // A successor of node `parent` by `action`, from its layer's begin: dropped, refused for a full table, or settled and kept under the next number.
@@ -216,7 +233,7 @@ pub fn offer(
     if count >= nodes {
         return Turned { full: true, run };
     }
-    settle_begin(
+    let swept = settle_begin(
         leaves,
         actions,
         bases,
@@ -245,6 +262,8 @@ pub fn offer(
         parent,
         action,
         key,
+        sign,
+        swept,
         &begin[..],
         table,
         scan,

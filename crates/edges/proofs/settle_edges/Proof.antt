@@ -1,6 +1,7 @@
 -- `edges::settle_edges` meets its contract. The invariant: the leaves so far stand one behind the other, settled, and behind them the prices are
 -- as they were. Assumes nothing.
-use mathlib.Core.Path.{_≡_, ap, _∙_}
+use mathlib.Core.Path.{_≡_, refl, ap, _∙_}
+use mathlib.Core.Bool.{false}
 use mathlib.Core.List.{List}
 use Prim.Native.Nat.{ℕ, _+_, _-_, _≤_}
 use native.Mathlib.Omega.{arith}
@@ -10,6 +11,7 @@ use Rattle.task.specs.declared.Centre.{Centre}
 use Rattle.layer.specs.Board.{Board, baseOn, settleOn, partOn, settledOn}
 use Rattle.layer.specs.Board.Turns.{base-in, part-length, Laid, laid-none, laid-more, laid-rest}
 use Rattle.layer.specs.Lent.{boardOf}
+use Rattle.edges.specs.Edges.Still.{put-back, or-false}
 use Rattle.edges.proofs.settle_edges.Statement.{statement}
 use Rattle.edges.proofs.settle_edges.Tie as tie
 
@@ -18,16 +20,17 @@ abbrev leaf : Board → Centre → List ℕ → ℕ → List ℕ
 leaf b centre new k = settleOn b k centre (partOn b k new)
 
 abbrev Inv-loop : tie.InvT-loop
-Inv-loop leaves actions bases moves costs kinds factors conditions mets edges ends centre new₀ i₀ new i =
+Inv-loop leaves actions bases moves costs kinds factors conditions mets edges ends centre new₀ swept₀ i₀ new swept i =
     (i ≤ leaves) × Laid (leaf (boardOf leaves actions bases moves costs kinds factors conditions) centre new₀) i (getD bases i 0) new₀ new
+    × (swept ≡ false → new ≡ new₀)
 
 abbrev μ-loop : tie.MeasureT-loop
-μ-loop leaves actions bases moves costs kinds factors conditions mets edges ends centre new₀ i₀ new i = leaves - i
+μ-loop leaves actions bases moves costs kinds factors conditions mets edges ends centre new₀ swept₀ i₀ new swept i = leaves - i
 
 loop-holds : tie.Need-loop-holds Inv-loop μ-loop
 loop-holds c =
     let s = c .before .before .before .before .before .before .before .before .before in
-    (omega arith, laid-none _ _ _ (s .pre .0 .bases-first))
+    (omega arith, laid-none _ _ _ (s .pre .0 .bases-first), λ _. refl)
 
 -- where the function starts, and the Board that is lent
 abbrev start : tie.In-loop Inv-loop μ-loop → tie.Start Inv-loop μ-loop
@@ -97,9 +100,9 @@ loop-again c =
     let called = c .before .before in
     let t = called .before .before .before .before in
     let l = t .before .loop in
-    let settled = called .settle-leaf .ensures ∙ ap (λ (xs : List ℕ). settleOn (board t) (l .i) (start t .args .centre) (take (to t - from t) xs)) (laid-rest (l .inv .1)) in
+    let settled = called .settle-leaf .ensures .0 ∙ ap (λ (xs : List ℕ). settleOn (board t) (l .i) (start t .args .centre) (take (to t - from t) xs)) (laid-rest (l .inv .1)) in
     let kept = called .settle-leaf .kept .1 .1 .1 .1 .1 .1 .1 .1 .1 .1 .1 .1 .1 .0 in
-    (omega arith, laid-more _ (l .i) (from t) (to t) _ (l .new) _ (room t .0) (room t .2) (l .inv .1) settled kept)
+    (omega arith, laid-more _ (l .i) (from t) (to t) _ (l .new) _ (room t .0) (room t .2) (l .inv .1) settled kept, λ e. put-back (from t) (to t - from t) (l .new) _ (called .settle-leaf .ensures .1 (or-false (l .swept) _ e .1)) ∙ l .inv .2 (or-false (l .swept) _ e .0))
 
 same-length : tie.Need-same-length Inv-loop μ-loop
 same-length c = c .before .loop .inv .1 .kept
@@ -109,7 +112,7 @@ unfolding settledOn
 returns c =
     let s = c .before .before .before .before .before .before .before .before .before .before .before in
     let all : c .before .loop .i ≡ s .args .leaves = omega arith in
-    c .before .loop .inv .1 .laid ∙ rw all
+    (c .before .loop .inv .1 .laid ∙ rw all, c .before .loop .inv .2)
 
 pub settle-edges-spec : {M : Type 1} → statement M
 settle-edges-spec =

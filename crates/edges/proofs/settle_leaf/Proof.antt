@@ -2,6 +2,7 @@
 -- each is what a walk costs, and no action leads from a clean state to one at less than its price. The enabled actions are such actions. The sum of
 -- the prices falls with each turn. Where no edge has its flag set, the enabled actions lead nowhere. Assumes nothing.
 use mathlib.Core.Path.{_≡_, refl, _∙_}
+use mathlib.Core.Bool.{true≢false}
 use mathlib.Core.List.{List}
 use Prim.Native.Nat.{ℕ, _+_, _≤_, _<_}
 use native.Mathlib.Nat.{le-trans}
@@ -130,7 +131,7 @@ returns c =
     let unmet = leaf-unmet (board s) (s .pre .0) (a .edges .now) (a .ends .now) (s .pre .2) (a .i) (s .pre .3) (a .mets .now) none in
     let still = still-settled mark _ _ _ _ _ _ _ _ _ _ _ P (meant s) (rw (s .pre .4) unmet) refl
     (at-most mark P (λ i. omega (arith, t .slice-known .given i))) in
-    still ∙ leaf-settled (board s) (a .i) (a .centre) (acts s) _ refl refl P
+    (still ∙ leaf-settled (board s) (a .i) (a .centre) (acts s) _ refl refl P, λ _. refl)
 
 loop-holds : tie.Need-loop-holds Inv-loop μ-loop
 loop-holds c =
@@ -200,7 +201,7 @@ returns-2 c =
     (t .loop .inv .2 _ _ _ (meant s))
     (told _ _ _ (meant s))
     (c .if2 .left) in
-    end ∙ leaf-settled (board s) (s .args .i) (s .args .centre) (acts s) _ refl refl P
+    (end ∙ leaf-settled (board s) (s .args .i) (s .args .centre) (acts s) _ refl refl P, λ e. absurd (true≢false e))
 
 pub settle-leaf-spec : {M : Type 1} → statement M
 settle-leaf-spec =

@@ -1,11 +1,12 @@
 -- A leaf none of whose edges has its flag set: its prices are settled as they are. Assumes nothing.
-use mathlib.Core.Path.{_≡_}
-use mathlib.Core.List.{List}
+use mathlib.Core.Path.{_≡_, refl, ap, _∙_}
+use mathlib.Core.Bool.{Bool, true, false, _||_, true≢false}
+use mathlib.Core.List.{List, _++_}
 use Prim.Native.Nat.{ℕ, zero, suc, _+_, _-_, _≤_, _<_}
 use native.Mathlib.Numerals.{add-one}
 use native.Mathlib.Decide.{ℕ-discrete}
 use native.Mathlib.Omega.{arith}
-use lib.ListN.{length, getD, take, drop, length-take, length-drop}
+use lib.ListN.{length, getD, take, drop, length-take, length-drop, take-append-drop}
 use lib.Seq.{getD-take, getD-drop}
 use Rattle.leaf.specs.Settle.{settled}
 use Rattle.leaf.specs.Settle.Walks.{stand, Capped, Closed}
@@ -69,3 +70,12 @@ still-settled M moves row at costs mets edges ends n m cost to P meant unmet l c
     settled-unique M n m cost to (meant .ranged) P P l l c c (λ u. omega arith)
     (λ x a y h k e. let t = meant .out x h a y k e in absurd (gated-out _ _ y (t .leads) .0 (unmet x h (t .act) (t .below))))
     (λ u _. record { from = u; toll = 0; walk = stand; sum = omega arith })
+
+-- a part that is put back where it was taken from
+pub put-back : (a n : ℕ) (ys Q : List ℕ) → Q ≡ take n (drop a ys) → take a ys ++ (Q ++ drop n (drop a ys)) ≡ ys
+put-back a n ys Q e = rw e (ap (λ (zs : List ℕ). take a ys ++ zs) (take-append-drop n (drop a ys)) ∙ take-append-drop a ys)
+
+-- neither of two tests holds
+pub or-false : (a b : Bool) → (a || b) ≡ false → (a ≡ false) × (b ≡ false)
+or-false true b e = absurd (true≢false e)
+or-false false b e = (refl, e)

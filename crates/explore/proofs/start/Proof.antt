@@ -93,7 +93,7 @@ keep-requires c κs =
     let s = c .before .before .before .before .before .before .before .before .before .before .before .before .before .before .before .before .before .before .before .before .before .before .before .before .before .before .before .before .before in
     let w = fit s in (
       (cut (c .before .before .before .before .before .before), sound-cut (board s) (w .1) (length (now (s .args .goals))) (omega (arith, w .1 .few-all, s .pre .1 .0 .1 .long))),
-      (w .1 .few-all, omega arith, omega (arith, row-on (s .args .task) (board s) (w .0 .fits), s .pre .1 .1 .0), wide (c .before .before .before .before .before .before .before .before .before .before .before .before .before .before .before .before .before .before .before)),
+      ((w .1 .few-all, omega arith, omega (arith, row-on (s .args .task) (board s) (w .0 .fits), s .pre .1 .1 .0), wide (c .before .before .before .before .before .before .before .before .before .before .before .before .before .before .before .before .before .before .before)), λ e. absurd (true≢false e)),
     )
 
 same-length : tie.Need-same-length
@@ -103,7 +103,7 @@ same-length-2 : tie.Need-same-length-2
 same-length-2 c =
     let f = c .before .before .before .before .before .before .before .before .before .before .before .before .before .before .before .before .before .before .before .before .before .before .before .before in
     let k = c .before .before .before .before .keep in
-    let linked : length (k .last .1 .1 .1 .1 .1 .1 .1 .1 .1 .1 .1 .1 .0) ≡ length (f .fresh .last .0) = k .kept .1 .1 .1 .1 .1 .1 .1 .1 .1 .1 .1 .1 .0 in
+    let linked : length (k .last .1 .1 .1 .1 .1 .1 .1 .1 .1 .1 .1 .1 .1 .1 .0) ≡ length (f .fresh .last .0) = k .kept .1 .1 .1 .1 .1 .1 .1 .1 .1 .1 .1 .1 .1 .1 .0 in
     let cleared : length (f .fresh .last .0) ≡ length (now (f .before .before .before .before .before .before .before .before .before .before .args .scan)) = f .fresh .kept .0 in
     linked ∙ cleared
 
@@ -116,7 +116,7 @@ returns c =
     let k = c .before .before .before .before .keep in
     let spot = c .before .before .before .before .before .before .before .before .before .before .before .before .before .before .after .ensures ∙ ap (centreAfter (factor t) (initial t)) (c .before .before .before .before .before .before .before .before .before .before .before .before .before .before .before .blank .ensures) ∙ initial-centre t (s .pre .0) in
     start-is t (board s) (t .effects) (now (a .goals)) (t .goal) (fit s .0) (now (a .starts)) (s .pre .1 .0 .0 .is-starts) (c .before .before .before .before .before .before .before .before .before .before .before .before .before .before .after .result) (drop (getD (now (a .bases)) (t .leaves) 0) (replicate 1024 mark)) (f .last .1 .1 .1 .1 .1 .1 .1 .1 .1 .1 .0)
-    spot (f .ensures) (now (a .table)) (now (a .scan)) (c .before .before .before .before .before .before .before .before .before .before .before .before .before .before .before .before .before .before .before .before .before .before .before .before .fresh .last .0) (k .last .1 .1 .1 .1 .1 .1 .1 .1 .1 .1 .1 .0) (k .last .1 .1 .1 .1 .1 .1 .1 .1 .1 .1 .1 .1 .0) (k .result)
+    spot (f .ensures) (now (a .table)) (now (a .scan)) (c .before .before .before .before .before .before .before .before .before .before .before .before .before .before .before .before .before .before .before .before .before .before .before .before .fresh .last .0) (k .last .1 .1 .1 .1 .1 .1 .1 .1 .1 .1 .1 .1 .1 .0) (k .last .1 .1 .1 .1 .1 .1 .1 .1 .1 .1 .1 .1 .1 .1 .0) (k .result)
     (c .before .before .before .before .before .before .before .before .key-of .result) (s .pre .1 .1 .1) (s .pre .1 .1 .2) (c .before .before .before .before .before .before .before .before .before .before .before .before .before .before .before .before .before .before .before .before .before .before .before .before .fresh .ensures) (c .before .before .before .before .before .before .before .before .key-of .ensures) (k .ensures)
 
 pub start-spec : {M : Type 1} → statement M

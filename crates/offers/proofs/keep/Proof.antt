@@ -54,13 +54,13 @@ part-write-row-end c = search needs
 write-row-requires : tie.Need-write-row-requires
 write-row-requires c κs = search needs
 
-slice-aggregate-sign-of : tie.Need-slice-aggregate-sign-of
-slice-aggregate-sign-of c =
+slice-aggregate-sign-behind : tie.Need-slice-aggregate-sign-behind
+slice-aggregate-sign-behind c =
     let s = c .before .before .before .before .before .before .before .before .before .before .before in
     sym (length-take-le (S s) (now (s .args .prices)) (s .pre .0 .0 .fits))
 
-sign-of-requires : tie.Need-sign-of-requires
-sign-of-requires c κs = search needs
+sign-behind-requires : tie.Need-sign-behind-requires
+sign-behind-requires c κs = search needs
 
 class-of-requires : tie.Need-class-of-requires
 class-of-requires c κs = search needs
@@ -68,16 +68,16 @@ class-of-requires c κs = search needs
 link-requires : tie.Need-link-requires
 link-requires c κs =
     let s = c .before .before .before .before .before .before .before .before .before .before .before .before .before .before in
-    (s .pre .1 .3, s .pre .1 .1, omega (arith, c .before .class-of .ensures, class-lt (s .args .spot)))
+    (s .pre .1 .0 .3, s .pre .1 .0 .1, omega (arith, c .before .class-of .ensures, class-lt (s .args .spot)))
 
 goal-cost-requires : tie.Need-goal-cost-requires
 goal-cost-requires c κs = search needs
 
-add-t35 : tie.Need-add-t35
-add-t35 c = search needs
+add-t37 : tie.Need-add-t37
+add-t37 c = let s = c .before .before .before .before .before .before .before .before .before .before .before .before .before .before .before .before .before .before .before .before in omega (arith, s .pre .1 .0 .1)
 
-add-t36 : tie.Need-add-t36
-add-t36 c = search needs
+add-t38 : tie.Need-add-t38
+add-t38 c = let s = c .before .before .before .before .before .before .before .before .before .before .before .before .before .before .before .before .before .before .before .before in omega (arith, s .pre .1 .0 .1)
 
 same-length : tie.Need-same-length
 same-length c = search needs
@@ -90,12 +90,12 @@ returns c =
     let w = c .before .before .before .before .before .before .before .before .before .before .before .before in
     let s = w .before .before .before .before .before .before .before .before in
     kept-best (S s) (now (s .args .table)) (now (s .args .scan)) (s .args .run) (node s) (s .args .key) (cost s) (w .write-row .last .0) _
-    (omega arith) (omega arith) (w .write-row .ensures .0) (w .write-row .ensures .1) (s .pre .1 .1) (c .before .before .before .before .before .link .last .0) (c .before .before .before .before .before .before .before .before .sign-of .result) (c .before .before .before .before .before .before .before .class-of .result)
-    (c .before .before .before .before .before .before .before .before .sign-of .ensures) (c .before .before .before .before .before .before .before .class-of .ensures) (c .before .before .before .before .before .link .ensures)
+    (omega arith) (omega arith) (w .write-row .ensures .0) (w .write-row .ensures .1) (s .pre .1 .0 .1) (c .before .before .before .before .before .link .last .0) (c .before .before .before .before .before .before .before .before .sign-behind .result) (c .before .before .before .before .before .before .before .class-of .result)
+    (c .before .before .before .before .before .before .before .before .sign-behind .ensures) (c .before .before .before .before .before .before .before .class-of .ensures) (c .before .before .before .before .before .link .ensures)
     (c .before .before .goal-cost .result) (c .before .before .goal-cost .ensures) (c .if1 .taken)
 
-add-t25 : tie.Need-add-t25
-add-t25 c = search needs
+add-t27 : tie.Need-add-t27
+add-t27 c = let s = c .before .before .before .before .before .before .before .before .before .before .before .before .before .before .before .before .before .before .before .before in omega (arith, s .pre .1 .0 .1)
 
 same-length-3 : tie.Need-same-length-3
 same-length-3 c = search needs
@@ -108,8 +108,8 @@ returns-2 c =
     let w = c .before .before .before .before .before .before .before .before .before .before .before .before in
     let s = w .before .before .before .before .before .before .before .before in
     kept-other (S s) (now (s .args .table)) (now (s .args .scan)) (s .args .run) (node s) (s .args .key) (cost s) (w .write-row .last .0) _
-    (omega arith) (omega arith) (w .write-row .ensures .0) (w .write-row .ensures .1) (s .pre .1 .1) (c .before .before .before .before .before .link .last .0) (c .before .before .before .before .before .before .before .before .sign-of .result) (c .before .before .before .before .before .before .before .class-of .result)
-    (c .before .before .before .before .before .before .before .before .sign-of .ensures) (c .before .before .before .before .before .before .before .class-of .ensures) (c .before .before .before .before .before .link .ensures)
+    (omega arith) (omega arith) (w .write-row .ensures .0) (w .write-row .ensures .1) (s .pre .1 .0 .1) (c .before .before .before .before .before .link .last .0) (c .before .before .before .before .before .before .before .before .sign-behind .result) (c .before .before .before .before .before .before .before .class-of .result)
+    (c .before .before .before .before .before .before .before .before .sign-behind .ensures) (c .before .before .before .before .before .before .before .class-of .ensures) (c .before .before .before .before .before .link .ensures)
     (c .before .before .goal-cost .result) (c .before .before .goal-cost .ensures) (c .if1 .left)
 
 pub keep-spec : {M : Type 1} → statement M
@@ -126,17 +126,17 @@ keep-spec =
     part-write-row-start
     part-write-row-end
     write-row-requires
-    slice-aggregate-sign-of
-    sign-of-requires
+    slice-aggregate-sign-behind
+    sign-behind-requires
     class-of-requires
     link-requires
     goal-cost-requires
-    add-t35
-    add-t36
+    add-t37
+    add-t38
     same-length
     same-length-2
     returns
-    add-t25
+    add-t27
     same-length-3
     same-length-4
     returns-2)

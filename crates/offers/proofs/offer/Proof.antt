@@ -1,12 +1,13 @@
 -- `offers::offer` meets its contract: one law for each of its four ends. Assumes nothing.
-use mathlib.Core.Path.{_≡_, _∙_}
+use mathlib.Core.Path.{_≡_, sym, ap, _∙_}
 use mathlib.Core.List.{List}
 use Prim.Native.Nat.{ℕ, _+_, _≤_}
 use native.Mathlib.Omega.{arith}
 use denote.Ref.{now}
-use lib.ListN.{length}
-use Rattle.layer.specs.Board.{Board}
+use lib.ListN.{length, take}
+use Rattle.layer.specs.Board.{Board, rowOn}
 use Rattle.layer.specs.Lent.{boardOf}
+use Rattle.rows.specs.Sign.{signOf}
 use Rattle.rows.specs.Sign.Laws.{class-lt}
 use Rattle.offers.specs.Held.Laws.{rows-fit, cut}
 use Rattle.offers.specs.Held.Offers.{offered-above, offered-dominated, offered-full, offered-kept}
@@ -115,7 +116,10 @@ keep-requires c κs =
     let fits = s .pre .1 .1 .0 .0 .fits in
     let long : length (words d) ≡ length (now (s .args .scan)) = d .is-dominated .kept .1 .1 .1 .0 in (
       (cut {n = length new} (s .pre .0) (omega arith), s .pre .1 .1 .0 .1),
-      (room .few-states, omega (arith, room .few-nodes), rows-fit room (s .args .run .count + 1) (omega arith), long ∙ room .scan-long),
+      (
+        (room .few-states, omega (arith, room .few-nodes), rows-fit room (s .args .run .count + 1) (omega arith), long ∙ room .scan-long),
+        λ e. s .pre .1 .1 .1 .0 ∙ ap (λ (xs : List ℕ). signOf (take (rowOn (board s)) xs)) (sym (n .ensures .2 e)),
+      ),
     )
 
 same-length-7 : tie.Need-same-length-7
@@ -128,7 +132,7 @@ same-length-9 : tie.Need-same-length-9
 same-length-9 c =
     let d = c .before .before .before .before .before .before .before .before .before .before .before .before .before .before .before .before .before .before .before .before .before .before in
     let w = c .before .before .before .before .keep in
-    let kept : length (w .last .1 .1 .1 .1 .1 .1 .1 .1 .1 .1 .1 .1 .0) ≡ length (words d) = w .kept .1 .1 .1 .1 .1 .1 .1 .1 .1 .1 .1 .1 .0 in
+    let kept : length (w .last .1 .1 .1 .1 .1 .1 .1 .1 .1 .1 .1 .1 .1 .1 .0) ≡ length (words d) = w .kept .1 .1 .1 .1 .1 .1 .1 .1 .1 .1 .1 .1 .1 .1 .0 in
     kept ∙ d .is-dominated .kept .1 .1 .1 .0
 
 same-length-10 : tie.Need-same-length-10
@@ -147,7 +151,7 @@ returns-4 c =
       offered-kept (board s) (now (a .goals)) (a .goal) (a .nodes) (now (a .table)) (now (a .scan)) (a .run)
           (a .spot) (a .paid) (now (a .begin)) (a .parent) (a .action) (s .pre .1 .1 .1 .1 .few-nodes) (s .pre .1 .1 .1 .1 .count-few)
           (a .key) (c .before .before .before .before .before .before .before .before .before .before .before .before .before .before .before .before .before .before .before .before .before .before .before .before .before .before .before .if1 .left) (d .is-dominated .result) (d .is-dominated .ensures .0) (words d) (d .is-dominated .ensures .1) (c .before .before .before .before .before .before .before .before .before .before .before .before .before .before .before .before .before .before .before .if2 .left) (c .before .before .before .before .before .before .before .before .before .before .before .before .before .before .before .before .before .before .if3 .left)
-          (s .pre .1 .1 .1 .1 .scan-long) (n .last .1 .1 .1 .1 .1 .1 .1 .1 .1 .1 .1 .1 .1 .0) (n .ensures .0) (w .last .1 .1 .1 .1 .1 .1 .1 .1 .1 .1 .1 .0) (w .last .1 .1 .1 .1 .1 .1 .1 .1 .1 .1 .1 .1 .0) (w .result) (w .ensures),
+          (s .pre .1 .1 .1 .1 .scan-long) (n .last .1 .1 .1 .1 .1 .1 .1 .1 .1 .1 .1 .1 .1 .0) (n .ensures .0) (w .last .1 .1 .1 .1 .1 .1 .1 .1 .1 .1 .1 .1 .1 .0) (w .last .1 .1 .1 .1 .1 .1 .1 .1 .1 .1 .1 .1 .1 .1 .0) (w .result) (w .ensures),
       n .ensures .1,
     )
 
