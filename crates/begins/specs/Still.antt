@@ -3,14 +3,15 @@
 use mathlib.Core.Path.{_≡_, refl, sym, ap, _∙_}
 use mathlib.Core.Logic.{_⊎_, inl, inr}
 use mathlib.Core.Bool.{Bool, true, false, not, true≢false}
-use mathlib.Core.List.{List, _++_}
-use Prim.Native.Nat.{ℕ, zero, suc, _+_, _-_, _*_, _≤_, _<_, min}
+use mathlib.Core.List.{List, [], _++_, append-nil}
+use Prim.Native.Nat.{ℕ, zero, suc, _+_, _-_, _*_, _/_, _%_, _≤_, _<_, min}
 use native.Mathlib.Nat.{not-suc-le-zero, mul-le-mul-right}
 use native.Mathlib.Numerals.{add-one}
 use native.Mathlib.Decide.{decLe}
 use native.Mathlib.Omega.{arith}
 use lib.ListN.{length, getD, set, take, drop, length-take, length-drop, length-set, List·getD-eq-default}
-use lib.Seq.{take-at, take-add, getD-take, getD-drop, getD-set-same, getD-set-other, ext-getD}
+use lib.Arith.{digits-div, digits-mod}
+use lib.Seq.{take-length, drop-length, take-at, take-add, getD-take, getD-drop, getD-set-same, getD-set-other, ext-getD}
 use Rattle.loops.specs.Count.Laws.{below-cases, sum-ext}
 use Rattle.task.specs.declared.Task.{Task}
 use Rattle.task.specs.Meaning.{cost}
@@ -32,6 +33,10 @@ use Rattle.rows.specs.Scan.{Cut, keyBy}
 use Rattle.rows.specs.Scan.Laws.{cut-in}
 use Rattle.rows.specs.Sign.{signOf}
 
+-- an action whose moves begin at `from` leaves each state of the leaf behind i leaves as it is
+abbrev pub StaysIn : ℕ → List ℕ → List ℕ → ℕ → Type 0
+StaysIn i bases moves from = (x : ℕ) → x < getD bases (i + 1) 0 - getD bases i 0 → getD moves (from + getD bases i 0 + x) 0 ≡ x + 1
+
 -- an action whose moves begin at `from` leaves each state of the first n leaves as it is
 abbrev pub Stays : ℕ → List ℕ → List ℕ → ℕ → Type 0
 Stays n bases moves from =
@@ -41,6 +46,15 @@ Stays n bases moves from =
 pub record Still (leaves actions : ℕ) (bases moves still : List ℕ) : Type 0 where
   pub long : length still ≡ 256
   pub stays : (a : ℕ) → a < actions → (getD still a 0 ≡ 0 → ⊥) → Stays leaves bases moves (a * getD bases leaves 0)
+
+-- of the first n entries of a table with eight to an action, those that are not 0 are of leaves whose states the action leaves as they are
+pub record Entries (n leaves : ℕ) (bases moves stills : List ℕ) : Type 0 where
+  pub long : length stills ≡ 2048
+  pub stays : (a i : ℕ) → a * 8 + i < n → i < 8 → (getD stills (a * 8 + i) 0 ≡ 0 → ⊥) → StaysIn i bases moves (a * getD bases leaves 0)
+
+-- those of all actions
+abbrev pub Stills : ℕ → ℕ → List ℕ → List ℕ → List ℕ → Type 0
+Stills leaves actions bases moves stills = Entries (actions * 8) leaves bases moves stills
 
 -- ---- finding them
 
@@ -95,6 +109,25 @@ still-more leaves a bases moves still f few h s =
     go k (inl l) d = s .stays k l (rw (getD-set-other still a k f 0 (λ e. omega arith)) at d)
     go k (inr q) d = rw q (h (rw (q, getD-set-same still a f 0 (omega (arith, s .long))) at d))
 
+-- no entry
+pub entries-none : (leaves : ℕ) (bases moves stills : List ℕ) → length stills ≡ 2048 → Entries 0 leaves bases moves stills
+entries-none leaves bases moves stills h = record { long = h; stays = λ a i l. absurd (not-suc-le-zero l) }
+
+-- an entry more
+pub entries-more : (leaves k : ℕ) (bases moves stills : List ℕ) (f : ℕ) → k < 2048
+    → ((f ≡ 0 → ⊥) → StaysIn (k % 8) bases moves (k / 8 * getD bases leaves 0))
+    → Entries k leaves bases moves stills → Entries (k + 1) leaves bases moves (set stills k f)
+entries-more leaves k bases moves stills f few h s =
+    record { long = length-set stills k f ∙ s .long; stays = λ a i l e. go a i e (below-cases (omega arith)) }
+  where
+    go : (a i : ℕ) → i < 8 → (a * 8 + i < k) ⊎ (a * 8 + i ≡ k) → (getD (set stills k f) (a * 8 + i) 0 ≡ 0 → ⊥)
+        → StaysIn i bases moves (a * getD bases leaves 0)
+    go a i e (inl l) d = s .stays a i l e (rw (getD-set-other stills k (a * 8 + i) f 0 (λ e. omega arith)) at d)
+    go a i e (inr q) d =
+        let leaf : k % 8 ≡ i = rw (sym q) (digits-mod a {m = 8} {r = i} e) in
+        let act : k / 8 ≡ a = rw (sym q) (digits-div a {m = 8} {r = i} e) in
+        rw (leaf, act) at (h (rw (q, getD-set-same stills k f 0 (omega (arith, s .long))) at d))
+
 -- ---- the begin
 
 -- words are no prices above the mark
@@ -119,6 +152,13 @@ pass-still n thr P long cap h =
         let (x, k, t, e) = pass-from mark n thr P n y (omega arith) in
         let same : x ≡ y = omega (arith, h x k) in
         e ∙ ap (λ z. getD P z mark) same
+
+-- so a copy of their prices is what passes
+pub copy-passes : (thr : ℕ → ℕ) (P Q : List ℕ) → length Q ≡ length P → ((x : ℕ) → getD P x 0 ≤ mark) → ((x : ℕ) → x < length P → thr x ≡ x + 1)
+    → take (length P) P ++ drop (length P) Q ≡ pass mark (length P) thr P (length P)
+copy-passes thr P Q long words stay =
+    let none : drop (length P) Q ≡ [] = rw (sym long) (drop-length Q) in
+    rw (none, take-length P, append-nil) (sym (pass-still (length P) thr P refl (word-cap P words) stay))
 
 module _ (b : Board) (sound : Sound b) where
   -- where the states of a leaf begin is not behind where those of later leaves do

@@ -1,6 +1,6 @@
 // The begin of a layer behind a centre action, and what makes it cheap: actions that leave all leaf states as they are, and actions that are stuck.
 use layer::applies;
-use layer::begin_layer;
+use leaf::pass;
 use rows::key_of;
 use rows::sign_of;
 use task::Centre;
@@ -8,13 +8,15 @@ use words::copy_words;
 ghost use mathlib.Core.Path.{_≡_};
 ghost use mathlib.Core.Bool.{true, false};
 ghost use mathlib.Core.List.{_++_};
-ghost use Prim.Native.Nat.{ℕ, _+_, _*_, _≤_, _<_};
+ghost use Prim.Native.Nat.{ℕ, _+_, _*_, _/_, _%_, _≤_, _<_};
 ghost use lib.ListN.{length, getD, take, drop};
+ghost use Rattle.leaf.specs.Price.{mark};
+ghost use Rattle.leaf.specs.Pass.{pass};
 ghost use Rattle.layer.specs.Board.{Sound, beginOn, appliesOn};
 ghost use Rattle.layer.specs.Lent.{boardOf};
 ghost use Rattle.rows.specs.Scan.{Cut, keyBy};
 ghost use Rattle.rows.specs.Sign.{signOf};
-ghost use Rattle.begins.specs.Still.{Stays, Still};
+ghost use Rattle.begins.specs.Still.{StaysIn, Stays, Still, Stills};
 
 // The key and the signature of a layer's begin.
 pub struct Begun {
@@ -64,6 +66,37 @@ pub fn still_actions(leaves: usize, actions: usize, bases: &[usize], moves: &[u1
     still
 }
 
+// Entry k of the table by action and leaf: 1 if action k / 8 leaves each state of the leaf behind k % 8 leaves as it is, else 0.
+fn still_entry(leaves: usize, bases: &[usize], moves: &[u16], k: usize) -> u8
+    requires { ⌜ Cut leaves (now bases) 1024 × (k / 8 * getD (now bases) leaves 0 + getD (now bases) leaves 0 ≤ length (now moves)) ⌝ }
+    ensures { λ r. ⌜ ((r ≡ 0 → ⊥) → StaysIn (k % 8) (now (bases .entry)) (now (moves .entry)) (k / 8 * getD (now (bases .entry)) leaves 0)) ⌝ }
+{
+    let i = k % 8;
+    if i >= leaves {
+        return 0;
+    }
+    let from = k / 8 * bases[leaves];
+    let at = bases[i];
+    let to = bases[i + 1];
+    if is_still_leaf(moves, from + at, to - at) {
+        return 1;
+    }
+    0
+}
+
+// By action and leaf, eight entries to an action: 1 where the action leaves each state of the leaf as it is, 0 elsewhere.
+pub fn still_leaves(leaves: usize, actions: usize, bases: &[usize], moves: &[u16]) -> [u8; 2048]
+    requires { ⌜ Cut leaves (now bases) 1024 × (actions ≤ 255) × (actions * getD (now bases) leaves 0 ≤ length (now moves)) ⌝ }
+    ensures { λ r. ⌜ Stills leaves actions (now (bases .entry)) (now (moves .entry)) r ⌝ }
+{
+    let mut stills = [0u8; 2048];
+    for k in 0..actions * 8 {
+        let stays = still_entry(leaves, bases, moves, k);
+        stills[k] = stays;
+    }
+    stills
+}
+
 // Whether an action, whose centre conditions hold, moves leaf states and is stuck: in some leaf no state that is reached passes.
 pub fn is_stuck(
     leaves: usize,
@@ -102,6 +135,57 @@ pub fn is_stuck(
     )
 }
 
+// Each state of a leaf passes over a centre action, at its own price. The action's moves of the leaf begin at `at`; where `still` is not 0 they
+// leave each state as it is, and the prices are copied.
+fn carry(old: &[u64], moves: &[u16], at: usize, still: u8, new: &mut [u64])
+    requires { ⌜ (length (now new) ≡ length (now old)) × (at + length (now old) ≤ length (now moves))
+        × ((x : ℕ) → x < length (now old) → getD (now moves) (at + x) 0 ≤ length (now old))
+        × ((still ≡ 0 → ⊥) → (x : ℕ) → x < length (now old) → getD (now moves) (at + x) 0 ≡ x + 1) ⌝ }
+    ensures { λ _. ⌜ now (new .exit)
+        ≡ pass mark (length (now (old .entry))) (λ x. getD (now (moves .entry)) (at + x) 0) (now (old .entry)) (length (now (old .entry))) ⌝ }
+{
+    if still != 0 {
+        copy_words(old, new, old.len());
+        return;
+    }
+    pass(old, moves, at, new);
+}
+
+// The begin of the layer behind a centre action, at the front of `new`, as in `layer::begin_layer`: only the leaves that it moves pass.
+fn begin_moved(
+    leaves: usize,
+    actions: usize,
+    bases: &[usize],
+    moves: &[u16],
+    costs: &[u16],
+    kinds: &[u8],
+    factors: [u8; 32],
+    conditions: &[u8],
+    stills: &[u8],
+    action: usize,
+    old: &[u64],
+    new: &mut [u64],
+)
+    requires { ⌜ Sound (boardOf leaves actions (now bases) (now moves) (now costs) (now kinds) factors (now conditions))
+        × Stills leaves actions (now bases) (now moves) (now stills)
+        × (action < actions) × (getD (now bases) leaves 0 ≤ length (now old)) × (getD (now bases) leaves 0 ≤ length (now new)) ⌝ }
+    ensures { λ _. ⌜ now (new .exit) ≡ beginOn (boardOf leaves actions (now (bases .entry)) (now (moves .entry)) (now (costs .entry)) (now (kinds .entry))
+        factors (now (conditions .entry))) action (now (old .entry)) ++ drop (getD (now (bases .entry)) leaves 0) (now (new .entry)) ⌝ }
+{
+    let row = bases[leaves];
+    for i in 0..leaves {
+        let from = bases[i];
+        let to = bases[i + 1];
+        carry(
+            &old[from..to],
+            moves,
+            action * row + from,
+            stills[action * 8 + i],
+            &mut new[from..to],
+        );
+    }
+}
+
 // The begin of the layer behind centre action a, at the front of `next`, with its key and signature. Where the action moves no leaf state it is the
 // old layer; `low` is the key that this would have, `sign` its signature.
 pub fn begin_of(
@@ -114,6 +198,7 @@ pub fn begin_of(
     factors: [u8; 32],
     conditions: &[u8],
     still: &[u8],
+    stills: &[u8],
     a: usize,
     old: &[u64],
     low: u64,
@@ -122,7 +207,7 @@ pub fn begin_of(
     next: &mut [u64],
 ) -> Begun
     requires { ⌜ Sound (boardOf leaves actions (now bases) (now moves) (now costs) (now kinds) factors (now conditions)) ⌝ }
-    requires { ⌜ Still leaves actions (now bases) (now moves) (now still) ⌝ }
+    requires { ⌜ Still leaves actions (now bases) (now moves) (now still) × Stills leaves actions (now bases) (now moves) (now stills) ⌝ }
     requires { ⌜ (a < actions) × (getD (now bases) leaves 0 ≤ length (now old)) × (getD (now bases) leaves 0 ≤ length (now next)) ⌝ }
     requires { ⌜ sign ≡ signOf (take (getD (now bases) leaves 0) (now old)) ⌝ }
     ensures { λ r. ⌜ (now (next .exit) ≡ beginOn (boardOf leaves actions (now (bases .entry)) (now (moves .entry)) (now (costs .entry)) (now (kinds .entry))
@@ -135,7 +220,7 @@ pub fn begin_of(
         copy_words(old, next, states);
         return Begun { key: low, sign };
     }
-    begin_layer(
+    begin_moved(
         leaves,
         actions,
         bases,
@@ -144,6 +229,7 @@ pub fn begin_of(
         kinds,
         factors,
         conditions,
+        stills,
         a,
         old,
         next,

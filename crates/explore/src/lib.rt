@@ -2,6 +2,7 @@
 use begins::begin_of;
 use begins::is_stuck;
 use begins::still_actions;
+use begins::still_leaves;
 use edges::fill_edges;
 use layer::first_conditions;
 use layer::first_layer;
@@ -44,7 +45,7 @@ ghost use Rattle.nodes.specs.Chain.{Chained};
 ghost use Rattle.explore.specs.Held.{Suits, stoppedOf, Moved, Grown, Done};
 ghost use Rattle.offers.specs.Held.{searchOf, Cached, Room, Has};
 ghost use Rattle.explore.specs.Held.Rounds.{Ahead, Rounded};
-ghost use Rattle.begins.specs.Still.{Still};
+ghost use Rattle.begins.specs.Still.{Still, Stills};
 
 // Why a search stops.
 pub enum Why {
@@ -77,6 +78,7 @@ fn turn(
     factors: [u8; 32],
     conditions: &[u8],
     still: &[u8],
+    stills: &[u8],
     firsts: &[u8],
     edges: &[u8],
     ends: &[usize],
@@ -104,7 +106,7 @@ fn turn(
         × Edges (boardOf leaves actions (now bases) (now moves) (now costs) (now kinds) factors (now conditions)) (now edges) (now ends)
         × Known (boardOf leaves actions (now bases) (now moves) (now costs) (now kinds) factors (now conditions)) (now known)
         × (metOn (boardOf leaves actions (now bases) (now moves) (now costs) (now kinds) factors (now conditions)) spot a ≡ true)
-        × (length (now flags) ≡ 256) ⌝ }
+        × (length (now flags) ≡ 256) × Stills leaves actions (now bases) (now moves) (now stills) ⌝ }
     requires { ⌜ (length (now effects) ≡ 8192) × (length (now goals) ≡ 1024) × (length (now old) ≡ 1024) × (length (now next) ≡ 1024) × (u < run .count) × (a < actions) ⌝ }
     requires { ⌜ sign ≡ signOf (take (getD (now bases) leaves 0) (now old)) ⌝ }
     requires { ⌜ Room (getD (now bases) leaves 0) nodes (now table) (now scan) run ⌝ }
@@ -150,6 +152,7 @@ fn turn(
         factors,
         conditions,
         still,
+        stills,
         a,
         old,
         low,
@@ -198,6 +201,7 @@ fn turns(
     factors: [u8; 32],
     conditions: &[u8],
     still: &[u8],
+    stills: &[u8],
     firsts: &[u8],
     edges: &[u8],
     ends: &[usize],
@@ -225,7 +229,7 @@ fn turns(
         × Edges (boardOf leaves actions (now bases) (now moves) (now costs) (now kinds) factors (now conditions)) (now edges) (now ends)
         × Known (boardOf leaves actions (now bases) (now moves) (now costs) (now kinds) factors (now conditions)) (now known)
         × Mets (boardOf leaves actions (now bases) (now moves) (now costs) (now kinds) factors (now conditions)) spot (now mets)
-        × (length (now flags) ≡ 256) ⌝ }
+        × (length (now flags) ≡ 256) × Stills leaves actions (now bases) (now moves) (now stills) ⌝ }
     requires { ⌜ (length (now effects) ≡ 8192) × (length (now goals) ≡ 1024) × (length (now old) ≡ 1024) × (length (now next) ≡ 1024) × (u < run .count) ⌝ }
     requires { ⌜ (sign ≡ signOf (take (getD (now bases) leaves 0) (now old)))
         × Has (nodeIn (getD (now bases) leaves 0) (now table) u) spot paid (take (getD (now bases) leaves 0) (now old)) ⌝ }
@@ -251,6 +255,7 @@ fn turns(
             factors,
             conditions,
             still,
+            stills,
             firsts,
             edges,
             ends,
@@ -295,6 +300,7 @@ fn expand(
     factors: [u8; 32],
     conditions: &[u8],
     still: &[u8],
+    stills: &[u8],
     firsts: &[u8],
     edges: &[u8],
     ends: &[usize],
@@ -318,7 +324,7 @@ fn expand(
         × Firsts (boardOf leaves actions (now bases) (now moves) (now costs) (now kinds) factors (now conditions)) (now firsts)
         × Edges (boardOf leaves actions (now bases) (now moves) (now costs) (now kinds) factors (now conditions)) (now edges) (now ends)
         × Known (boardOf leaves actions (now bases) (now moves) (now costs) (now kinds) factors (now conditions)) (now known)
-        × (length (now flags) ≡ 256) × (length (now mets) ≡ 256) ⌝ }
+        × (length (now flags) ≡ 256) × (length (now mets) ≡ 256) × Stills leaves actions (now bases) (now moves) (now stills) ⌝ }
     requires { ⌜ (length (now effects) ≡ 8192) × (length (now goals) ≡ 1024) × (u < run .count) ⌝ }
     requires { ⌜ Room (getD (now bases) leaves 0) nodes (now table) (now scan) run ⌝ }
     requires { ⌜ (length (now old) ≡ 1024) × (length (now next) ≡ 1024) ⌝ }
@@ -358,6 +364,7 @@ fn expand(
         factors,
         conditions,
         still,
+        stills,
         firsts,
         edges,
         ends,
@@ -461,6 +468,7 @@ fn next_round(
     factors: [u8; 32],
     conditions: &[u8],
     still: &[u8],
+    stills: &[u8],
     firsts: &[u8],
     edges: &[u8],
     ends: &[usize],
@@ -483,7 +491,7 @@ fn next_round(
         × Firsts (boardOf leaves actions (now bases) (now moves) (now costs) (now kinds) factors (now conditions)) (now firsts)
         × Edges (boardOf leaves actions (now bases) (now moves) (now costs) (now kinds) factors (now conditions)) (now edges) (now ends)
         × Known (boardOf leaves actions (now bases) (now moves) (now costs) (now kinds) factors (now conditions)) (now known)
-        × (length (now flags) ≡ 256) × (length (now mets) ≡ 256) ⌝ }
+        × (length (now flags) ≡ 256) × (length (now mets) ≡ 256) × Stills leaves actions (now bases) (now moves) (now stills) ⌝ }
     requires { ⌜ (length (now effects) ≡ 8192) × (length (now goals) ≡ 1024) × (run .begun ≤ 4096) ⌝ }
     requires { ⌜ Room (getD (now bases) leaves 0) nodes (now table) (now scan) run ⌝ }
     requires { ⌜ (length (now old) ≡ 1024) × (length (now next) ≡ 1024) ⌝ }
@@ -526,6 +534,7 @@ fn next_round(
         factors,
         conditions,
         still,
+        stills,
         firsts,
         edges,
         ends,
@@ -584,6 +593,7 @@ pub fn explore(
     let conditions = task.conditions;
     let effects = task.effects;
     let still = still_actions(leaves, actions, bases, moves);
+    let stills = still_leaves(leaves, actions, bases, moves);
     let firsts = first_conditions(factors, &conditions, actions);
     let mut run = start(task, bases, moves, costs, kinds, starts, goals, table, scan);
     let mut ends: [usize; 1025] = [0; 1025];
@@ -615,6 +625,7 @@ pub fn explore(
             factors,
             &conditions,
             &still,
+            &stills,
             &firsts,
             &edges[..],
             &ends,

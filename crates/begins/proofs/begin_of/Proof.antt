@@ -35,14 +35,14 @@ same-length c = search needs
 returns : tie.Need-returns
 returns c =
     let w = c .before .before .copy-words in
-    let s = c .before .before .before .before .before .before .before .before .before .before .before .before .before .before .before in
+    let s = c .before .before .before .before .before .before .before .before .before .before .before .before .before .before .before .before in
     let a = s .args in
     begun-still (board s) (s .pre .0) (a .a) (a .spent) (now (a .old)) (drop (rowOn (board s)) (now (a .next))) (a .low) (a .sign)
-    (s .pre .1 .1 .0 .1) (λ x. omega (arith, c .before .before .before .before .before .before .before .before .shared-slice-known7 .given x)) (s .pre .1 .0 .stays (a .a) (s .pre .1 .1 .0 .0) (c .before .before .before .before .if1 .taken))
+    (s .pre .1 .1 .0 .1) (λ x. omega (arith, c .before .before .before .before .before .before .before .before .shared-slice-known8 .given x)) (s .pre .1 .0 .0 .stays (a .a) (s .pre .1 .1 .0 .0) (c .before .before .before .before .if1 .taken))
     (s .pre .1 .1 .1) (w .last .1 .0) (w .ensures)
 
-begin-layer-requires : tie.Need-begin-layer-requires
-begin-layer-requires c κs = search needs
+begin-moved-requires : tie.Need-begin-moved-requires
+begin-moved-requires c κs = search needs
 
 key-of-requires : tie.Need-key-of-requires
 key-of-requires c κs = search needs
@@ -52,10 +52,10 @@ slice-reshare-prefix-sign-of c = search needs
 
 slice-aggregate-sign-of : tie.Need-slice-aggregate-sign-of
 slice-aggregate-sign-of c =
-    let s = c .before .before .before .before .before .before .before .before .before .before .before .before .before .before .before .before .before .before in
-    let n = c .before .before .before .before .before .begin-layer in
-    let kept : length (n .last .1 .1 .1 .1 .1 .1 .1 .1 .1 .1 .0) ≡ length (now (s .args .next)) = n .kept .1 .1 .1 .1 .1 .1 .1 .1 .1 .1 .0 in
-    sym (length-take-le (rowOn (board s)) (n .last .1 .1 .1 .1 .1 .1 .1 .1 .1 .1 .0) (omega (arith, s .pre .1 .1 .0 .2)))
+    let s = c .before .before .before .before .before .before .before .before .before .before .before .before .before .before .before .before .before .before .before in
+    let n = c .before .before .before .before .before .begin-moved in
+    let kept : length (n .last .1 .1 .1 .1 .1 .1 .1 .1 .1 .1 .1 .0) ≡ length (now (s .args .next)) = n .kept .1 .1 .1 .1 .1 .1 .1 .1 .1 .1 .1 .0 in
+    sym (length-take-le (rowOn (board s)) (n .last .1 .1 .1 .1 .1 .1 .1 .1 .1 .1 .1 .0) (omega (arith, s .pre .1 .1 .0 .2)))
 
 sign-of-requires : tie.Need-sign-of-requires
 sign-of-requires c κs = search needs
@@ -76,7 +76,7 @@ begin-of-spec =
     copy-words-requires
     same-length
     returns
-    begin-layer-requires
+    begin-moved-requires
     key-of-requires
     slice-reshare-prefix-sign-of
     slice-aggregate-sign-of
