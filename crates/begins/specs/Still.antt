@@ -12,16 +12,17 @@ use native.Mathlib.Omega.{arith}
 use lib.ListN.{length, getD, set, take, drop, length-take, length-drop, length-set, List·getD-eq-default}
 use lib.Arith.{digits-div, digits-mod}
 use lib.Seq.{take-length, drop-length, take-at, take-add, getD-take, getD-drop, getD-set-same, getD-set-other, ext-getD}
-use Rattle.loops.specs.Count.Laws.{below-cases, sum-ext}
+use Rattle.loops.specs.Count.{sum}
+use Rattle.loops.specs.Count.Laws.{below-cases, sum-more, sum-ext}
 use Rattle.task.specs.declared.Task.{Task}
 use Rattle.task.specs.Meaning.{cost}
 use Rattle.leaf.specs.Price.{mark}
 use Rattle.leaf.specs.Settle.Turns.{at-any}
 use Rattle.leaf.specs.Settle.Walks.{Capped}
 use Rattle.leaf.specs.Pass.{pass}
-use Rattle.leaf.specs.Pass.Laws.{pass-length, pass-hit, pass-from}
+use Rattle.leaf.specs.Pass.Laws.{pass-length, pass-hit, pass-from, pass-floor}
 use Rattle.layer.specs.Layer.{leafPart, passLeaf, joined}
-use Rattle.layer.specs.Layer.Leaf.{passLeaf-floor}
+use Rattle.layer.specs.Layer.Laws.{joined-part}
 use Rattle.layer.specs.Layer.Front.{part-take}
 use Rattle.layer.specs.Board.{Board, Sound, baseOn, rowOn, statesOn, toOn, passOn, partOn, beginOn}
 use Rattle.layer.specs.Board.Laws.{joined-ext}
@@ -82,7 +83,7 @@ leaf-more moves at n h e x l = go (below-cases (omega arith))
 
 -- a leaf more
 pub stays-more : (n : ℕ) (bases moves : List ℕ) (from : ℕ) → Stays n bases moves from
-    → ((x : ℕ) → x < getD bases (n + 1) 0 - getD bases n 0 → getD moves (from + getD bases n 0 + x) 0 ≡ x + 1) → Stays (n + 1) bases moves from
+    → StaysIn n bases moves from → Stays (n + 1) bases moves from
 stays-more n bases moves from h e i x l = go (below-cases (omega arith))
   where
     go : (i < n) ⊎ (i ≡ n) → x < getD bases (i + 1) 0 - getD bases i 0 → getD moves (from + (getD bases i 0 + x)) 0 ≡ x + 1
@@ -128,6 +129,28 @@ entries-more leaves k bases moves stills f few h s =
         let act : k / 8 ≡ a = rw (sym q) (digits-div a {m = 8} {r = i} e) in
         rw (leaf, act) at (h (rw (q, getD-set-same stills k f 0 (omega (arith, s .long))) at d))
 
+-- ---- keys that rise
+
+-- over the first i leaves the least prices f rise to g, and the key from `low` to `key`
+pub record Risen (f g : ℕ → ℕ) (i low key : ℕ) : Type 0 where
+  pub rise : ℕ
+  pub sums : sum i f + rise ≡ sum i g
+  pub capped : key ≡ min (low + rise) mark
+
+-- over no leaf
+pub risen-none : (f g : ℕ → ℕ) (low : ℕ) → low ≤ mark → Risen f g 0 low low
+unfolding sum
+risen-none f g low h = record { rise = 0; sums = refl; capped = omega arith }
+
+-- over a leaf more
+pub risen-more : (f g : ℕ → ℕ) (i low key r more : ℕ) → Risen f g i low key → f i + r ≡ g i → more ≡ min (key + r) mark → Risen f g (i + 1) low more
+risen-more f g i low key r more s e q =
+    record {
+      rise = s .rise + r;
+      sums = omega (arith, sum-more i f, sum-more i g, s .sums, e);
+      capped = omega (arith, s .capped, q);
+    }
+
 -- ---- the begin
 
 -- words are no prices above the mark
@@ -153,12 +176,18 @@ pass-still n thr P long cap h =
         let same : x ≡ y = omega (arith, h x k) in
         e ∙ ap (λ z. getD P z mark) same
 
--- so a copy of their prices is what passes
-pub copy-passes : (thr : ℕ → ℕ) (P Q : List ℕ) → length Q ≡ length P → ((x : ℕ) → getD P x 0 ≤ mark) → ((x : ℕ) → x < length P → thr x ≡ x + 1)
-    → take (length P) P ++ drop (length P) Q ≡ pass mark (length P) thr P (length P)
-copy-passes thr P Q long words stay =
-    let none : drop (length P) Q ≡ [] = rw (sym long) (drop-length Q) in
-    rw (none, take-length P, append-nil) (sym (pass-still (length P) thr P refl (word-cap P words) stay))
+-- no least price falls over an action
+pub pass-rises : (n : ℕ) (thr : ℕ → ℕ) (P : List ℕ) → leastOf P ≤ leastOf (pass mark n thr P n)
+pass-rises n thr P =
+    leastOf-ge (pass mark n thr P n) (leastOf P) (leastOf-cap P) (λ y _. pass-floor mark n thr P (leastOf P) (leastOf-cap P) (λ x _. leastOf-le P x) y)
+
+-- so a copy Q of their prices is what passes, and the least of them is the same
+pub copy-passes : (thr : ℕ → ℕ) (P R Q : List ℕ) → length R ≡ length P → ((x : ℕ) → getD P x 0 ≤ mark) → ((x : ℕ) → x < length P → thr x ≡ x + 1)
+    → Q ≡ take (length P) P ++ drop (length P) R → (Q ≡ pass mark (length P) thr P (length P)) × (leastOf P + 0 ≡ leastOf Q)
+copy-passes thr P R Q long words stay isQ =
+    let none : drop (length P) R ≡ [] = rw (sym long) (drop-length R) in
+    let same : Q ≡ P = rw (none, take-length P, append-nil) at isQ in
+    (same ∙ sym (pass-still (length P) thr P refl (word-cap P words) stay), rw same (omega arith))
 
 module _ (b : Board) (sound : Sound b) where
   -- where the states of a leaf begin is not behind where those of later leaves do
@@ -185,17 +214,39 @@ module _ (b : Board) (sound : Sound b) where
       let z : baseOn b (suc n) ≡ baseOn b n + statesOn b n = omega (arith, e, sound .bases-rise n (omega arith)) in
       rw (z, parts-front P n (omega arith)) (sym (take-add (baseOn b n) (statesOn b n) P))
 
+  -- a leaf's part is as long as the leaf has states
+  part-many : (P : List ℕ) → rowOn b ≤ length P → (i : ℕ) → i < b .leaves → length (partOn b i P) ≡ statesOn b i
+  part-many P long i l = simp (length-take, length-drop) (omega (arith, part-fits i l))
+
+  -- lists of the leaves, one behind the other at the front of Q, are the parts of Q
+  parts-laid : (f : ℕ → List ℕ) → ((j : ℕ) → j < b .leaves → length (f j) ≡ statesOn b j) → (Q : List ℕ) → rowOn b ≤ length Q
+      → joined (b .leaves) f ≡ take (rowOn b) Q → (i : ℕ) → i < b .leaves → partOn b i Q ≡ f i
+  parts-laid f fits Q long e i l =
+      sym (joined-part (b .leaves) i (λ j. partOn b j Q) (statesOn b) (part-many Q long) l)
+      ∙ ap (λ xs. take (statesOn b i) (drop (sum i (statesOn b)) xs)) (parts-front Q (b .leaves) (omega arith) ∙ sym e)
+      ∙ joined-part (b .leaves) i f (statesOn b) fits l
+
+  -- the key of a begin, where the least prices of the leaves have risen
+  pub risen-key : (a spent : ℕ) (P Q rest : List ℕ) (low made : ℕ) → rowOn b ≤ length Q → Q ≡ joined (b .leaves) (λ k. passOn b k a (partOn b k P)) ++ rest
+      → length (joined (b .leaves) (λ k. passOn b k a (partOn b k P))) ≡ rowOn b
+      → Risen (λ k. leastOf (partOn b k P)) (λ k. leastOf (passOn b k a (partOn b k P))) (b .leaves) low made
+      → low ≡ keyBy (b .leaves) (b .bases) spent P → made ≡ keyBy (b .leaves) (b .bases) spent Q
+  unfolding keyBy passOn
+  risen-key a spent P Q rest low made long isQ many risen isLow =
+      let f : ℕ → List ℕ = λ k. passOn b k a (partOn b k P) in
+      let front : joined (b .leaves) f ≡ take (rowOn b) Q = rw isQ (sym (take-at (joined (b .leaves) f) rest (rowOn b) many)) in
+      let parts = parts-laid f (λ j l. pass-length mark (statesOn b j) (toOn b j a) (partOn b j P) (statesOn b j)) Q long front in
+      let same = sum-ext (b .leaves) (λ k. leastOf (partOn b k Q)) (λ k. leastOf (f k)) (λ i l. ap leastOf (parts i l)) in
+      omega (arith, same, risen .sums, risen .capped, isLow)
+
   -- the begin behind an action that leaves all as it is: the old layer
   pub begin-still : (a : ℕ) (P : List ℕ) → rowOn b ≤ length P → Capped mark P → Stays (b .leaves) (b .bases) (b .moves) (a * rowOn b)
       → beginOn b a P ≡ take (rowOn b) P
   unfolding beginOn passOn
   begin-still a P long cap stays =
-      joined-ext (b .leaves) _ _ (λ i l. pass-still (statesOn b i) (toOn b i a) (partOn b i P) (many i l) (low i) (λ x k. stays i x l k))
+      joined-ext (b .leaves) _ _ (λ i l. pass-still (statesOn b i) (toOn b i a) (partOn b i P) (part-many P long i l) (low i) (λ x k. stays i x l k))
       ∙ parts-front P (b .leaves) (omega arith)
     where
-      many : (i : ℕ) → i < b .leaves → length (partOn b i P) ≡ statesOn b i
-      many i l = simp (length-take, length-drop) (omega (arith, part-fits i l))
-
       low : (i : ℕ) → Capped mark (partOn b i P)
       low i x = go (decLe (suc x) (statesOn b i))
         where
@@ -217,15 +268,15 @@ module _ (b : Board) (sound : Sound b) where
   key-front paid P Q e = sym (key-take paid P) ∙ ap (keyBy (b .leaves) (b .bases) paid) e ∙ key-take paid Q
 
   -- what is made of the begin behind such an action: the old prices at the front of Q, their key and signature
-  pub begun-still : (a spent : ℕ) (P rest : List ℕ) (low sign : ℕ) → rowOn b ≤ length P → ((x : ℕ) → getD P x 0 ≤ mark)
+  pub begun-still : (a : ℕ) (P rest : List ℕ) (low sign : ℕ) → rowOn b ≤ length P → ((x : ℕ) → getD P x 0 ≤ mark)
       → Stays (b .leaves) (b .bases) (b .moves) (a * rowOn b) → sign ≡ signOf (take (rowOn b) P)
       → (Q : List ℕ) → Q ≡ take (rowOn b) P ++ rest
-      → (Q ≡ beginOn b a P ++ rest) × (low ≡ keyBy (b .leaves) (b .bases) spent P → low ≡ keyBy (b .leaves) (b .bases) spent Q) × (sign ≡ signOf (take (rowOn b) Q))
-  begun-still a spent P rest low sign long words stays isSign Q isQ =
+      → (Q ≡ beginOn b a P ++ rest) × ((spent : ℕ) → low ≡ keyBy (b .leaves) (b .bases) spent P → low ≡ keyBy (b .leaves) (b .bases) spent Q) × (sign ≡ signOf (take (rowOn b) Q))
+  begun-still a P rest low sign long words stays isSign Q isQ =
       let front : take (rowOn b) Q ≡ take (rowOn b) P =
       rw isQ (take-at (take (rowOn b) P) rest (rowOn b) (simp length-take (omega arith))) in
       let begin = begin-still a P long (word-cap P words) stays in
-      (isQ ∙ ap (λ xs. xs ++ rest) (sym begin), λ isLow. isLow ∙ sym (key-front spent Q P front), isSign ∙ sym (ap signOf front))
+      (isQ ∙ ap (λ xs. xs ++ rest) (sym begin), λ spent isLow. isLow ∙ sym (key-front spent Q P front), isSign ∙ sym (ap signOf front))
 
 -- ---- keys
 
@@ -237,10 +288,8 @@ key-more leaves bases paid c P = omega arith
 module _ (t : Task) (n : Node) (a : ℕ) where
   -- no leaf's least price falls over a centre action
   least-rises : (i : ℕ) → leastOf (leafPart t i (n .prices)) ≤ leastOf (passLeaf t (suc i) a (leafPart t i (n .prices)))
-  least-rises i =
-      let P = leafPart t i (n .prices) in
-      leastOf-ge (passLeaf t (suc i) a P) (leastOf P) (leastOf-cap P)
-      (λ y _. passLeaf-floor t (suc i) a P (leastOf P) (leastOf-cap P) (λ x _. leastOf-le P x) y)
+  unfolding passLeaf
+  least-rises i = pass-rises _ _ (leafPart t i (n .prices))
 
   -- so the key rises by the action's cost at least
   pub key-rises : (u : ℕ) → key t n + cost t a ≤ key t (nextNode t u n a)

@@ -1,7 +1,8 @@
 // The begin of a layer behind a centre action, and what makes it cheap: actions that leave all leaf states as they are, and actions that are stuck.
 use layer::applies;
+use leaf::add_price;
 use leaf::pass;
-use rows::key_of;
+use rows::least;
 use rows::sign_of;
 use task::Centre;
 use words::copy_words;
@@ -14,6 +15,7 @@ ghost use Rattle.leaf.specs.Price.{mark};
 ghost use Rattle.leaf.specs.Pass.{pass};
 ghost use Rattle.layer.specs.Board.{Sound, beginOn, appliesOn};
 ghost use Rattle.layer.specs.Lent.{boardOf};
+ghost use Rattle.search.specs.Node.{leastOf};
 ghost use Rattle.rows.specs.Scan.{Cut, keyBy};
 ghost use Rattle.rows.specs.Sign.{signOf};
 ghost use Rattle.begins.specs.Still.{StaysIn, Stays, Still, Stills};
@@ -136,22 +138,25 @@ pub fn is_stuck(
 }
 
 // Each state of a leaf passes over a centre action, at its own price. The action's moves of the leaf begin at `at`; where `still` is not 0 they
-// leave each state as it is, and the prices are copied.
-fn carry(old: &[u64], moves: &[u16], at: usize, still: u8, new: &mut [u64])
+// leave each state as it is, and the prices are copied. How much the least price rises.
+fn carry(old: &[u64], moves: &[u16], at: usize, still: u8, new: &mut [u64]) -> u64
     requires { ⌜ (length (now new) ≡ length (now old)) × (at + length (now old) ≤ length (now moves))
         × ((x : ℕ) → x < length (now old) → getD (now moves) (at + x) 0 ≤ length (now old))
         × ((still ≡ 0 → ⊥) → (x : ℕ) → x < length (now old) → getD (now moves) (at + x) 0 ≡ x + 1) ⌝ }
-    ensures { λ _. ⌜ now (new .exit)
-        ≡ pass mark (length (now (old .entry))) (λ x. getD (now (moves .entry)) (at + x) 0) (now (old .entry)) (length (now (old .entry))) ⌝ }
+    ensures { λ r. ⌜ (now (new .exit)
+        ≡ pass mark (length (now (old .entry))) (λ x. getD (now (moves .entry)) (at + x) 0) (now (old .entry)) (length (now (old .entry))))
+        × (leastOf (now (old .entry)) + r ≡ leastOf (now (new .exit))) ⌝ }
 {
     if still != 0 {
         copy_words(old, new, old.len());
-        return;
+        return 0;
     }
     pass(old, moves, at, new);
+    least(&new[..]) - least(old)
 }
 
-// The begin of the layer behind a centre action, at the front of `new`, as in `layer::begin_layer`: only the leaves that it moves pass.
+// The begin of the layer behind a centre action, at the front of `new`, as in `layer::begin_layer`: only the leaves that it moves pass. The
+// key there, where `low` is the key with the prices of `old`: it rises with the least prices of the leaves.
 fn begin_moved(
     leaves: usize,
     actions: usize,
@@ -164,26 +169,31 @@ fn begin_moved(
     stills: &[u8],
     action: usize,
     old: &[u64],
+    low: u64,
     new: &mut [u64],
-)
+) -> u64
     requires { ⌜ Sound (boardOf leaves actions (now bases) (now moves) (now costs) (now kinds) factors (now conditions))
         × Stills leaves actions (now bases) (now moves) (now stills)
         × (action < actions) × (getD (now bases) leaves 0 ≤ length (now old)) × (getD (now bases) leaves 0 ≤ length (now new)) ⌝ }
-    ensures { λ _. ⌜ now (new .exit) ≡ beginOn (boardOf leaves actions (now (bases .entry)) (now (moves .entry)) (now (costs .entry)) (now (kinds .entry))
-        factors (now (conditions .entry))) action (now (old .entry)) ++ drop (getD (now (bases .entry)) leaves 0) (now (new .entry)) ⌝ }
+    ensures { λ r. ⌜ (now (new .exit) ≡ beginOn (boardOf leaves actions (now (bases .entry)) (now (moves .entry)) (now (costs .entry)) (now (kinds .entry))
+        factors (now (conditions .entry))) action (now (old .entry)) ++ drop (getD (now (bases .entry)) leaves 0) (now (new .entry)))
+        × ((spent : ℕ) → low ≡ keyBy leaves (now (bases .entry)) spent (now (old .entry)) → r ≡ keyBy leaves (now (bases .entry)) spent (now (new .exit))) ⌝ }
 {
     let row = bases[leaves];
+    let mut key = low;
     for i in 0..leaves {
         let from = bases[i];
         let to = bases[i + 1];
-        carry(
+        let rise = carry(
             &old[from..to],
             moves,
             action * row + from,
             stills[action * 8 + i],
             &mut new[from..to],
         );
+        key = add_price(key, rise);
     }
+    key
 }
 
 // The begin of the layer behind centre action a, at the front of `next`, with its key and signature. Where the action moves no leaf state it is the
@@ -203,7 +213,6 @@ pub fn begin_of(
     old: &[u64],
     low: u64,
     sign: u64,
-    spent: u64,
     next: &mut [u64],
 ) -> Begun
     requires { ⌜ Sound (boardOf leaves actions (now bases) (now moves) (now costs) (now kinds) factors (now conditions)) ⌝ }
@@ -212,7 +221,7 @@ pub fn begin_of(
     requires { ⌜ sign ≡ signOf (take (getD (now bases) leaves 0) (now old)) ⌝ }
     ensures { λ r. ⌜ (now (next .exit) ≡ beginOn (boardOf leaves actions (now (bases .entry)) (now (moves .entry)) (now (costs .entry)) (now (kinds .entry))
         factors (now (conditions .entry))) a (now (old .entry)) ++ drop (getD (now (bases .entry)) leaves 0) (now (next .entry)))
-        × (low ≡ keyBy leaves (now (bases .entry)) spent (now (old .entry)) → r .key ≡ keyBy leaves (now (bases .entry)) spent (now (next .exit)))
+        × ((spent : ℕ) → low ≡ keyBy leaves (now (bases .entry)) spent (now (old .entry)) → r .key ≡ keyBy leaves (now (bases .entry)) spent (now (next .exit)))
         × (r .sign ≡ signOf (take (getD (now (bases .entry)) leaves 0) (now (next .exit)))) ⌝ }
 {
     let states = bases[leaves];
@@ -220,7 +229,7 @@ pub fn begin_of(
         copy_words(old, next, states);
         return Begun { key: low, sign };
     }
-    begin_moved(
+    let key = begin_moved(
         leaves,
         actions,
         bases,
@@ -232,9 +241,9 @@ pub fn begin_of(
         stills,
         a,
         old,
+        low,
         next,
     );
-    let key = key_of(leaves, bases, spent, &next[..]);
     let made = sign_of(&next[..states]);
     Begun { key, sign: made }
 }

@@ -157,7 +157,6 @@ fn turn(
         old,
         low,
         sign,
-        spent,
         next,
     );
     offer(

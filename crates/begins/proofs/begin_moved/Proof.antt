@@ -1,6 +1,6 @@
 -- `begins::begin_moved` meets its contract: each leaf is carried. The invariant: what came through of the leaves so far stands one leaf's behind the other, and behind
--- them the prices are as they were. Assumes nothing.
-use mathlib.Core.Path.{_≡_, sym, _∙_}
+-- them the prices are as they were; the key has risen with their least prices. Assumes nothing.
+use mathlib.Core.Path.{_≡_, sym, ap, _∙_}
 use mathlib.Core.List.{List, []}
 use Prim.Native.Nat.{ℕ, _+_, _*_, _-_, _≤_, _<_}
 use native.Mathlib.Omega.{arith}
@@ -9,6 +9,8 @@ use borrow.Author.Needs.{needs}
 use Rattle.layer.specs.Board.{Board, baseOn, rowOn, partOn, passOn, beginOn}
 use Rattle.layer.specs.Board.Turns.{base-in, moves-here, moves-stay, leaf-passed, part-length, Laid, laid-none, laid-more}
 use Rattle.layer.specs.Lent.{boardOf}
+use Rattle.search.specs.Node.{leastOf}
+use Rattle.begins.specs.Still.{Risen, risen-none, risen-more, risen-key}
 use Rattle.begins.proofs.begin_moved.Statement.{statement}
 use Rattle.begins.proofs.begin_moved.Tie as tie
 
@@ -18,11 +20,13 @@ leaf b action old k = passOn b k action (partOn b k old)
 
 -- factors are not looked at
 abbrev Inv-loop : tie.InvT-loop
-Inv-loop leaves actions bases moves costs kinds conditions stills action old new₀ row i₀ new i =
+Inv-loop leaves actions bases moves costs kinds conditions stills action old low new₀ row key₀ i₀ new key i =
     (i ≤ leaves) × Laid (leaf (boardOf leaves actions bases moves costs kinds [] conditions) action old) i (getD bases i 0) new₀ new
+    × Risen (λ k. leastOf (partOn (boardOf leaves actions bases moves costs kinds [] conditions) k old))
+    (λ k. leastOf (leaf (boardOf leaves actions bases moves costs kinds [] conditions) action old k)) i low key
 
 abbrev μ-loop : tie.MeasureT-loop
-μ-loop leaves actions bases moves costs kinds conditions stills action old new₀ row i₀ new i = leaves - i
+μ-loop leaves actions bases moves costs kinds conditions stills action old low new₀ row key₀ i₀ new key i = leaves - i
 
 mul-row : tie.Need-mul-row Inv-loop μ-loop
 mul-row c = search needs
@@ -33,16 +37,19 @@ shared-slice-read-row c = search needs
 loop-holds : tie.Need-loop-holds Inv-loop μ-loop
 loop-holds c =
     let s = c .before .before .before .before .before .before .before .before .before in
-    (omega arith, laid-none _ _ _ (s .pre .0 .bases-first))
+    (omega arith, laid-none _ _ _ (s .pre .0 .bases-first), risen-none _ _ (s .args .low) (omega (arith, s .fits .low)))
 
 -- where the function starts, and the Board that is lent
 abbrev start : tie.In-loop Inv-loop μ-loop → tie.Start Inv-loop μ-loop
 start c = c .before .before .before .before .before .before .before .before .before .before .before
 
-abbrev board : tie.In-loop Inv-loop μ-loop → Board
-board c =
-    let a = start c .args in
+abbrev lent : tie.Start Inv-loop μ-loop → Board
+lent s =
+    let a = s .args in
     boardOf (a .leaves) (a .actions) (a .bases .now) (a .moves .now) (a .costs .now) (a .kinds .now) (a .factors) (a .conditions .now)
+
+abbrev board : tie.In-loop Inv-loop μ-loop → Board
+board c = lent (start c)
 
 -- where the leaf's prices begin and end, and that they lie within both lists, and the action's moves of the leaf within the table
 abbrev from : tie.In-loop Inv-loop μ-loop → ℕ
@@ -133,6 +140,9 @@ carry-requires c κs =
     let stay = moves-stay (board t) (s .pre .0) i (s .args .action) (t .loop-test .taken) (s .pre .2) in
     (new ∙ sym old, rw old (in-moves t), rw old stay, λ d. rw old (s .pre .1 .stays (s .args .action) i (entry t .1) (entry t .0) d))
 
+add-price-requires : tie.Need-add-price-requires Inv-loop μ-loop
+add-price-requires c κs = search needs
+
 add-i : tie.Need-add-i Inv-loop μ-loop
 add-i c = search needs
 
@@ -142,14 +152,15 @@ loop-less c = search needs
 loop-again : tie.Need-loop-again Inv-loop μ-loop
 unfolding passOn
 loop-again c =
-    let called = c .before .before in
+    let called = c .before .before .before in
     let t = called .before .before .before .before .before .before in
     let l = t .before .loop in
     let a = start t .args in
-    let many = part-length (a .old .now) (from t) (to t) (room t .2) in (
+    let many = part-length (a .old .now) (from t) (to t) (room t .2) in
+    let passed = called .carry .ensures .0 ∙ leaf-passed (board t) (l .i) (a .action) _ many in (
       omega arith,
-      laid-more _ (l .i) (from t) (to t) _ (l .new) _ (room t .0) (room t .3) (l .inv .1)
-          (called .carry .ensures ∙ leaf-passed (board t) (l .i) (a .action) _ many) (called .carry .kept .1 .1 .1 .1 .0),
+      laid-more _ (l .i) (from t) (to t) _ (l .new) _ (room t .0) (room t .3) (l .inv .1) passed (called .carry .kept .1 .1 .1 .1 .0),
+      risen-more _ _ (l .i) (a .low) (l .key) (called .carry .result) _ (l .inv .2) (called .carry .ensures .1 ∙ ap leastOf passed) (c .add-price .ensures),
     )
 
 same-length : tie.Need-same-length Inv-loop μ-loop
@@ -159,8 +170,12 @@ returns : tie.Need-returns Inv-loop μ-loop
 unfolding beginOn passOn
 returns c =
     let s = c .before .before .before .before .before .before .before .before .before .before .before in
-    let all : c .before .loop .i ≡ s .args .leaves = omega arith in
-    c .before .loop .inv .1 .laid ∙ rw all
+    let a = s .args in
+    let l = c .before .loop in
+    let all : l .i ≡ a .leaves = omega arith in
+    let laid = rw all at (l .inv .1 .laid) in
+    let room : rowOn (lent s) ≤ length (l .new) = omega (arith, s .pre .4, l .inv .1 .kept) in
+    (laid, λ spent isLow. risen-key (lent s) (s .pre .0) (a .action) spent (a .old .now) (l .new) _ (a .low) (l .key) room laid (rw all at (l .inv .1 .long)) (rw all at (l .inv .2)) isLow)
 
 pub begin-moved-spec : {M : Type 1} → statement M
 begin-moved-spec =
@@ -190,6 +205,7 @@ begin-moved-spec =
     part-carry-start-2
     part-carry-end-2
     carry-requires
+    add-price-requires
     add-i
     loop-less
     loop-again

@@ -37,25 +37,22 @@ returns c =
     let w = c .before .before .copy-words in
     let s = c .before .before .before .before .before .before .before .before .before .before .before .before .before .before .before .before in
     let a = s .args in
-    begun-still (board s) (s .pre .0) (a .a) (a .spent) (now (a .old)) (drop (rowOn (board s)) (now (a .next))) (a .low) (a .sign)
+    begun-still (board s) (s .pre .0) (a .a) (now (a .old)) (drop (rowOn (board s)) (now (a .next))) (a .low) (a .sign)
     (s .pre .1 .1 .0 .1) (λ x. omega (arith, c .before .before .before .before .before .before .before .before .shared-slice-known8 .given x)) (s .pre .1 .0 .0 .stays (a .a) (s .pre .1 .1 .0 .0) (c .before .before .before .before .if1 .taken))
     (s .pre .1 .1 .1) (w .last .1 .0) (w .ensures)
 
 begin-moved-requires : tie.Need-begin-moved-requires
 begin-moved-requires c κs = search needs
 
-key-of-requires : tie.Need-key-of-requires
-key-of-requires c κs = search needs
-
 slice-reshare-prefix-sign-of : tie.Need-slice-reshare-prefix-sign-of
 slice-reshare-prefix-sign-of c = search needs
 
 slice-aggregate-sign-of : tie.Need-slice-aggregate-sign-of
 slice-aggregate-sign-of c =
-    let s = c .before .before .before .before .before .before .before .before .before .before .before .before .before .before .before .before .before .before .before in
-    let n = c .before .before .before .before .before .begin-moved in
-    let kept : length (n .last .1 .1 .1 .1 .1 .1 .1 .1 .1 .1 .1 .0) ≡ length (now (s .args .next)) = n .kept .1 .1 .1 .1 .1 .1 .1 .1 .1 .1 .1 .0 in
-    sym (length-take-le (rowOn (board s)) (n .last .1 .1 .1 .1 .1 .1 .1 .1 .1 .1 .1 .0) (omega (arith, s .pre .1 .1 .0 .2)))
+    let s = c .before .before .before .before .before .before .before .before .before .before .before .before .before .before .before .before .before in
+    let n = c .before .before .before .begin-moved in
+    let kept : length (n .last .1 .1 .1 .1 .1 .1 .1 .1 .1 .1 .1 .1 .0) ≡ length (now (s .args .next)) = n .kept .1 .1 .1 .1 .1 .1 .1 .1 .1 .1 .1 .1 .0 in
+    sym (length-take-le (rowOn (board s)) (n .last .1 .1 .1 .1 .1 .1 .1 .1 .1 .1 .1 .1 .0) (omega (arith, s .pre .1 .1 .0 .2)))
 
 sign-of-requires : tie.Need-sign-of-requires
 sign-of-requires c κs = search needs
@@ -64,7 +61,9 @@ same-length-2 : tie.Need-same-length-2
 same-length-2 c = search needs
 
 returns-2 : tie.Need-returns-2
-returns-2 c = search needs
+returns-2 c =
+    let n = c .before .before .before .before .begin-moved in
+    (n .ensures .0, n .ensures .1, c .sign-of .ensures)
 
 pub begin-of-spec : {M : Type 1} → statement M
 begin-of-spec =
@@ -77,7 +76,6 @@ begin-of-spec =
     same-length
     returns
     begin-moved-requires
-    key-of-requires
     slice-reshare-prefix-sign-of
     slice-aggregate-sign-of
     sign-of-requires

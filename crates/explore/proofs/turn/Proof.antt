@@ -105,8 +105,8 @@ offer-requires : tie.Need-offer-requires
 offer-requires c κs =
     let n = c .before .before .before .before .before .before .before .begin-of in
     let s = c .before .before .before .before .before .before .before .before .before .before .before .before .before .before .before .before .before .before .before .before .before .before .before .before .before .before .before .before .before .before .before .before .before .before .before .before .before .before in
-    let next = n .last .1 .1 .1 .1 .1 .1 .1 .1 .1 .1 .1 .1 .1 .1 .1 .0 in
-    let kept : length next ≡ length (now (s .args .next)) = n .kept .1 .1 .1 .1 .1 .1 .1 .1 .1 .1 .1 .1 .1 .1 .1 .0 in
+    let next = n .last .1 .1 .1 .1 .1 .1 .1 .1 .1 .1 .1 .1 .1 .1 .0 in
+    let kept : length next ≡ length (now (s .args .next)) = n .kept .1 .1 .1 .1 .1 .1 .1 .1 .1 .1 .1 .1 .1 .1 .0 in
     let all = s .pre .0 .few-all in (
       s .pre .0,
       (
@@ -152,8 +152,8 @@ returns-4 c =
       moved-offered (board s) (now (a .effects)) (now (a .goals)) (a .goal) (a .nodes) (a .spot) (a .paid) (now (a .old)) (a .key) (a .u) (a .a)
           (now (a .table)) (now (a .scan)) (a .run) (s .pre .1 .1 .1 .1 .few-nodes) (s .pre .1 .1 .1 .1 .count-few) (s .pre .1 .1 .0 .5) (s .pre .1 .1 .0 .4)
           (c .before .before .before .before .before .before .before .before .before .before .before .before .before .before .before .before .before .before .before .before .before .before .before .before .before .before .before .before .before .if1 .left) true (sym (s .pre .1 .0 .4)) refl
-          (g .result) (n .last .1 .1 .1 .1 .1 .1 .1 .1 .1 .1 .1 .1 .1 .1 .1 .0) (drop (rowOn (board s)) (now (a .next))) (f .result) (p .result)
-          (g .ensures) (f .ensures) (n .ensures .0) (p .ensures) (n .result .key) (λ isKey. n .ensures .1 (low isKey)) (o .last .1 .1 .1 .1 .1 .1 .1 .1 .1 .1 .1 .1 .1 .1 .1 .1 .1 .1 .1 .1 .1 .0) (o .last .1 .1 .1 .1 .1 .1 .1 .1 .1 .1 .1 .1 .1 .1 .1 .1 .1 .1 .1 .1 .1 .1 .0) (o .result) (o .ensures .0),
+          (g .result) (n .last .1 .1 .1 .1 .1 .1 .1 .1 .1 .1 .1 .1 .1 .1 .0) (drop (rowOn (board s)) (now (a .next))) (f .result) (p .result)
+          (g .ensures) (f .ensures) (n .ensures .0) (p .ensures) (n .result .key) (λ isKey. n .ensures .1 (p .result) (low isKey)) (o .last .1 .1 .1 .1 .1 .1 .1 .1 .1 .1 .1 .1 .1 .1 .1 .1 .1 .1 .1 .1 .1 .0) (o .last .1 .1 .1 .1 .1 .1 .1 .1 .1 .1 .1 .1 .1 .1 .1 .1 .1 .1 .1 .1 .1 .1 .0) (o .result) (o .ensures .0),
       o .ensures .1,
     )
 
