@@ -1,47 +1,76 @@
--- The blocks of the scan words: 64 words at 16384 + b. The word of block b is the least open key of the nodes 64 b to 64 b + 63, the mark if there is
--- none below it.
+-- The blocks of the scan words, in two levels. A block word for each 16 nodes, 256 words at 16384 + b: the least open key of the nodes 16 b to
+-- 16 b + 15, the mark if there is none below it. An upper word for each 16 blocks, 16 words at 16640 + g: the least of the block words 16 g to
+-- 16 g + 15.
 pub mod Laws
 use mathlib.Core.Path.{_≡_}
 use mathlib.Core.Logic.{_⊎_}
 use mathlib.Core.List.{List}
 use Prim.Native.Nat.{ℕ, zero, suc, _+_, _-_, _*_, _/_, _≤_, _<_, min}
-use lib.ListN.{getD, set, take, drop}
+use lib.ListN.{getD, set, drop}
 use Rattle.leaf.specs.Price.{mark}
-use Rattle.search.specs.Node.{leastOf}
+use Rattle.nodes.specs.Choice.{keyOf, chooseBy}
 
--- the word of block b
-abbrev pub blockAt : List ℕ → ℕ → ℕ
-blockAt C b = getD C (16384 + b) 0
+-- ---- words of blocks of 16 keys
 
--- the words of all blocks
-abbrev pub blockWords : List ℕ → List ℕ
-blockWords C = take 64 (drop 16384 C)
+-- how many of n keys are in block b
+abbrev pub blockSize : ℕ → ℕ → ℕ
+blockSize n b = min 16 (n - b * 16)
 
--- how many of n nodes are in block b or before it
-abbrev pub blockEnd : ℕ → ℕ → ℕ
-blockEnd n b = min (b * 64 + 64) n
+-- the least of the first n keys, the mark if there is none below it
+unfoldable pub leastIn : List ℕ → ℕ → ℕ
+leastIn K n = keyOf mark K (chooseBy mark K n)
 
--- the open keys of those of n nodes that are in block b
-abbrev pub blockOf : List ℕ → ℕ → ℕ → List ℕ
-blockOf C n b = take (blockEnd n b - b * 64) (drop (b * 64) C)
+-- the least of those of n keys that are in block b
+abbrev pub leastOfBlock : List ℕ → ℕ → ℕ → ℕ
+leastOfBlock K n b = leastIn (drop (b * 16) K) (blockSize n b)
 
--- one of the first n nodes is in block b and has the open key k
-pub record Held (C : List ℕ) (n b k : ℕ) : Type 0 where
+-- one more than the place of the choice in block b of n keys
+abbrev pub chooseIn : ℕ → List ℕ → ℕ → ℕ → ℕ
+chooseIn bound K n b = b * 16 + chooseBy bound (drop (b * 16) K) (blockSize n b)
+
+-- one of the first n keys is in block b and is k
+pub record Held (K : List ℕ) (n b k : ℕ) : Type 0 where
   pub node : ℕ
   pub inside : node < n
-  pub block : node / 64 ≡ b
-  pub key : getD C node 0 ≡ k
+  pub block : node / 16 ≡ b
+  pub key : getD K node 0 ≡ k
 
--- the block words of the first n nodes: none is above an open key of its block, and each is the mark or such a key
+-- the words W of m blocks of the first n keys: none is above a key of its block, and each is the mark or such a key
+pub record Under (K W : List ℕ) (m n : ℕ) : Type 0 where
+  pub lower : (u : ℕ) → u < n → getD W (u / 16) 0 ≤ getD K u 0
+  pub held : (b : ℕ) → b < m → (getD W b 0 ≡ mark) ⊎ Held K n b (getD W b 0)
+
+-- ---- the two levels
+
+-- the block words, and what stands behind them
+abbrev pub blockWords : List ℕ → List ℕ
+blockWords C = drop 16384 C
+
+-- the upper words, and what stands behind them
+abbrev pub upperWords : List ℕ → List ℕ
+upperWords C = drop 16640 C
+
+-- the block words are those of the open keys of the first n nodes, the upper words those of the block words
 pub record Blocked (C : List ℕ) (n : ℕ) : Type 0 where
-  pub lower : (u : ℕ) → u < n → blockAt C (u / 64) ≤ getD C u 0
-  pub held : (b : ℕ) → b < 64 → (blockAt C b ≡ mark) ⊎ Held C n b (blockAt C b)
+  pub keys : Under C (blockWords C) 256 n
+  pub words : Under (blockWords C) (upperWords C) 16 256
 
--- the scan words after the first b block words are set to the mark
+-- ---- what is stored
+
+-- the scan words after the first b block words are set to the mark; the upper words are the last 16 of 272
 unfoldable pub freshTo : List ℕ → ℕ → List ℕ
 freshTo C zero = C
 freshTo C (suc b) = set (freshTo C b) (16384 + b) mark
 
--- the scan words after node u of n nodes is retired: its open key is the mark, its block's word the least open key that is left
+-- the word at i is no higher than the key
+unfoldable pub loweredTo : List ℕ → ℕ → ℕ → List ℕ
+loweredTo C i key = set C i (min (getD C i 0) key)
+
+-- the word of block b, of the words that begin at `at`, is the least key of the block; the n keys begin at `from`
+unfoldable pub raisedTo : List ℕ → ℕ → ℕ → ℕ → ℕ → List ℕ
+raisedTo C from at n b = set C (at + b) (leastOfBlock (drop from C) n b)
+
+-- the scan words after node u of n nodes is retired: its open key is the mark, its block's word the least open key that is left, and the upper word
+-- the least block word
 unfoldable pub retiredTo : List ℕ → ℕ → ℕ → List ℕ
-retiredTo C u n = set (set C u mark) (16384 + u / 64) (leastOf (blockOf (set C u mark) n (u / 64)))
+retiredTo C u n = raisedTo (raisedTo (set C u mark) 0 16384 n (u / 16)) 16384 16640 256 (u / 16 / 16)

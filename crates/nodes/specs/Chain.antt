@@ -1,5 +1,6 @@
--- The scan words: 36,928 words in four parts of 4,096, one of 64, one of four times 4,096 and one more of 4,096. Open keys stand at u, signatures at
--- 4096 + u, links at 8192 + u, heads at 12288 + h, block words at 16384 + b, further words at 16448 + 4 * u + k, recent words at 32832 + k.
+-- The scan words: 37,136 words in four parts of 4,096, one of 256, one of 16, one of four times 4,096 and one more of 4,096. Open keys stand at u,
+-- signatures at 4096 + u, links at 8192 + u, heads at 12288 + h, block words at 16384 + b, upper words at 16640 + g, further words at
+-- 16656 + 4 * u + k, recent words at 33040 + k.
 -- Nodes are chained by the class of their centre state. A link or a head is one more than a node's number, 0 for none: the link of a node is the
 -- last node before it of the same class, the head of a class is the last node of that class.
 -- The further words of a node are the signatures of the three nodes before it in its chain, 0 where there is none, and the link of the third: a walk
@@ -11,7 +12,7 @@ pub mod Walk
 use mathlib.Core.Path.{_≡_}
 use mathlib.Core.Bool.{Bool, true, false, not, _&&_}
 use mathlib.Core.List.{List}
-use Prim.Native.Nat.{ℕ, zero, suc, _+_, _*_, _/_, _%_, _≤_, _<_, min}
+use Prim.Native.Nat.{ℕ, zero, suc, _+_, _*_, _/_, _%_, _≤_, _<_}
 use lib.Bits.{bitOr}
 use lib.Dec.{eqb}
 use lib.ListN.{length, getD, set}
@@ -20,7 +21,7 @@ use Rattle.search.specs.Node.{Node, dominates}
 use Rattle.rows.specs.Four.{fourTo}
 use Rattle.rows.specs.Row.{rowIn, nodeIn, Packed}
 use Rattle.rows.specs.Sign.{classOf, signOf}
-use Rattle.nodes.specs.Block.{blockAt, Blocked}
+use Rattle.nodes.specs.Block.{loweredTo, Blocked}
 
 -- the signature of node u
 abbrev pub signAt : List ℕ → ℕ → ℕ
@@ -36,7 +37,7 @@ headAt C h = getD C (12288 + h) 0
 
 -- further word k of node u
 abbrev pub furtherAt : List ℕ → ℕ → ℕ → ℕ
-furtherAt C u k = getD C (16448 + 4 * u + k) 0
+furtherAt C u k = getD C (16656 + 4 * u + k) 0
 
 -- the word at f u of the node u that a link stands for, 0 where the link is 0; the remainder keeps any number inside the words
 unfoldable pub backAt : List ℕ → (ℕ → ℕ) → ℕ → ℕ
@@ -53,7 +54,7 @@ backLink C = backAt C (λ u. 8192 + u)
 
 -- its further word k
 abbrev pub backFurther : List ℕ → ℕ → ℕ → ℕ
-backFurther C k = backAt C (λ u. 16448 + 4 * u + k)
+backFurther C k = backAt C (λ u. 16656 + 4 * u + k)
 
 -- the place of the recent word of a class h and a signature s; any number below 4,096 is right, only speed depends on it
 unfoldable pub slotOf : ℕ → ℕ → ℕ
@@ -63,15 +64,15 @@ slotOf h s = (h * 5 + s % 4093) % 4096
 unfoldable pub chainedTo : List ℕ → ℕ → ℕ → ℕ → ℕ → List ℕ
 chainedTo C n key s h = set (set (set (set C n key) (4096 + n) s) (8192 + n) (headAt C h)) (12288 + h) (n + 1)
 
--- its block's word is no higher than its key
+-- its block's word is no higher than its key, nor is the upper word
 unfoldable pub blockedTo : List ℕ → ℕ → ℕ → ℕ → ℕ → List ℕ
-blockedTo C n key s h = set (chainedTo C n key s h) (16384 + n / 64) (min (blockAt C (n / 64)) key)
+blockedTo C n key s h = loweredTo (loweredTo (chainedTo C n key s h) (16384 + n / 16) key) (16640 + n / 16 / 16) key
 
 -- the further words of node n, whose link is b, are stored
 unfoldable pub furtherTo : List ℕ → ℕ → ℕ → List ℕ
-furtherTo C n b = fourTo C (16448 + 4 * n) (backSign C b) (backFurther C 0 b) (backFurther C 1 b) (backLink C (backLink C (backLink C b)))
+furtherTo C n b = fourTo C (16656 + 4 * n) (backSign C b) (backFurther C 0 b) (backFurther C 1 b) (backLink C (backLink C (backLink C b)))
 
--- the scan words after node n is linked: it is chained, in its block's word, and has its further words
+-- the scan words after node n is linked: it is chained, in its block's word and the upper word, and has its further words
 unfoldable pub linkedTo : List ℕ → ℕ → ℕ → ℕ → ℕ → List ℕ
 linkedTo C n key s h = furtherTo (blockedTo C n key s h) n (headAt C h)
 
@@ -94,7 +95,7 @@ pub record Further (C : List ℕ) (n : ℕ) : Type 0 where
 -- the first n nodes of table T are chained in C, the block words are those of their open keys, their further words are right, and their rows
 -- have their packs
 pub record Chained (S : ℕ) (T C : List ℕ) (n : ℕ) : Type 0 where
-  pub long : length C ≡ 36928
+  pub long : length C ≡ 37136
   pub signs : (u : ℕ) → u < n → signAt C u ≡ signOf (nodeIn S T u .prices)
   pub links : (u : ℕ) → u < n → linkAt C u ≤ u
   pub skips : (u w : ℕ) → u < n → linkAt C u ≤ w → w < u → classOf (nodeIn S T w .spot) ≡ classOf (nodeIn S T u .spot) → ⊥
@@ -109,7 +110,7 @@ pub record Chained (S : ℕ) (T C : List ℕ) (n : ℕ) : Type 0 where
 -- the scan words D are those of C but for recent words
 pub record Recalled (C D : List ℕ) : Type 0 where
   pub long : length D ≡ length C
-  pub same : (i : ℕ) → i < 32832 → getD D i 0 ≡ getD C i 0
+  pub same : (i : ℕ) → i < 33040 → getD D i 0 ≡ getD C i 0
 
 -- r is one more than the number of one of the n nodes, which dominates m; it is 0 only where none does
 pub record Dominator (S : ℕ) (T : List ℕ) (n : ℕ) (m : Node) (r : ℕ) : Type 0 where

@@ -62,7 +62,7 @@ returns : tie.Need-returns
 unfolding allLack
 returns c =
     let u = c .before .before .before .before .before .before .before .before .before .args .u in
-    let e : 16448 + 4 * u + 0 ≡ 16448 + 4 * u = omega arith in
+    let e : 16656 + 4 * u + 0 ≡ 16656 + 4 * u = omega arith in
     rw (
       c .before .before .before .before .before .before .lacks .ensures,
       c .before .before .before .before .lacks2 .ensures,

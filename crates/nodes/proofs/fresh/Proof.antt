@@ -10,10 +10,10 @@ use Rattle.nodes.proofs.fresh.Statement.{statement}
 use Rattle.nodes.proofs.fresh.Tie as tie
 
 abbrev Inv-loop : tie.InvT-loop
-Inv-loop scan₀ b₀ scan b = (b ≤ 64) × (length scan ≡ length scan₀) × (scan ≡ freshTo scan₀ b)
+Inv-loop scan₀ b₀ scan b = (b ≤ 272) × (length scan ≡ length scan₀) × (scan ≡ freshTo scan₀ b)
 
 abbrev μ-loop : tie.MeasureT-loop
-μ-loop scan₀ b₀ scan b = 64 - b
+μ-loop scan₀ b₀ scan b = 272 - b
 
 loop-holds : tie.Need-loop-holds Inv-loop μ-loop
 unfolding freshTo
@@ -44,7 +44,7 @@ same-length : tie.Need-same-length Inv-loop μ-loop
 same-length c = c .before .loop .inv .1
 
 returns : tie.Need-returns Inv-loop μ-loop
-returns c = let all : c .before .loop .b ≡ 64 = omega arith in c .before .loop .inv .2 ∙ rw all
+returns c = let all : c .before .loop .b ≡ 272 = omega arith in c .before .loop .inv .2 ∙ rw all
 
 pub fresh-spec : {M : Type 1} → statement M
 fresh-spec =

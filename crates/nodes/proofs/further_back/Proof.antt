@@ -6,7 +6,7 @@ use Rattle.nodes.proofs.further_back.Statement.{statement}
 use Rattle.nodes.proofs.further_back.Tie as tie
 
 returns : tie.Need-returns
-returns c = let a = c .before .args in back-none (a .scan .now) (λ u. 16448 + 4 * u + a .k) (a .to) (c .if1 .taken)
+returns c = let a = c .before .args in back-none (a .scan .now) (λ u. 16656 + 4 * u + a .k) (a .to) (c .if1 .taken)
 
 sub-result : tie.Need-sub-result
 sub-result c = search needs
@@ -27,7 +27,7 @@ shared-slice-read-result : tie.Need-shared-slice-read-result
 shared-slice-read-result c = search needs
 
 returns-2 : tie.Need-returns-2
-returns-2 c = let a = c .before .before .args in back-some (a .scan .now) (λ u. 16448 + 4 * u + a .k) (a .to) (c .before .if1 .left)
+returns-2 c = let a = c .before .before .args in back-some (a .scan .now) (λ u. 16656 + 4 * u + a .k) (a .to) (c .before .if1 .left)
 
 pub further-back-spec : {M : Type 1} → statement M
 further-back-spec =

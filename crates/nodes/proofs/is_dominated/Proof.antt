@@ -62,7 +62,7 @@ returns-2 c =
     let a = s .args in
     let d = c .before .before .dominator in (
       sym (dominator-some (a .states) (a .table .now) (a .count) (fresh s) (d .result) (d .ensures) (c .before .if1 .left)),
-      recalled-set (a .scan .now) (32832 + c .slot-of .result) (d .result) (omega arith),
+      recalled-set (a .scan .now) (33040 + c .slot-of .result) (d .result) (omega arith),
     )
 
 pub is-dominated-spec : {M : Type 1} → statement M

@@ -3,6 +3,8 @@ use mathlib.Core.Path.{_≡_, refl, sym, _∙_}
 use mathlib.Core.Logic.{⊎-elim}
 use Prim.Native.Nat.{_-_, _≤_}
 use native.Mathlib.Omega.{arith}
+use lib.ListN.{drop}
+use lib.Seq.{getD-drop}
 use borrow.Author.Needs.{needs}
 use Rattle.nodes.specs.Choice.{keyOf, chooseBy}
 use Rattle.nodes.specs.Choice.Laws.{choose-here, choose-kept, key-next}
@@ -10,21 +12,27 @@ use Rattle.nodes.proofs.pick.Statement.{statement}
 use Rattle.nodes.proofs.pick.Tie as tie
 
 abbrev Inv-loop : tie.InvT-loop
-Inv-loop keys count bound low₀ chosen₀ u₀ low chosen u =
-    (u ≤ count) × (chosen ≡ chooseBy bound keys u) × (low ≡ keyOf bound keys (chooseBy bound keys u))
+Inv-loop scan from count bound low₀ chosen₀ u₀ low chosen u =
+    (u ≤ count) × (chosen ≡ chooseBy bound (drop from scan) u) × (low ≡ keyOf bound (drop from scan) (chooseBy bound (drop from scan) u))
 
 abbrev μ-loop : tie.MeasureT-loop
-μ-loop keys count bound low₀ chosen₀ u₀ low chosen u = count - u
+μ-loop scan from count bound low₀ chosen₀ u₀ low chosen u = count - u
 
 loop-holds : tie.Need-loop-holds Inv-loop μ-loop
 unfolding chooseBy keyOf
 loop-holds c = (omega arith, refl, refl)
+
+add-if1 : tie.Need-add-if1 Inv-loop μ-loop
+add-if1 c = search needs
 
 mul-if1 : tie.Need-mul-if1 Inv-loop μ-loop
 mul-if1 c = search needs
 
 shared-slice-read-if1 : tie.Need-shared-slice-read-if1 Inv-loop μ-loop
 shared-slice-read-if1 c = search needs
+
+add-low : tie.Need-add-low Inv-loop μ-loop
+add-low c = search needs
 
 mul-low : tie.Need-mul-low Inv-loop μ-loop
 mul-low c = search needs
@@ -45,12 +53,14 @@ loop-again : tie.Need-loop-again Inv-loop μ-loop
 loop-again c =
     let l = c .before .before .before .loop in
     let a = c .before .before .before .before .args in
+    let K = drop (a .from) (a .scan .now) in
+    let k = getD-drop (a .from) (a .scan .now) (l .u) 0 in
     ⊎-elim
     (λ w.
-    let p = choose-here (a .bound) (a .keys .now) (l .u) (omega (arith, w .0 .taken, l .inv .2)) in
-    (omega arith, w .3 ∙ sym p, w .2 ∙ rw p (sym (key-next (a .bound) (a .keys .now) (l .u)))))
+    let p = choose-here (a .bound) K (l .u) (omega (arith, w .0 .taken, l .inv .2, k)) in
+    (omega arith, w .3 ∙ sym p, w .2 ∙ rw p (sym (key-next (a .bound) K (l .u) ∙ k))))
     (λ w.
-    let p = choose-kept (a .bound) (a .keys .now) (l .u) (omega (arith, w .0 .left, l .inv .2)) in
+    let p = choose-kept (a .bound) K (l .u) (omega (arith, w .0 .left, l .inv .2, k)) in
     (omega arith, w .2 ∙ l .inv .1 ∙ sym p, w .1 ∙ rw p (l .inv .2)))
     (c .if1 .came)
 
@@ -64,8 +74,10 @@ pick-spec =
     Inv-loop
     μ-loop
     loop-holds
+    add-if1
     mul-if1
     shared-slice-read-if1
+    add-low
     mul-low
     shared-slice-read-low
     add-chosen

@@ -1,16 +1,11 @@
--- `nodes::retire` meets its contract: the node's open key and its block's word are stored. Assumes nothing.
+-- `nodes::retire` meets its contract: the node's open key, its block's word and the upper word are stored. Assumes nothing.
+use mathlib.Core.Path.{_≡_, sym, _∙_}
 use native.Mathlib.Omega.{arith}
-use lib.ListN.{length-set}
+use lib.ListN.{length, length-set}
 use borrow.Author.Needs.{needs}
 use Rattle.nodes.specs.Block.{retiredTo}
 use Rattle.nodes.proofs.retire.Statement.{statement}
 use Rattle.nodes.proofs.retire.Tie as tie
-
-mul-from : tie.Need-mul-from
-mul-from c = search needs
-
-block-end-requires : tie.Need-block-end-requires
-block-end-requires c κs = search needs
 
 mul-scan : tie.Need-mul-scan
 mul-scan c = search needs
@@ -18,52 +13,31 @@ mul-scan c = search needs
 slice-write-scan : tie.Need-slice-write-scan
 slice-write-scan c = search needs
 
-mul-least : tie.Need-mul-least
-mul-least c = search needs
+raise-requires : tie.Need-raise-requires
+raise-requires c κs = search needs
 
-sub-least : tie.Need-sub-least
-sub-least c = search needs
+-- there are as many scan words after the block's word is stored
+kept : (c : tie.After-raise) → length (c .raise .last .0) ≡ 37136
+kept c =
+    let s = c .before .before .before in
+    let same : length (c .raise .last .0) ≡ length (s .args .scan .now) = c .raise .kept .0 ∙ simp length-set in
+    same ∙ s .pre .0
 
-part-least-start : tie.Need-part-least-start
-part-least-start c = search needs
-
-part-least-end : tie.Need-part-least-end
-part-least-end c = simp length-set (omega arith)
-
-least-requires : tie.Need-least-requires
-least-requires c κs = search needs
-
-add-scan : tie.Need-add-scan
-add-scan c = search needs
-
-mul-scan-2 : tie.Need-mul-scan-2
-mul-scan-2 c = search needs
-
-slice-write-scan-2 : tie.Need-slice-write-scan-2
-slice-write-scan-2 c = simp length-set (omega arith)
+raise-requires-2 : tie.Need-raise-requires-2
+raise-requires-2 c κs =
+    let r = c .before .before .before in
+    (kept r, omega arith, omega arith, omega (arith, r .before .before .before .pre), omega arith)
 
 same-length : tie.Need-same-length
-same-length c = search needs
+same-length c =
+    let r = c .before .before .before .before .before .before in
+    c .before .before .raise2 .kept .0 ∙ kept r ∙ sym (r .before .before .before .pre .0)
 
 returns : tie.Need-returns
 unfolding retiredTo
-returns c = rw (c .least .ensures, c .before .before .before .block-end .ensures)
+returns c = c .before .before .raise2 .ensures ∙ rw (c .before .before .before .before .before .before .raise .ensures)
 
 pub retire-spec : {M : Type 1} → statement M
 retire-spec =
     tie.close
-    (tie.spec
-    mul-from
-    block-end-requires
-    mul-scan
-    slice-write-scan
-    mul-least
-    sub-least
-    part-least-start
-    part-least-end
-    least-requires
-    add-scan
-    mul-scan-2
-    slice-write-scan-2
-    same-length
-    returns)
+    (tie.spec mul-scan slice-write-scan raise-requires raise-requires-2 same-length returns)

@@ -1,112 +1,261 @@
 -- Laws of the block words: as nodes are linked and retired, and the choice by blocks. Assumes nothing.
 use mathlib.Core.Path.{_≡_, refl, sym, ap, _∙_}
 use mathlib.Core.Logic.{_⊎_, inl, inr}
-use mathlib.Core.List.{List, [], _∷_}
+use mathlib.Core.List.{List}
 use Prim.Native.Nat.{ℕ, zero, suc, _+_, _-_, _*_, _/_, _≤_, _<_, min}
 use native.Mathlib.Nat.{not-suc-le-zero}
 use native.Mathlib.Numerals.{add-one}
 use native.Mathlib.Omega.{arith}
-use native.Mathlib.Decide.{ℕ-discrete, decLe}
-use lib.ListN.{length, getD, set, length-set, length-take, length-drop}
-use lib.Seq.{getD-set-same, getD-set-other, getD-take, getD-drop}
+use native.Mathlib.Decide.{ℕ-discrete, decLe, decLt}
+use lib.ListN.{length, getD, set, drop, length-set}
+use lib.Seq.{getD-set-same, getD-set-other, getD-drop}
 use Rattle.loops.specs.Count.Laws.{below-cases}
 use Rattle.leaf.specs.Price.{mark}
-use Rattle.leaf.specs.Settle.Turns.{at-any}
-use Rattle.search.specs.Node.{leastOf}
-use Rattle.search.specs.Node.Laws.{leastOf-le}
-use Rattle.nodes.specs.Choice.{chooseBy, Picked, Choice}
+use Rattle.nodes.specs.Choice.{keyOf, chooseBy, Picked, Choice}
 use Rattle.nodes.specs.Choice.Laws.{choose-cases, choose-none, choose-first}
-use Rattle.nodes.specs.Block.{blockAt, blockWords, blockEnd, blockOf, Held, Blocked, freshTo, retiredTo}
+use Rattle.nodes.specs.Block.{blockSize, leastIn, leastOfBlock, chooseIn, Held, Under, blockWords, upperWords, Blocked, freshTo, loweredTo, raisedTo, retiredTo}
+
+-- ---- the least key
+
+module _ (K : List ℕ) (n : ℕ) where
+  -- the least key by the choice
+  pub least-none : chooseBy mark K n ≡ 0 → leastIn K n ≡ mark
+  unfolding leastIn keyOf
+  least-none e = rw e
+
+  pub least-some : (i : ℕ) → chooseBy mark K n ≡ suc i → leastIn K n ≡ getD K i 0
+  unfolding leastIn keyOf
+  least-some i e = rw e
+
+  -- no key is below it
+  least-low : (w : ℕ) → w < n → leastIn K n ≤ getD K w 0
+  least-low w l = go (choose-cases mark K n)
+    where
+      go : Choice mark K n (chooseBy mark K n) → leastIn K n ≤ getD K w 0
+      go (inl (e, none)) = omega (arith, least-none e, none w l)
+      go (inr (u, (e, p))) = omega (arith, least-some u e, p .least w l)
+
+  -- it is the mark or one of them
+  least-cases : (leastIn K n ≡ mark) ⊎ ((k : ℕ) × ((k < n) × (getD K k 0 ≡ leastIn K n)))
+  least-cases = go (choose-cases mark K n)
+    where
+      go : Choice mark K n (chooseBy mark K n) → (leastIn K n ≡ mark) ⊎ ((k : ℕ) × ((k < n) × (getD K k 0 ≡ leastIn K n)))
+      go (inl (e, _)) = inl (least-none e)
+      go (inr (u, (e, p))) = inr (u, (p .inside, sym (least-some u e)))
 
 -- ---- the keys of a block
 
--- a least entry is the mark or stands in the list
-least-cases : (xs : List ℕ) → (leastOf xs ≡ mark) ⊎ ((k : ℕ) × ((k < length xs) × (getD xs k 0 ≡ leastOf xs)))
-unfolding leastOf
-least-cases [] = inl refl
-least-cases (x ∷ xs) = go (decLe x (leastOf xs)) (least-cases xs)
-  where
-    go : Dec (x ≤ leastOf xs) → (leastOf xs ≡ mark) ⊎ ((k : ℕ) × ((k < length xs) × (getD xs k 0 ≡ leastOf xs)))
-        → (min x (leastOf xs) ≡ mark) ⊎ ((k : ℕ) × ((k < length (x ∷ xs)) × (getD (x ∷ xs) k 0 ≡ min x (leastOf xs))))
-    go (yes l) r = inr (0, (omega arith, omega arith))
-    go (no l) (inl e) = inl (omega arith)
-    go (no l) (inr (k, (i, e))) = inr (suc k, (omega arith, omega arith))
+-- a key, as that of its block's
+block-key : (K : List ℕ) (b u : ℕ) → u / 16 ≡ b → getD (drop (b * 16) K) (u - b * 16) 0 ≡ getD K u 0
+block-key K b u e =
+    let s : b * 16 + (u - b * 16) ≡ u = omega arith in
+    getD-drop (b * 16) K (u - b * 16) 0 ∙ ap (λ (i : ℕ). getD K i 0) s
 
-module _ (C : List ℕ) (n : ℕ) (room : n ≤ length C) where
-  -- how many they are
-  pub block-length : (b : ℕ) → length (blockOf C n b) ≡ blockEnd n b - b * 64
-  block-length b = simp (length-take, length-drop) (omega arith)
-
-  -- the key of a node, as that of its block's
-  pub block-at : (b i : ℕ) → i < blockEnd n b - b * 64 → getD (blockOf C n b) i 0 ≡ getD C (b * 64 + i) 0
-  block-at b i h = rw (getD-take, getD-drop)
-
-  -- the same by the node
-  pub block-key : (b u : ℕ) → u < n → u / 64 ≡ b → getD (blockOf C n b) (u - b * 64) 0 ≡ getD C u 0
-  block-key b u l e =
-      let s : b * 64 + (u - b * 64) ≡ u = omega arith in
-      block-at b (u - b * 64) (omega arith) ∙ ap (λ (i : ℕ). getD C i 0) s
-
+module _ (K : List ℕ) (n : ℕ) where
   -- none is below the least of them
-  block-low : (b u : ℕ) → u < n → u / 64 ≡ b → leastOf (blockOf C n b) ≤ getD C u 0
-  block-low b u l e =
-      let i : u - b * 64 < length (blockOf C n b) = omega (arith, block-length b) in
-      omega
-      (arith, leastOf-le (blockOf C n b) (u - b * 64), at-any (blockOf C n b) (u - b * 64) mark 0 i, block-key b u l e)
+  block-low : (b u : ℕ) → u < n → u / 16 ≡ b → leastOfBlock K n b ≤ getD K u 0
+  block-low b u l e = omega (arith, least-low (drop (b * 16) K) (blockSize n b) (u - b * 16) (omega arith), block-key K b u e)
 
   -- the least of them is the mark or one of them
-  block-held : (b : ℕ) → (leastOf (blockOf C n b) ≡ mark) ⊎ Held C n b (leastOf (blockOf C n b))
-  block-held b = go (least-cases (blockOf C n b))
+  block-held : (b : ℕ) → (leastOfBlock K n b ≡ mark) ⊎ Held K n b (leastOfBlock K n b)
+  block-held b = go (least-cases (drop (b * 16) K) (blockSize n b))
     where
-      go : (leastOf (blockOf C n b) ≡ mark) ⊎ ((k : ℕ) × ((k < length (blockOf C n b)) × (getD (blockOf C n b) k 0 ≡ leastOf (blockOf C n b))))
-          → (leastOf (blockOf C n b) ≡ mark) ⊎ Held C n b (leastOf (blockOf C n b))
+      go : (leastOfBlock K n b ≡ mark) ⊎ ((k : ℕ) × ((k < blockSize n b) × (getD (drop (b * 16) K) k 0 ≡ leastOfBlock K n b)))
+          → (leastOfBlock K n b ≡ mark) ⊎ Held K n b (leastOfBlock K n b)
       go (inl e) = inl e
       go (inr (k, (l, e))) =
-          let small : k < blockEnd n b - b * 64 = omega (arith, block-length b) in
-          inr (record { node = b * 64 + k; inside = omega arith; block = omega arith; key = sym (block-at b k small) ∙ e })
+          inr (record { node = b * 16 + k; inside = omega arith; block = omega arith; key = sym (getD-drop (b * 16) K k 0) ∙ e })
 
--- ---- one block changes
+-- ---- one key changes
 
--- the words of the other blocks and the open keys of their nodes are the same, and no node of them is new
-pub record Apart (C D : List ℕ) (n m b : ℕ) : Type 0 where
-  pub words : (i : ℕ) → i < 64 → (i ≡ b → ⊥) → blockAt D i ≡ blockAt C i
-  pub keys : (u : ℕ) → u < m → (u / 64 ≡ b → ⊥) → getD D u 0 ≡ getD C u 0
-  pub old : (u : ℕ) → u < m → (u / 64 ≡ b → ⊥) → u < n
-  pub kept : n ≤ m
-  pub few : m ≤ 4096
+-- the other keys and the words of the other blocks are the same, and none of those keys is new
+pub record Touched (K W K′ W′ : List ℕ) (m n n′ i : ℕ) : Type 0 where
+  pub keys : (u : ℕ) → u < n′ → (u ≡ i → ⊥) → getD K′ u 0 ≡ getD K u 0
+  pub words : (b : ℕ) → b < m → (b ≡ i / 16 → ⊥) → getD W′ b 0 ≡ getD W b 0
+  pub old : (u : ℕ) → u < n′ → (u ≡ i → ⊥) → u < n
+  pub kept : n ≤ n′
+  pub few : n′ ≤ 16 * m
 
--- the block words are right again if that of the block is
-pub blocked-change : (C D : List ℕ) (n m b : ℕ) → Apart C D n m b → ((u : ℕ) → u < m → u / 64 ≡ b → blockAt D b ≤ getD D u 0)
-    → (blockAt D b ≡ mark) ⊎ Held D m b (blockAt D b) → Blocked C n → Blocked D m
-blocked-change C D n m b a low one r = record {
-  lower = λ u l. lows u l (ℕ-discrete (u / 64) b);
-  held = λ i l. helds i l (ℕ-discrete i b);
-}
-  where
-    lows : (u : ℕ) → u < m → Dec (u / 64 ≡ b) → blockAt D (u / 64) ≤ getD D u 0
-    lows u l (yes e) = rw e (low u l e)
-    lows u l (no d) = omega (arith, a .words (u / 64) (omega (arith, a .few)) d, a .keys u l d, r .lower u (a .old u l d))
+module _ (K W K′ W′ : List ℕ) (m n n′ i : ℕ) (a : Touched K W K′ W′ m n n′ i) (r : Under K W m n) where
+  -- the words are right again if that of the block is
+  pub under-change : ((u : ℕ) → u < n′ → u / 16 ≡ i / 16 → getD W′ (i / 16) 0 ≤ getD K′ u 0)
+      → (i / 16 < m → (getD W′ (i / 16) 0 ≡ mark) ⊎ Held K′ n′ (i / 16) (getD W′ (i / 16) 0)) → Under K′ W′ m n′
+  under-change low one = record {
+    lower = λ u l. lows u l (ℕ-discrete (u / 16) (i / 16));
+    held = λ b l. helds b l (ℕ-discrete b (i / 16));
+  }
+    where
+      apart : (u b : ℕ) → u / 16 ≡ b → (b ≡ i / 16 → ⊥) → u ≡ i → ⊥
+      apart u b e d f = d (sym e ∙ ap (λ (j : ℕ). j / 16) f)
 
-    other : (i : ℕ) → i < 64 → (i ≡ b → ⊥) → (blockAt C i ≡ mark) ⊎ Held C n i (blockAt C i) → (blockAt D i ≡ mark) ⊎ Held D m i (blockAt D i)
-    other i l d (inl e) = inl (a .words i l d ∙ e)
-    other i b d (inr h) =
-        let l : h .node < m = omega (arith, h .inside, a .kept) in
-        inr (record {
-          node = h .node;
-          inside = l;
-          block = h .block;
-          key = a .keys (h .node) l (λ e. d (sym (h .block) ∙ e)) ∙ h .key ∙ sym (a .words i b d);
-        })
+      lows : (u : ℕ) → u < n′ → Dec (u / 16 ≡ i / 16) → getD W′ (u / 16) 0 ≤ getD K′ u 0
+      lows u l (yes e) = rw e (low u l e)
+      lows u l (no d) =
+          let f = apart u (u / 16) refl d in
+          omega (arith, a .words (u / 16) (omega (arith, a .few)) d, a .keys u l f, r .lower u (a .old u l f))
 
-    helds : (i : ℕ) → i < 64 → Dec (i ≡ b) → (blockAt D i ≡ mark) ⊎ Held D m i (blockAt D i)
-    helds i l (yes e) = rw e one
-    helds i l (no d) = other i l d (r .held i l)
+      other : (b : ℕ) → b < m → (b ≡ i / 16 → ⊥) → (getD W b 0 ≡ mark) ⊎ Held K n b (getD W b 0) → (getD W′ b 0 ≡ mark) ⊎ Held K′ n′ b (getD W′ b 0)
+      other b l d (inl e) = inl (a .words b l d ∙ e)
+      other b l d (inr h) =
+          let k : h .node < n′ = omega (arith, h .inside, a .kept) in
+          inr (record {
+            node = h .node;
+            inside = k;
+            block = h .block;
+            key = a .keys (h .node) k (apart (h .node) b (h .block) d) ∙ h .key ∙ sym (a .words b l d);
+          })
 
--- no node: the block words are the mark
-pub blocked-none : (C : List ℕ) → ((b : ℕ) → b < 64 → blockAt C b ≡ mark) → Blocked C 0
-blocked-none C z = record { lower = λ u h. absurd (not-suc-le-zero h); held = λ b l. inl (z b l) }
+      helds : (b : ℕ) → b < m → Dec (b ≡ i / 16) → (getD W′ b 0 ≡ mark) ⊎ Held K′ n′ b (getD W′ b 0)
+      helds b l (yes e) = rw e (one (rw e at l))
+      helds b l (no d) = other b l d (r .held b l)
+
+  -- the block's word is the least of its keys, which are those of L
+  pub under-raised : (L : List ℕ) → ((u : ℕ) → u < n′ → getD K′ u 0 ≡ getD L u 0) → getD W′ (i / 16) 0 ≡ leastOfBlock L n′ (i / 16)
+      → Under K′ W′ m n′
+  under-raised L s e =
+      under-change (λ u l f. omega (arith, e, s u l, block-low L n′ (i / 16) u l f)) (λ _. go (block-held L n′ (i / 16)))
+    where
+      go : (leastOfBlock L n′ (i / 16) ≡ mark) ⊎ Held L n′ (i / 16) (leastOfBlock L n′ (i / 16))
+          → (getD W′ (i / 16) 0 ≡ mark) ⊎ Held K′ n′ (i / 16) (getD W′ (i / 16) 0)
+      go (inl f) = inl (e ∙ f)
+      go (inr h) =
+          inr (record { node = h .node; inside = h .inside; block = h .block; key = s (h .node) (h .inside) ∙ h .key ∙ sym e })
+
+  -- the block's word is no higher than k, and so is the key, or it is new and is k
+  pub under-lowered : (k : ℕ) → i < n′ → getD W′ (i / 16) 0 ≡ min (getD W (i / 16) 0) k → (i < n → getD K′ i 0 ≡ min (getD K i 0) k)
+      → (n ≤ i → getD K′ i 0 ≡ k) → Under K′ W′ m n′
+  under-lowered k inside word own new =
+      under-change (λ u l e. low u l e (ℕ-discrete u i) (decLt i n))
+      (λ l. one (decLe (getD W (i / 16) 0) k) (decLt i n) (r .held (i / 16) l))
+    where
+      low : (u : ℕ) → u < n′ → u / 16 ≡ i / 16 → Dec (u ≡ i) → Dec (i < n) → getD W′ (i / 16) 0 ≤ getD K′ u 0
+      low u l e (yes f) (yes b) = rw f (omega (arith, word, own b, r .lower i b))
+      low u l e (yes f) (no d) = rw f (omega (arith, word, new (omega arith)))
+      low u l e (no d) _ =
+          let j : getD W (i / 16) 0 ≤ getD K u 0 = rw e at (r .lower u (a .old u l d)) in
+          omega (arith, word, a .keys u l d)
+
+      same : (h : Held K n (i / 16) (getD W (i / 16) 0)) → getD W (i / 16) 0 ≤ k → Dec (h .node ≡ i) → getD K′ (h .node) 0 ≡ getD W (i / 16) 0
+      same h l (yes e) =
+          let b : i < n = omega (arith, h .inside) in
+          let f : getD K i 0 ≡ getD W (i / 16) 0 = rw e at (h .key) in
+          rw e (omega (arith, own b))
+      same h l (no d) = a .keys (h .node) (omega (arith, h .inside, a .kept)) d ∙ h .key
+
+      one : Dec (getD W (i / 16) 0 ≤ k) → Dec (i < n) → (getD W (i / 16) 0 ≡ mark) ⊎ Held K n (i / 16) (getD W (i / 16) 0)
+          → (getD W′ (i / 16) 0 ≡ mark) ⊎ Held K′ n′ (i / 16) (getD W′ (i / 16) 0)
+      one (yes l) _ (inl e) = inl (omega (arith, word))
+      one (yes l) _ (inr h) =
+          inr (record {
+            node = h .node;
+            inside = omega (arith, h .inside, a .kept);
+            block = h .block;
+            key = omega (arith, same h l (ℕ-discrete (h .node) i), word);
+          })
+      one (no d) (yes b) _ = inr (record { node = i; inside = inside; block = refl; key = omega (arith, own b, word, r .lower i b) })
+      one (no d) (no b) _ = inr (record { node = i; inside = inside; block = refl; key = omega (arith, new (omega arith), word) })
+
+-- keys and words are the same
+pub under-same : (K W K′ W′ : List ℕ) (m n : ℕ) → n ≤ 16 * m → ((u : ℕ) → u < n → getD K′ u 0 ≡ getD K u 0)
+    → ((b : ℕ) → b < m → getD W′ b 0 ≡ getD W b 0) → Under K W m n → Under K′ W′ m n
+under-same K W K′ W′ m n few s t r =
+    under-change K W K′ W′ m n n (16 * m)
+    (record { keys = λ u l _. s u l; words = λ b l _. t b l; old = λ u l _. l; kept = omega arith; few = few }) r
+    (λ u l e. absurd (omega arith)) (λ l. absurd (omega arith))
+
+-- ---- the choice by blocks
+
+module _ (bound : ℕ) (K W : List ℕ) (m n : ℕ) (few : n ≤ 16 * m) (low : bound ≤ mark) (r : Under K W m n) where
+  -- no word is below the bound: no key is
+  pub under-none : chooseBy bound W m ≡ 0 → chooseBy bound K n ≡ 0
+  under-none e = go (choose-cases bound W m)
+    where
+      go : Choice bound W m (chooseBy bound W m) → chooseBy bound K n ≡ 0
+      go (inl (_, none)) = choose-none bound K n (λ w l. omega (arith, none (w / 16) (omega arith), r .lower w l))
+      go (inr (u, (f, _))) = absurd (omega arith)
+
+  -- the first of the least words, below the bound, is a key of its block
+  word-held : (b : ℕ) → Picked bound W m b → Held K n b (getD W b 0)
+  word-held b p = go (r .held b (p .inside))
+    where
+      go : (getD W b 0 ≡ mark) ⊎ Held K n b (getD W b 0) → Held K n b (getD W b 0)
+      go (inl e) = absurd (omega (arith, p .below))
+      go (inr h) = h
+
+  -- i is the choice in that block
+  module _ (b i : ℕ) (p : Picked bound W m b) (q : Picked bound (drop (b * 16) K) (blockSize n b) i) where
+    -- the key that is chosen
+    chosen-key : getD (drop (b * 16) K) i 0 ≡ getD K (b * 16 + i) 0
+    chosen-key = getD-drop (b * 16) K i 0
+
+    -- it is not above the keys of the block
+    chosen-here : (w : ℕ) → w < n → w / 16 ≡ b → getD K (b * 16 + i) 0 ≤ getD K w 0
+    chosen-here w l e = omega (arith, chosen-key, q .least (w - b * 16) (omega arith), block-key K b w e)
+
+    -- nor above the block's word
+    chosen-low : getD K (b * 16 + i) 0 ≤ getD W b 0
+    chosen-low = let h = word-held b p in omega (arith, h .key, chosen-here (h .node) (h .inside) (h .block))
+
+    -- no key is less
+    chosen-least : (w : ℕ) → w < n → getD K (b * 16 + i) 0 ≤ getD K w 0
+    chosen-least w l = omega (arith, chosen-low, p .least (w / 16) (omega arith), r .lower w l)
+
+    -- those before it are greater
+    chosen-first : (w : ℕ) → w < b * 16 + i → Dec (w / 16 ≡ b) → getD K (b * 16 + i) 0 < getD K w 0
+    chosen-first w l (yes e) = omega (arith, chosen-key, q .first (w - b * 16) (omega arith), block-key K b w e)
+    chosen-first w l (no d) =
+        omega (arith, chosen-low, p .first (w / 16) (omega (arith, q .inside)), r .lower w (omega (arith, q .inside)))
+
+    -- it is the choice among all keys
+    chosen : Picked bound K n (b * 16 + i)
+    chosen = record {
+      inside = omega (arith, q .inside);
+      below = omega (arith, chosen-key, q .below);
+      least = chosen-least;
+      first = λ w l. chosen-first w l (ℕ-discrete (w / 16) b);
+    }
+
+  -- a block is chosen by its word
+  picked-word : (b : ℕ) → chooseBy bound W m ≡ suc b → Picked bound W m b
+  picked-word b e = go (choose-cases bound W m)
+    where
+      go : Choice bound W m (chooseBy bound W m) → Picked bound W m b
+      go (inl (f, _)) = absurd (omega arith)
+      go (inr (c, (f, p))) = let same : c ≡ b = omega arith in rw same at p
+
+  -- it has a key below the bound
+  some-below : (b : ℕ) → Picked bound W m b → ((w : ℕ) → w < blockSize n b → bound ≤ getD (drop (b * 16) K) w 0) → ⊥
+  some-below b p none =
+      let h = word-held b p in
+      omega (arith, p .below, h .key, none (h .node - b * 16) (omega (arith, h .inside, h .block)), block-key K b (h .node) (h .block))
+
+  -- it has keys, and the choice in it is the choice among all, not none
+  pub under-picked : (b : ℕ) → chooseBy bound W m ≡ suc b
+      → (b * 16 < n) × (chooseIn bound K n b ≡ chooseBy bound K n) × (0 < chooseIn bound K n b)
+  under-picked b e = go (picked-word b e) (choose-cases bound (drop (b * 16) K) (blockSize n b))
+    where
+      go : Picked bound W m b → Choice bound (drop (b * 16) K) (blockSize n b) (chooseBy bound (drop (b * 16) K) (blockSize n b))
+          → (b * 16 < n) × (chooseIn bound K n b ≡ chooseBy bound K n) × (0 < chooseIn bound K n b)
+      go p (inl (_, none)) = absurd (some-below b p none)
+      go p (inr (i, (f, q))) =
+          (omega (arith, q .inside), omega (arith, f, choose-first bound K n (b * 16 + i) (chosen b i p q)), omega (arith, f))
 
 -- ---- block words set to the mark
+
+-- no node: all 272 words are the mark
+pub blocked-none : (C : List ℕ) → ((b : ℕ) → b < 272 → getD C (16384 + b) 0 ≡ mark) → Blocked C 0
+blocked-none C z = record {
+  keys = record { lower = λ u h. absurd (not-suc-le-zero h); held = λ b l. inl (block b l) };
+  words = record { lower = λ u l. omega (arith, upper (u / 16) (omega arith), block u l); held = λ b l. inl (upper b l) };
+}
+  where
+    block : (b : ℕ) → b < 256 → getD (blockWords C) b 0 ≡ mark
+    block b l = getD-drop 16384 C b 0 ∙ z b (omega arith)
+
+    upper : (b : ℕ) → b < 16 → getD (upperWords C) b 0 ≡ mark
+    upper b l =
+        let s : 16640 + b ≡ 16384 + (256 + b) = omega arith in
+        getD-drop 16640 C b 0 ∙ ap (λ (i : ℕ). getD C i 0) s ∙ z (256 + b) (omega arith)
 
 -- a turn of the loop
 pub fresh-more : (C : List ℕ) (b : ℕ) → freshTo C (b + 1) ≡ set (freshTo C b) (16384 + b) mark
@@ -126,172 +275,115 @@ fresh-other C zero i l = refl
 fresh-other C (suc b) i l = getD-set-other (freshTo C b) (16384 + b) i mark 0 (λ e. omega arith) ∙ fresh-other C b i l
 
 -- the block words are the mark
-pub fresh-block : (C : List ℕ) (n b : ℕ) → 16384 + n ≤ length C → b < n → blockAt (freshTo C n) b ≡ mark
+pub fresh-block : (C : List ℕ) (n b : ℕ) → 16384 + n ≤ length C → b < n → getD (freshTo C n) (16384 + b) 0 ≡ mark
 unfolding freshTo
 fresh-block C zero b r l = absurd (not-suc-le-zero l)
 fresh-block C (suc n) b r l = go (below-cases l) (fresh-block C n b (omega arith))
   where
-    go : (b < n) ⊎ (b ≡ n) → (b < n → blockAt (freshTo C n) b ≡ mark) → blockAt (freshTo C (suc n)) b ≡ mark
+    go : (b < n) ⊎ (b ≡ n) → (b < n → getD (freshTo C n) (16384 + b) 0 ≡ mark) → getD (freshTo C (suc n)) (16384 + b) 0 ≡ mark
     go (inl k) h = getD-set-other (freshTo C n) (16384 + n) (16384 + b) mark 0 (λ e. omega arith) ∙ h k
     go (inr e) h = rw e (getD-set-same (freshTo C n) (16384 + n) mark 0 (omega (arith, fresh-length C n)))
 
+-- ---- words at a place
+
+-- a word is the same, as one of those from a place on
+pub drop-same : (C D : List ℕ) (at b : ℕ) → getD D (at + b) 0 ≡ getD C (at + b) 0 → getD (drop at D) b 0 ≡ getD (drop at C) b 0
+drop-same C D at b e = getD-drop at D b 0 ∙ e ∙ sym (getD-drop at C b 0)
+
+module _ (C : List ℕ) (i key : ℕ) where
+  -- the word at i is lowered: the scan words stay as many, the others are the same
+  pub lowered-length : length (loweredTo C i key) ≡ length C
+  unfolding loweredTo
+  lowered-length = length-set C i (min (getD C i 0) key)
+
+  pub lowered-other : (j : ℕ) → (j ≡ i → ⊥) → getD (loweredTo C i key) j 0 ≡ getD C j 0
+  unfolding loweredTo
+  lowered-other j d = getD-set-other C i j (min (getD C i 0) key) 0 d
+
+  pub lowered-here : i < length C → getD (loweredTo C i key) i 0 ≡ min (getD C i 0) key
+  unfolding loweredTo
+  lowered-here l = getD-set-same C i (min (getD C i 0) key) 0 l
+
+module _ (C : List ℕ) (from at n b : ℕ) where
+  -- the word of block b is raised
+  pub raised-length : length (raisedTo C from at n b) ≡ length C
+  unfolding raisedTo
+  raised-length = length-set C (at + b) (leastOfBlock (drop from C) n b)
+
+  pub raised-other : (j : ℕ) → (j ≡ at + b → ⊥) → getD (raisedTo C from at n b) j 0 ≡ getD C j 0
+  unfolding raisedTo
+  raised-other j d = getD-set-other C (at + b) j (leastOfBlock (drop from C) n b) 0 d
+
+  pub raised-here : at + b < length C → getD (raisedTo C from at n b) (at + b) 0 ≡ leastOfBlock (drop from C) n b
+  unfolding raisedTo
+  raised-here l = getD-set-same C (at + b) (leastOfBlock (drop from C) n b) 0 l
+
 -- ---- a node is retired
 
--- the scan words stay as many
-pub retired-length : (C : List ℕ) (u n : ℕ) → length (retiredTo C u n) ≡ length C
-unfolding retiredTo
-retired-length C u n = simp length-set
+-- the scan words with the node's open key and its block's word
+abbrev halfTo : List ℕ → ℕ → ℕ → List ℕ
+halfTo C u n = raisedTo (set C u mark) 0 16384 n (u / 16)
 
--- of the words before the block words only the node's open key is stored
-pub retired-key : (C : List ℕ) (u n i : ℕ) → i < 16384 → getD (retiredTo C u n) i 0 ≡ getD (set C u mark) i 0
-unfolding retiredTo
-retired-key C u n i b = getD-set-other (set C u mark) (16384 + u / 64) i (leastOf (blockOf (set C u mark) n (u / 64))) 0 (λ e. omega arith)
+module _ (C : List ℕ) (u n : ℕ) where
+  -- the scan words stay as many
+  half-length : length (halfTo C u n) ≡ length C
+  half-length = raised-length (set C u mark) 0 16384 n (u / 16) ∙ length-set C u mark
 
--- the words behind the block words are the same
-pub retired-behind : (C : List ℕ) (u n i : ℕ) → u < 4096 → 16448 ≤ i → getD (retiredTo C u n) i 0 ≡ getD C i 0
-unfolding retiredTo
-retired-behind C u n i l b =
-    getD-set-other (set C u mark) (16384 + u / 64) i (leastOf (blockOf (set C u mark) n (u / 64))) 0 (λ e. omega arith)
-    ∙ getD-set-other C u i mark 0 (λ e. omega arith)
+  pub retired-length : length (retiredTo C u n) ≡ length C
+  unfolding retiredTo
+  retired-length = raised-length (halfTo C u n) 16384 16640 256 (u / 16 / 16) ∙ half-length
 
-module _ (C : List ℕ) (u n : ℕ) (long : length C ≡ 36928) (few : n ≤ 4096) (inside : u < n) where
-  -- the words with the node's open key stored, and with its block's word too
-  abbrev keyed : List ℕ
-  keyed = set C u mark
+  -- all words but the upper word
+  retired-half : (i : ℕ) → (i ≡ 16640 + u / 16 / 16 → ⊥) → getD (retiredTo C u n) i 0 ≡ getD (halfTo C u n) i 0
+  unfolding retiredTo
+  retired-half = raised-other (halfTo C u n) 16384 16640 256 (u / 16 / 16)
 
+  -- all words but the block's word and the upper word
+  retired-but : (i : ℕ) → (i ≡ 16384 + u / 16 → ⊥) → (i ≡ 16640 + u / 16 / 16 → ⊥) → getD (retiredTo C u n) i 0 ≡ getD (set C u mark) i 0
+  retired-but i d f = retired-half i f ∙ raised-other (set C u mark) 0 16384 n (u / 16) i d
+
+  -- of the words before the block words only the node's open key is stored
+  pub retired-key : (i : ℕ) → i < 16384 → getD (retiredTo C u n) i 0 ≡ getD (set C u mark) i 0
+  retired-key i l = retired-but i (λ e. omega arith) (λ e. omega arith)
+
+  -- the words behind the upper words are the same
+  pub retired-behind : (i : ℕ) → u < 4096 → 16656 ≤ i → getD (retiredTo C u n) i 0 ≡ getD C i 0
+  retired-behind i l b = retired-but i (λ e. omega arith) (λ e. omega arith) ∙ getD-set-other C u i mark 0 (λ e. omega arith)
+
+module _ (C : List ℕ) (u n : ℕ) (long : length C ≡ 37136) (few : n ≤ 4096) (inside : u < n) where
+  -- the scan words after it
   abbrev D : List ℕ
   D = retiredTo C u n
 
-  -- the nodes have room
-  room : n ≤ length (set C u mark)
-  room = simp length-set (omega arith)
+  -- the other words behind the open keys, as those from a place on
+  retired-at : (at b : ℕ) → 4096 ≤ at → (at + b ≡ 16384 + u / 16 → ⊥) → (at + b ≡ 16640 + u / 16 / 16 → ⊥) → getD (drop at D) b 0 ≡ getD (drop at C) b 0
+  retired-at at b l d f = drop-same C D at b (retired-but C u n (at + b) d f ∙ getD-set-other C u (at + b) mark 0 (λ e. omega arith))
 
-  -- the word of the node's block
-  retired-block : blockAt D (u / 64) ≡ leastOf (blockOf keyed n (u / 64))
+  -- so the words of the other blocks
+  retired-words : (b : ℕ) → b < 256 → (b ≡ u / 16 → ⊥) → getD (blockWords D) b 0 ≡ getD (blockWords C) b 0
+  retired-words b l d = retired-at 16384 b (omega arith) (λ e. d (omega arith)) (λ e. omega arith)
+
+  -- the block's word and the upper word
+  retired-word : getD (blockWords D) (u / 16) 0 ≡ leastOfBlock (set C u mark) n (u / 16)
+  retired-word =
+      getD-drop 16384 D (u / 16) 0 ∙ retired-half C u n (16384 + u / 16) (λ e. omega arith)
+      ∙ raised-here (set C u mark) 0 16384 n (u / 16) (simp length-set (omega arith))
+
+  retired-upper : getD (upperWords D) (u / 16 / 16) 0 ≡ leastOfBlock (blockWords (halfTo C u n)) 256 (u / 16 / 16)
   unfolding retiredTo
-  retired-block = getD-set-same keyed (16384 + u / 64) (leastOf (blockOf keyed n (u / 64))) 0 (simp length-set (omega arith))
+  retired-upper =
+      getD-drop 16640 D (u / 16 / 16) 0 ∙ raised-here (halfTo C u n) 16384 16640 256 (u / 16 / 16) (omega (arith, half-length C u n))
 
-  -- the words of the other blocks
-  retired-words : (i : ℕ) → (i ≡ u / 64 → ⊥) → blockAt D i ≡ blockAt C i
-  unfolding retiredTo
-  retired-words i d =
-      getD-set-other keyed (16384 + u / 64) (16384 + i) (leastOf (blockOf keyed n (u / 64))) 0 (λ e. d (omega arith))
-      ∙ getD-set-other C u (16384 + i) mark 0 (λ e. omega arith)
-
-  -- the open keys of their nodes
-  retired-keys : (w : ℕ) → w < n → (w / 64 ≡ u / 64 → ⊥) → getD D w 0 ≡ getD C w 0
-  retired-keys w l d = retired-key C u n w (omega arith) ∙ getD-set-other C u w mark 0 (λ e. d (ap (λ (i : ℕ). i / 64) e))
-
-  -- the word of the node's block is the mark or an open key of it
-  retired-held : (leastOf (blockOf keyed n (u / 64)) ≡ mark) ⊎ Held keyed n (u / 64) (leastOf (blockOf keyed n (u / 64)))
-      → (blockAt D (u / 64) ≡ mark) ⊎ Held D n (u / 64) (blockAt D (u / 64))
-  retired-held (inl e) = inl (retired-block ∙ e)
-  retired-held (inr h) =
-      inr (record {
-        node = h .node;
-        inside = h .inside;
-        block = h .block;
-        key = retired-key C u n (h .node) (omega (arith, h .inside)) ∙ h .key ∙ sym retired-block;
-      })
-
-  -- the block words are right again
+  -- the words are right again
   pub blocked-retire : Blocked C n → Blocked (retiredTo C u n) n
-  blocked-retire =
-      blocked-change C D n n (u / 64) (record { words = λ i l. retired-words i; keys = retired-keys; old = λ w l d. l; kept = omega arith; few = few })
-      (λ w l e. omega (arith, retired-block, block-low keyed n room (u / 64) w l e, retired-key C u n w (omega arith)))
-      (retired-held (block-held keyed n room (u / 64)))
-
--- ---- the choice by blocks
-
-module _ (bound : ℕ) (C : List ℕ) (n : ℕ) (long : length C ≡ 36928) (few : n ≤ 4096) (low : bound ≤ mark) (r : Blocked C n) where
-  -- a block word among the block words
-  words-at : (b : ℕ) → b < 64 → getD (blockWords C) b 0 ≡ blockAt C b
-  words-at b l = rw (getD-take, getD-drop)
-
-  -- no block word is below the bound: no node is chosen
-  pub blocks-none : chooseBy bound (blockWords C) ((n + 63) / 64) ≡ 0 → chooseBy bound C n ≡ 0
-  blocks-none e = go (choose-cases bound (blockWords C) ((n + 63) / 64))
-    where
-      go : Choice bound (blockWords C) ((n + 63) / 64) (chooseBy bound (blockWords C) ((n + 63) / 64)) → chooseBy bound C n ≡ 0
-      go (inl (_, none)) =
-          choose-none bound C n (λ w l. omega (arith, none (w / 64) (omega arith), words-at (w / 64) (omega arith), r .lower w l))
-      go (inr (u, (f, _))) = absurd (omega arith)
-
-  -- block b has the first of the least block words, and i is the choice in it
-  module _ (b i : ℕ) (p : Picked bound (blockWords C) ((n + 63) / 64) b) (q : Picked bound (blockOf C n b) (blockEnd n b - b * 64) i) where
-    -- it is one of the 64
-    few-blocks : b < 64
-    few-blocks = omega (arith, p .inside)
-
-    -- the key that is chosen
-    chosen-key : getD (blockOf C n b) i 0 ≡ getD C (b * 64 + i) 0
-    chosen-key = block-at C n (omega arith) b i (q .inside)
-
-    -- it is not above the block's word
-    chosen-low : getD C (b * 64 + i) 0 ≤ blockAt C b
-    chosen-low = go (r .held b few-blocks)
-      where
-        go : (blockAt C b ≡ mark) ⊎ Held C n b (blockAt C b) → getD C (b * 64 + i) 0 ≤ blockAt C b
-        go (inl e) = omega (arith, q .below, chosen-key)
-        go (inr h) =
-            let l : h .node - b * 64 < blockEnd n b - b * 64 = omega (arith, h .inside, h .block) in
-            omega
-            (arith, chosen-key, q .least (h .node - b * 64) l, block-key C n (omega arith) b (h .node) (h .inside) (h .block), h .key)
-
-    -- no open key is less
-    chosen-least : (w : ℕ) → w < n → Dec (w / 64 ≡ b) → getD C (b * 64 + i) 0 ≤ getD C w 0
-    chosen-least w l (yes e) = omega (arith, chosen-key, q .least (w - b * 64) (omega arith), block-key C n (omega arith) b w l e)
-    chosen-least w l (no d) =
-        omega
-        (arith, chosen-low, p .least (w / 64) (omega arith), words-at b few-blocks, words-at (w / 64) (omega arith), r .lower w l)
-
-    -- those of the nodes before it are greater
-    chosen-first : (w : ℕ) → w < b * 64 + i → Dec (w / 64 ≡ b) → getD C (b * 64 + i) 0 < getD C w 0
-    chosen-first w l (yes e) =
-        let m : w < n = omega (arith, q .inside) in
-        omega (arith, chosen-key, q .first (w - b * 64) (omega arith), block-key C n (omega arith) b w m e)
-    chosen-first w l (no d) =
-        let m : w < n = omega (arith, q .inside) in
-        let f : w / 64 < b = omega (arith, q .inside) in
-        omega (arith, chosen-low, p .first (w / 64) f, words-at b few-blocks, words-at (w / 64) (omega arith), r .lower w m)
-
-    -- it is the choice among all nodes
-    chosen : Picked bound C n (b * 64 + i)
-    chosen = record {
-      inside = omega (arith, q .inside);
-      below = omega (arith, chosen-key, q .below);
-      least = λ w l. chosen-least w l (ℕ-discrete (w / 64) b);
-      first = λ w l. chosen-first w l (ℕ-discrete (w / 64) b);
-    }
-
-  -- a block that is chosen by its word has a key below the bound
-  some-below : (b : ℕ) → Picked bound (blockWords C) ((n + 63) / 64) b
-      → ((w : ℕ) → w < blockEnd n b - b * 64 → bound ≤ getD (blockOf C n b) w 0) → ⊥
-  some-below b p none = go (r .held b (omega (arith, p .inside)))
-    where
-      word : getD (blockWords C) b 0 ≡ blockAt C b
-      word = words-at b (omega (arith, p .inside))
-
-      go : (blockAt C b ≡ mark) ⊎ Held C n b (blockAt C b) → ⊥
-      go (inl e) = omega (arith, p .below, word)
-      go (inr h) =
-          let l : h .node - b * 64 < blockEnd n b - b * 64 = omega (arith, h .inside, h .block) in
-          omega (arith, p .below, word, none (h .node - b * 64) l, block-key C n (omega arith) b (h .node) (h .inside) (h .block), h .key)
-
-  -- a block is chosen by its word: the choice in it is the choice among all nodes
-  pub blocks-chosen : (b : ℕ) → chooseBy bound (blockWords C) ((n + 63) / 64) ≡ suc b
-      → b * 64 + chooseBy bound (blockOf C n b) (blockEnd n b - b * 64) ≡ chooseBy bound C n
-  blocks-chosen b e = go (choose-cases bound (blockWords C) ((n + 63) / 64))
-    where
-      inner : Picked bound (blockWords C) ((n + 63) / 64) b
-          → Choice bound (blockOf C n b) (blockEnd n b - b * 64) (chooseBy bound (blockOf C n b) (blockEnd n b - b * 64))
-          → b * 64 + chooseBy bound (blockOf C n b) (blockEnd n b - b * 64) ≡ chooseBy bound C n
-      inner p (inl (_, none)) = absurd (some-below b p none)
-      inner p (inr (i, (f, q))) = omega (arith, f, choose-first bound C n (b * 64 + i) (chosen b i p q))
-
-      go : Choice bound (blockWords C) ((n + 63) / 64) (chooseBy bound (blockWords C) ((n + 63) / 64))
-          → b * 64 + chooseBy bound (blockOf C n b) (blockEnd n b - b * 64) ≡ chooseBy bound C n
-      go (inl (f, _)) = absurd (omega arith)
-      go (inr (c, (f, p))) =
-          let same : c ≡ b = omega arith in
-          inner (rw same at p) (choose-cases bound (blockOf C n b) (blockEnd n b - b * 64))
+  blocked-retire r = record {
+    keys =
+        under-raised C (blockWords C) D (blockWords D) 256 n n u
+        (record { keys = λ w l d. retired-key C u n w (omega arith) ∙ getD-set-other C u w mark 0 d; words = retired-words; old = λ w l _. l; kept = omega arith; few = omega arith })
+        (r .keys) (set C u mark) (λ w l. retired-key C u n w (omega arith)) retired-word;
+    words =
+        under-raised (blockWords C) (upperWords C) (blockWords D) (upperWords D) 16 256 256 (u / 16)
+        (record { keys = retired-words; words = λ g l d. retired-at 16640 g (omega arith) (λ e. omega arith) (λ e. d (omega arith)); old = λ w l _. l; kept = omega arith; few = omega arith })
+        (r .words) (blockWords (halfTo C u n))
+        (λ b l. drop-same (halfTo C u n) D 16384 b (retired-half C u n (16384 + b) (λ e. omega arith))) retired-upper;
+  }

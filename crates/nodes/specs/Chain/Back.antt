@@ -93,31 +93,31 @@ module _ (C : List ℕ) (n b : ℕ) where
   -- the scan words stay as many
   pub further-length : length (furtherTo C n b) ≡ length C
   unfolding furtherTo
-  further-length = four-length C (16448 + 4 * n) (backSign C b) (backFurther C 0 b) (backFurther C 1 b) jump
+  further-length = four-length C (16656 + 4 * n) (backSign C b) (backFurther C 0 b) (backFurther C 1 b) jump
 
   -- a word that is none of the four
-  pub further-other : (i : ℕ) → (16448 + 4 * n ≤ i → i < 16448 + 4 * n + 4 → ⊥) → getD (furtherTo C n b) i 0 ≡ getD C i 0
+  pub further-other : (i : ℕ) → (16656 + 4 * n ≤ i → i < 16656 + 4 * n + 4 → ⊥) → getD (furtherTo C n b) i 0 ≡ getD C i 0
   unfolding furtherTo
-  further-other = four-other C (16448 + 4 * n) (backSign C b) (backFurther C 0 b) (backFurther C 1 b) jump
+  further-other = four-other C (16656 + 4 * n) (backSign C b) (backFurther C 0 b) (backFurther C 1 b) jump
 
   -- the four words
-  pub further-first : 16448 + 4 * n + 4 ≤ length C → furtherAt (furtherTo C n b) n 0 ≡ backSign C b
+  pub further-first : 16656 + 4 * n + 4 ≤ length C → furtherAt (furtherTo C n b) n 0 ≡ backSign C b
   unfolding furtherTo
   further-first room =
-      let e : 16448 + 4 * n + 0 ≡ 16448 + 4 * n = omega arith in
-      rw e (four-first C (16448 + 4 * n) (backSign C b) (backFurther C 0 b) (backFurther C 1 b) jump room)
+      let e : 16656 + 4 * n + 0 ≡ 16656 + 4 * n = omega arith in
+      rw e (four-first C (16656 + 4 * n) (backSign C b) (backFurther C 0 b) (backFurther C 1 b) jump room)
 
-  pub further-second : 16448 + 4 * n + 4 ≤ length C → furtherAt (furtherTo C n b) n 1 ≡ backFurther C 0 b
+  pub further-second : 16656 + 4 * n + 4 ≤ length C → furtherAt (furtherTo C n b) n 1 ≡ backFurther C 0 b
   unfolding furtherTo
-  further-second = four-second C (16448 + 4 * n) (backSign C b) (backFurther C 0 b) (backFurther C 1 b) jump
+  further-second = four-second C (16656 + 4 * n) (backSign C b) (backFurther C 0 b) (backFurther C 1 b) jump
 
-  pub further-third : 16448 + 4 * n + 4 ≤ length C → furtherAt (furtherTo C n b) n 2 ≡ backFurther C 1 b
+  pub further-third : 16656 + 4 * n + 4 ≤ length C → furtherAt (furtherTo C n b) n 2 ≡ backFurther C 1 b
   unfolding furtherTo
-  further-third = four-third C (16448 + 4 * n) (backSign C b) (backFurther C 0 b) (backFurther C 1 b) jump
+  further-third = four-third C (16656 + 4 * n) (backSign C b) (backFurther C 0 b) (backFurther C 1 b) jump
 
-  pub further-jump : 16448 + 4 * n + 4 ≤ length C → furtherAt (furtherTo C n b) n 3 ≡ backLink C (backLink C (backLink C b))
+  pub further-jump : 16656 + 4 * n + 4 ≤ length C → furtherAt (furtherTo C n b) n 3 ≡ backLink C (backLink C (backLink C b))
   unfolding furtherTo
-  further-jump = four-fourth C (16448 + 4 * n) (backSign C b) (backFurther C 0 b) (backFurther C 1 b) jump
+  further-jump = four-fourth C (16656 + 4 * n) (backSign C b) (backFurther C 0 b) (backFurther C 1 b) jump
 
 -- ---- the further words of the node of a link
 
@@ -127,7 +127,7 @@ module _ (C : List ℕ) (n : ℕ) (few : n ≤ 4096) (r : Further C n) where
   unfolding backAt
   back-first zero l = refl
   back-first (suc u) l =
-      back-is C (λ i. 16448 + 4 * i + 0) u (omega arith) ∙ r .firsts u l
+      back-is C (λ i. 16656 + 4 * i + 0) u (omega arith) ∙ r .firsts u l
       ∙ ap (backSign C) (sym (back-is C (λ i. 8192 + i) u (omega arith)))
 
   -- the second that of the node before that
@@ -135,7 +135,7 @@ module _ (C : List ℕ) (n : ℕ) (few : n ≤ 4096) (r : Further C n) where
   unfolding backAt
   back-second zero l = refl
   back-second (suc u) l =
-      back-is C (λ i. 16448 + 4 * i + 1) u (omega arith) ∙ r .seconds u l
+      back-is C (λ i. 16656 + 4 * i + 1) u (omega arith) ∙ r .seconds u l
       ∙ ap (λ (x : ℕ). backSign C (backLink C x)) (sym (back-is C (λ i. 8192 + i) u (omega arith)))
 
 -- ---- one more node

@@ -5,17 +5,17 @@ use mathlib.Core.List.{List}
 use Prim.Native.Nat.{ℕ, suc, _+_, _*_, _/_, _≤_, _<_, min}
 use native.Mathlib.Nat.{not-suc-le-zero}
 use native.Mathlib.Omega.{arith}
-use native.Mathlib.Decide.{ℕ-discrete, decLe}
-use lib.ListN.{length, getD, set, length-set}
-use lib.Seq.{getD-set-same, getD-set-other}
+use native.Mathlib.Decide.{ℕ-discrete}
+use lib.ListN.{length, getD, set, drop, length-set}
+use lib.Seq.{getD-set-same, getD-set-other, getD-drop}
 use Rattle.loops.specs.Count.Laws.{below-cases}
 use Rattle.task.specs.declared.Centre.{Centre}
 use Rattle.leaf.specs.Price.{mark}
 use Rattle.rows.specs.Row.{nodeOf, rowIn, nodeIn, Packed}
 use Rattle.rows.specs.Sign.{classOf, signOf}
 use Rattle.rows.specs.Sign.Laws.{class-lt}
-use Rattle.nodes.specs.Block.{blockAt, Held, Blocked, freshTo, retiredTo}
-use Rattle.nodes.specs.Block.Laws.{blocked-change, blocked-none, fresh-length, fresh-other, fresh-block, retired-length, retired-key, retired-behind, blocked-retire}
+use Rattle.nodes.specs.Block.{blockWords, upperWords, Blocked, freshTo, loweredTo, retiredTo}
+use Rattle.nodes.specs.Block.Laws.{under-same, under-lowered, blocked-none, fresh-length, fresh-other, fresh-block, drop-same, lowered-length, lowered-other, lowered-here, retired-length, retired-key, retired-behind, blocked-retire}
 use Rattle.nodes.specs.Chain.{signAt, linkAt, headAt, furtherAt, backLink, backSign, backFurther, slotOf, chainedTo, blockedTo, linkedTo, Further, Chained, Recalled}
 use Rattle.nodes.specs.Chain.Back.{back-same, back-first, back-second, back-thrice, back-sign, back-sign-once, back-sign-twice, further-same, further-length, further-other, further-first, further-second, further-third, further-jump, further-more}
 
@@ -31,7 +31,7 @@ further-none C = record {
 }
 
 -- no node
-pub chained-none : (S : ℕ) (T C : List ℕ) → length C ≡ 36928 → ((h : ℕ) → h < 4096 → headAt C h ≡ 0) → ((b : ℕ) → b < 64 → blockAt C b ≡ mark)
+pub chained-none : (S : ℕ) (T C : List ℕ) → length C ≡ 37136 → ((h : ℕ) → h < 4096 → headAt C h ≡ 0) → ((b : ℕ) → b < 272 → getD C (16384 + b) 0 ≡ mark)
     → Chained S T C 0
 chained-none S T C l z m = record {
   long = l;
@@ -48,14 +48,14 @@ chained-none S T C l z m = record {
 }
 
 -- no node, after all block words are set to the mark
-pub chained-fresh : (S : ℕ) (T C : List ℕ) → length C ≡ 36928 → ((h : ℕ) → h < 4096 → headAt C h ≡ 0) → Chained S T (freshTo C 64) 0
+pub chained-fresh : (S : ℕ) (T C : List ℕ) → length C ≡ 37136 → ((h : ℕ) → h < 4096 → headAt C h ≡ 0) → Chained S T (freshTo C 272) 0
 chained-fresh S T C l z =
-    chained-none S T (freshTo C 64) (fresh-length C 64 ∙ l) (λ h b. fresh-other C 64 (12288 + h) (omega arith) ∙ z h b)
-    (λ b k. fresh-block C 64 b (omega arith) k)
+    chained-none S T (freshTo C 272) (fresh-length C 272 ∙ l) (λ h b. fresh-other C 272 (12288 + h) (omega arith) ∙ z h b)
+    (λ b k. fresh-block C 272 b (omega arith) k)
 
 -- signatures, links, heads and further words are the same, and the block words are right
 chained-words : (S : ℕ) (T C C′ : List ℕ) (n : ℕ) → n ≤ 4096 → length C′ ≡ length C → ((i : ℕ) → 4096 ≤ i → i < 16384 → getD C′ i 0 ≡ getD C i 0)
-    → ((i : ℕ) → 16448 ≤ i → i < 32832 → getD C′ i 0 ≡ getD C i 0) → Blocked C′ n → Chained S T C n → Chained S T C′ n
+    → ((i : ℕ) → 16656 ≤ i → i < 33040 → getD C′ i 0 ≡ getD C i 0) → Blocked C′ n → Chained S T C n → Chained S T C′ n
 chained-words S T C C′ n few l s f k r = record {
   long = l ∙ r .long;
   signs = λ u h. s (4096 + u) (omega arith) (omega arith) ∙ r .signs u h;
@@ -68,7 +68,7 @@ chained-words S T C C′ n few l s f k r = record {
   blocks = k;
   further =
       further-same C C′ n few (r .links) (λ u h. s (4096 + u) (omega arith) (omega arith)) (λ u h. s (8192 + u) (omega arith) (omega arith))
-      (λ u i h b. f (16448 + 4 * u + i) (omega arith) (omega arith)) (r .further);
+      (λ u i h b. f (16656 + 4 * u + i) (omega arith) (omega arith)) (r .further);
   packed = r .packed;
 }
 
@@ -86,25 +86,20 @@ pub recalled-none : (C : List ℕ) → Recalled C C
 recalled-none C = record { long = refl; same = λ i l. refl }
 
 -- one recent word is stored
-pub recalled-set : (C : List ℕ) (i v : ℕ) → 32832 ≤ i → Recalled C (set C i v)
+pub recalled-set : (C : List ℕ) (i v : ℕ) → 33040 ≤ i → Recalled C (set C i v)
 recalled-set C i v h = record { long = length-set C i v; same = λ k l. getD-set-other C i k v 0 (λ e. omega arith) }
 
 -- the block words do not go by recent words
 pub blocked-recalled : (C D : List ℕ) (n : ℕ) → n ≤ 4096 → Recalled C D → Blocked C n → Blocked D n
 blocked-recalled C D n few k r = record {
-  lower = λ u l. omega (arith, k .same (16384 + u / 64) (omega arith), k .same u (omega arith), r .lower u l);
-  held = λ b l. go b l (r .held b l);
+  keys = under-same C (blockWords C) D (blockWords D) 256 n (omega arith) (λ u l. k .same u (omega arith)) (λ b l. word 16384 b (omega arith)) (r .keys);
+  words =
+      under-same (blockWords C) (upperWords C) (blockWords D) (upperWords D) 16 256 (omega arith) (λ b l. word 16384 b (omega arith))
+      (λ g l. word 16640 g (omega arith)) (r .words);
 }
   where
-    go : (b : ℕ) → b < 64 → (blockAt C b ≡ mark) ⊎ Held C n b (blockAt C b) → (blockAt D b ≡ mark) ⊎ Held D n b (blockAt D b)
-    go b l (inl e) = inl (k .same (16384 + b) (omega arith) ∙ e)
-    go b l (inr h) =
-        inr (record {
-          node = h .node;
-          inside = h .inside;
-          block = h .block;
-          key = k .same (h .node) (omega (arith, h .inside)) ∙ h .key ∙ sym (k .same (16384 + b) (omega arith));
-        })
+    word : (at b : ℕ) → at + b < 33040 → getD (drop at D) b 0 ≡ getD (drop at C) b 0
+    word at b l = drop-same C D at b (k .same (at + b) l)
 
 -- nor do the chains
 pub chained-recalled : (S : ℕ) (T C D : List ℕ) (n : ℕ) → n ≤ 4096 → Recalled C D → Chained S T C n → Chained S T D n
@@ -112,7 +107,7 @@ chained-recalled S T C D n few k r =
     chained-words S T C D n few (k .long) (λ i l h. k .same i (omega arith)) (λ i l h. k .same i h) (blocked-recalled C D n few k (r .blocks)) r
 
 -- the same where one recent word is stored
-pub chained-recent : (S : ℕ) (T C : List ℕ) (n i v : ℕ) → n ≤ 4096 → 32832 ≤ i → Chained S T C n → Chained S T (set C i v) n
+pub chained-recent : (S : ℕ) (T C : List ℕ) (n i v : ℕ) → n ≤ 4096 → 33040 ≤ i → Chained S T C n → Chained S T (set C i v) n
 chained-recent S T C n i v few h = chained-recalled S T C (set C i v) n few (recalled-set C i v h)
 
 -- the place of a recent word is below 4,096
@@ -149,10 +144,14 @@ unfolding chainedTo
 chain-length C n key s h = simp length-set
 
 -- also with the block's word
+half-length : (C : List ℕ) (n key s h : ℕ) → length (loweredTo (chainedTo C n key s h) (16384 + n / 16) key) ≡ length C
+half-length C n key s h = lowered-length (chainedTo C n key s h) (16384 + n / 16) key ∙ chain-length C n key s h
+
+-- with the upper word
 block-length : (C : List ℕ) (n key s h : ℕ) → length (blockedTo C n key s h) ≡ length C
 unfolding blockedTo
 block-length C n key s h =
-    length-set (chainedTo C n key s h) (16384 + n / 64) (min (blockAt C (n / 64)) key) ∙ chain-length C n key s h
+    lowered-length (loweredTo (chainedTo C n key s h) (16384 + n / 16) key) (16640 + n / 16 / 16) key ∙ half-length C n key s h
 
 -- and with further words
 pub linked-length : (C : List ℕ) (n key s h : ℕ) → length (linkedTo C n key s h) ≡ length C
@@ -160,16 +159,21 @@ unfolding linkedTo
 linked-length C n key s h = further-length (blockedTo C n key s h) n (headAt C h) ∙ block-length C n key s h
 
 -- before the further words, those of the chains and blocks
-linked-before : (C : List ℕ) (n key s h i : ℕ) → i < 16448 → getD (linkedTo C n key s h) i 0 ≡ getD (blockedTo C n key s h) i 0
+linked-before : (C : List ℕ) (n key s h i : ℕ) → i < 16656 → getD (linkedTo C n key s h) i 0 ≡ getD (blockedTo C n key s h) i 0
 unfolding linkedTo
 linked-before C n key s h i b = further-other (blockedTo C n key s h) n (headAt C h) i (λ l k. omega arith)
 
--- before the block words, those of the chains
-linked-chain : (C : List ℕ) (n key s h i : ℕ) → i < 16384 → getD (linkedTo C n key s h) i 0 ≡ getD (chainedTo C n key s h) i 0
+-- but for its block's word and the upper word those of the chains
+block-but : (C : List ℕ) (n key s h i : ℕ) → (i ≡ 16384 + n / 16 → ⊥) → (i ≡ 16640 + n / 16 / 16 → ⊥)
+    → getD (blockedTo C n key s h) i 0 ≡ getD (chainedTo C n key s h) i 0
 unfolding blockedTo
-linked-chain C n key s h i b =
-    linked-before C n key s h i (omega arith)
-    ∙ getD-set-other (chainedTo C n key s h) (16384 + n / 64) i (min (blockAt C (n / 64)) key) 0 (λ e. omega arith)
+block-but C n key s h i d f =
+    lowered-other (loweredTo (chainedTo C n key s h) (16384 + n / 16) key) (16640 + n / 16 / 16) key i f
+    ∙ lowered-other (chainedTo C n key s h) (16384 + n / 16) key i d
+
+-- so before the block words
+linked-chain : (C : List ℕ) (n key s h i : ℕ) → i < 16384 → getD (linkedTo C n key s h) i 0 ≡ getD (chainedTo C n key s h) i 0
+linked-chain C n key s h i b = linked-before C n key s h i (omega arith) ∙ block-but C n key s h i (λ e. omega arith) (λ e. omega arith)
 
 -- a word that is none of the four
 chain-other : (C : List ℕ) (n key s h i : ℕ) → (i ≡ n → ⊥) → (i ≡ 4096 + n → ⊥) → (i ≡ 8192 + n → ⊥) → (i ≡ 12288 + h → ⊥)
@@ -190,7 +194,7 @@ linked-key C n key s h u b =
     ∙ getD-set-other (set (set C n key) (4096 + n) s) (8192 + n) u (headAt C h) 0 (λ e. omega arith)
     ∙ getD-set-other (set C n key) (4096 + n) u s 0 (λ e. omega arith)
 
-module _ (C : List ℕ) (n key s h : ℕ) (long : length C ≡ 36928) (few : n < 4096) (small : h < 4096) where
+module _ (C : List ℕ) (n key s h : ℕ) (long : length C ≡ 37136) (few : n < 4096) (small : h < 4096) where
   -- the node's signature
   linked-sign : signAt (linkedTo C n key s h) n ≡ s
   unfolding chainedTo
@@ -215,27 +219,47 @@ module _ (C : List ℕ) (n key s h : ℕ) (long : length C ≡ 36928) (few : n <
       linked-chain C n key s h (12288 + h) (omega arith)
       ∙ getD-set-same (set (set (set C n key) (4096 + n) s) (8192 + n) (headAt C h)) (12288 + h) (n + 1) 0 (simp length-set (omega arith))
 
-  -- behind the block words nothing is stored before the further words are
-  block-behind : (i : ℕ) → 16448 ≤ i → getD (blockedTo C n key s h) i 0 ≡ getD C i 0
-  unfolding blockedTo
-  block-behind i b =
-      getD-set-other (chainedTo C n key s h) (16384 + n / 64) i (min (blockAt C (n / 64)) key) 0 (λ e. omega arith)
-      ∙ chain-other C n key s h i (λ e. omega arith) (λ e. omega arith) (λ e. omega arith) (λ e. omega arith)
+  -- from the block words on only those two are stored before the further words are
+  block-old : (i : ℕ) → 16384 ≤ i → (i ≡ 16384 + n / 16 → ⊥) → (i ≡ 16640 + n / 16 / 16 → ⊥) → getD (blockedTo C n key s h) i 0 ≡ getD C i 0
+  block-old i b d f =
+      block-but C n key s h i d f ∙ chain-other C n key s h i (λ e. omega arith) (λ e. omega arith) (λ e. omega arith) (λ e. omega arith)
 
-  -- the words of the other blocks
-  linked-words : (i : ℕ) → i < 64 → (i ≡ n / 64 → ⊥) → blockAt (linkedTo C n key s h) i ≡ blockAt C i
-  unfolding blockedTo
-  linked-words i b d =
-      linked-before C n key s h (16384 + i) (omega arith)
-      ∙ getD-set-other (chainedTo C n key s h) (16384 + n / 64) (16384 + i) (min (blockAt C (n / 64)) key) 0 (λ e. d (omega arith))
-      ∙ chain-other C n key s h (16384 + i) (λ e. omega arith) (λ e. omega arith) (λ e. omega arith) (λ e. omega arith)
+  -- so behind the upper words nothing
+  block-behind : (i : ℕ) → 16656 ≤ i → getD (blockedTo C n key s h) i 0 ≡ getD C i 0
+  block-behind i b = block-old i (omega arith) (λ e. omega arith) (λ e. omega arith)
+
+  -- the other words of blocks and upper words, as those from a place on
+  linked-at : (at b : ℕ) → 16384 ≤ at → at + b < 16656 → (at + b ≡ 16384 + n / 16 → ⊥) → (at + b ≡ 16640 + n / 16 / 16 → ⊥)
+      → getD (drop at (linkedTo C n key s h)) b 0 ≡ getD (drop at C) b 0
+  linked-at at b l i d f =
+      drop-same C (linkedTo C n key s h) at b (linked-before C n key s h (at + b) i ∙ block-old (at + b) (omega arith) d f)
+
+  -- so the words of the other blocks
+  linked-words : (b : ℕ) → b < 256 → (b ≡ n / 16 → ⊥) → getD (blockWords (linkedTo C n key s h)) b 0 ≡ getD (blockWords C) b 0
+  linked-words b l d = linked-at 16384 b (omega arith) (omega arith) (λ e. d (omega arith)) (λ e. omega arith)
+
+  -- a word from the block words on, before it is lowered
+  chain-word : (at b : ℕ) → 16384 ≤ at → getD (chainedTo C n key s h) (at + b) 0 ≡ getD (drop at C) b 0
+  chain-word at b l =
+      chain-other C n key s h (at + b) (λ e. omega arith) (λ e. omega arith) (λ e. omega arith) (λ e. omega arith) ∙ sym (getD-drop at C b 0)
 
   -- the word of its block
-  linked-word : blockAt (linkedTo C n key s h) (n / 64) ≡ min (blockAt C (n / 64)) key
+  linked-word : getD (blockWords (linkedTo C n key s h)) (n / 16) 0 ≡ min (getD (blockWords C) (n / 16) 0) key
   unfolding blockedTo
   linked-word =
-      linked-before C n key s h (16384 + n / 64) (omega arith)
-      ∙ getD-set-same (chainedTo C n key s h) (16384 + n / 64) (min (blockAt C (n / 64)) key) 0 (omega (arith, chain-length C n key s h))
+      getD-drop 16384 (linkedTo C n key s h) (n / 16) 0 ∙ linked-before C n key s h (16384 + n / 16) (omega arith)
+      ∙ lowered-other (loweredTo (chainedTo C n key s h) (16384 + n / 16) key) (16640 + n / 16 / 16) key (16384 + n / 16) (λ e. omega arith)
+      ∙ lowered-here (chainedTo C n key s h) (16384 + n / 16) key (omega (arith, chain-length C n key s h))
+      ∙ ap (λ (i : ℕ). min i key) (chain-word 16384 (n / 16) (omega arith))
+
+  -- the upper word
+  linked-upper : getD (upperWords (linkedTo C n key s h)) (n / 16 / 16) 0 ≡ min (getD (upperWords C) (n / 16 / 16) 0) key
+  unfolding blockedTo
+  linked-upper =
+      getD-drop 16640 (linkedTo C n key s h) (n / 16 / 16) 0 ∙ linked-before C n key s h (16640 + n / 16 / 16) (omega arith)
+      ∙ lowered-here (loweredTo (chainedTo C n key s h) (16384 + n / 16) key) (16640 + n / 16 / 16) key (omega (arith, half-length C n key s h))
+      ∙ ap (λ (i : ℕ). min i key)
+      (lowered-other (chainedTo C n key s h) (16384 + n / 16) key (16640 + n / 16 / 16) (λ e. omega arith) ∙ chain-word 16640 (n / 16 / 16) (omega arith))
 
   -- the open keys of the nodes before it
   linked-old : (u : ℕ) → u < n → getD (linkedTo C n key s h) u 0 ≡ getD C u 0
@@ -247,37 +271,23 @@ module _ (C : List ℕ) (n key s h : ℕ) (long : length C ≡ 36928) (few : n <
 
   -- the block words are right again
   pub blocked-link : Blocked C n → Blocked (linkedTo C n key s h) (suc n)
-  blocked-link r =
-      blocked-change C (linkedTo C n key s h) n (suc n) (n / 64)
-      (record { words = linked-words; keys = λ u l d. linked-old u (older u d (below-cases l)); old = λ u l d. older u d (below-cases l); kept = omega arith; few = omega arith })
-      (λ u l e. low u e (below-cases l)) (one (decLe (blockAt C (n / 64)) key) (r .held (n / 64) (omega arith))) r
-    where
-      older : (u : ℕ) → (u / 64 ≡ n / 64 → ⊥) → (u < n) ⊎ (u ≡ n) → u < n
-      older u d (inl l) = l
-      older u d (inr e) = absurd (d (ap (λ (i : ℕ). i / 64) e))
-
-      low : (u : ℕ) → u / 64 ≡ n / 64 → (u < n) ⊎ (u ≡ n) → blockAt (linkedTo C n key s h) (n / 64) ≤ getD (linkedTo C n key s h) u 0
-      low u e (inl l) = let k : blockAt C (n / 64) ≤ getD C u 0 = rw e at (r .lower u l) in omega (arith, linked-word, linked-old u l)
-      low u e (inr f) = rw f (omega (arith, linked-word, linked-new))
-
-      one : Dec (blockAt C (n / 64) ≤ key) → (blockAt C (n / 64) ≡ mark) ⊎ Held C n (n / 64) (blockAt C (n / 64))
-          → (blockAt (linkedTo C n key s h) (n / 64) ≡ mark) ⊎ Held (linkedTo C n key s h) (suc n) (n / 64) (blockAt (linkedTo C n key s h) (n / 64))
-      one (yes l) (inl e) = inl (omega (arith, linked-word))
-      one (yes l) (inr k) =
-          inr (record {
-            node = k .node;
-            inside = omega (arith, k .inside);
-            block = k .block;
-            key = omega (arith, linked-old (k .node) (k .inside), k .key, linked-word);
-          })
-      one (no d) k = inr (record { node = n; inside = omega arith; block = refl; key = omega (arith, linked-new, linked-word) })
+  blocked-link r = record {
+    keys =
+        under-lowered C (blockWords C) (linkedTo C n key s h) (blockWords (linkedTo C n key s h)) 256 n (suc n) n
+        (record { keys = λ u l d. linked-old u (omega arith); words = linked-words; old = λ u l d. omega arith; kept = omega arith; few = omega arith })
+        (r .keys) key (omega arith) linked-word (λ l. absurd (omega arith)) (λ _. linked-new);
+    words =
+        under-lowered (blockWords C) (upperWords C) (blockWords (linkedTo C n key s h)) (upperWords (linkedTo C n key s h)) 16 256 256 (n / 16)
+        (record { keys = linked-words; words = λ g l d. linked-at 16640 g (omega arith) (omega arith) (λ e. omega arith) (λ e. d (omega arith)); old = λ u l d. l; kept = omega arith; few = omega arith })
+        (r .words) key (omega arith) linked-upper (λ _. linked-word) (λ l. absurd (omega arith));
+  }
 
   -- further words, of the nodes before it as they were
   linked-further : (u k : ℕ) → u < n → k < 4 → furtherAt (linkedTo C n key s h) u k ≡ furtherAt C u k
   unfolding linkedTo
   linked-further u k l b =
-      further-other (blockedTo C n key s h) n (headAt C h) (16448 + 4 * u + k) (λ p q. omega arith)
-      ∙ block-behind (16448 + 4 * u + k) (omega arith)
+      further-other (blockedTo C n key s h) n (headAt C h) (16656 + 4 * u + k) (λ p q. omega arith)
+      ∙ block-behind (16656 + 4 * u + k) (omega arith)
 
 -- node n of the table is linked behind the first n
 module _ (S : ℕ) (T C : List ℕ) (n key : ℕ) (few : n < 4096) (own : Packed (rowIn S T n)) (r : Chained S T C n) where
@@ -391,10 +401,10 @@ module _ (S : ℕ) (T C : List ℕ) (n key : ℕ) (few : n < 4096) (own : Packed
 
   back-mid : (k : ℕ) → k < 4 → backFurther E k b ≡ backFurther C k b
   back-mid k l =
-      back-same C E (λ u. 16448 + 4 * u + k) n b (omega arith)
-      (λ u i. block-behind C n key s h (r .long) few small (16448 + 4 * u + k) (omega arith)) (r .heads h small)
+      back-same C E (λ u. 16656 + 4 * u + k) n b (omega arith)
+      (λ u i. block-behind C n key s h (r .long) few small (16656 + 4 * u + k) (omega arith)) (r .heads h small)
 
-  room : 16448 + 4 * n + 4 ≤ length E
+  room : 16656 + 4 * n + 4 ≤ length E
   room = omega (arith, block-length C n key s h, r .long)
 
   -- the further words of the node itself

@@ -1,0 +1,51 @@
+-- `nodes::raise` meets its contract: the block's word is stored. Assumes nothing.
+use Prim.Native.Nat.{_*_}
+use lib.Seq.{drop-drop}
+use borrow.Author.Needs.{needs}
+use Rattle.nodes.specs.Block.{raisedTo}
+use Rattle.nodes.proofs.raise.Statement.{statement}
+use Rattle.nodes.proofs.raise.Tie as tie
+
+mul-least-from : tie.Need-mul-least-from
+mul-least-from c = search needs
+
+add-least-from : tie.Need-add-least-from
+add-least-from c = search needs
+
+block-size-requires : tie.Need-block-size-requires
+block-size-requires c κs = search needs
+
+least-from-requires : tie.Need-least-from-requires
+least-from-requires c κs = search needs
+
+add-scan : tie.Need-add-scan
+add-scan c = search needs
+
+mul-scan : tie.Need-mul-scan
+mul-scan c = search needs
+
+slice-write-scan : tie.Need-slice-write-scan
+slice-write-scan c = search needs
+
+same-length : tie.Need-same-length
+same-length c = search needs
+
+returns : tie.Need-returns
+unfolding raisedTo
+returns c =
+    let a = c .before .before .before .before .args in
+    rw (c .least-from .ensures, c .before .block-size .ensures, drop-drop (a .block * 16) (a .from) (a .scan .now))
+
+pub raise-spec : {M : Type 1} → statement M
+raise-spec =
+    tie.close
+    (tie.spec
+    mul-least-from
+    add-least-from
+    block-size-requires
+    least-from-requires
+    add-scan
+    mul-scan
+    slice-write-scan
+    same-length
+    returns)
