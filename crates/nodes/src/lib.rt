@@ -168,7 +168,8 @@ pub fn retire(scan: &mut [u64], node: usize, count: usize)
 
 // ---- dominance
 
-// Whether node `u` dominates the node with these parts: then the answer is above the number of states. Else it is the hint for the next node.
+// Whether node `u` dominates the node with these parts: then the answer is above the number of states. Else it is the hint for the next node. `sign` is
+// the signature of the prices.
 fn test_at(
     table: &[u64],
     states: usize,
@@ -176,15 +177,25 @@ fn test_at(
     spot: Centre,
     paid: u64,
     prices: &[u64],
+    sign: u64,
     hint: usize,
 ) -> usize
-    requires { ⌜ (states ≤ 1024) × (u * (40 + states) + (40 + states) ≤ length (now table)) × (states ≤ length (now prices)) × (hint ≤ states) × Packed (rowIn states (now table) u) ⌝ }
+    requires { ⌜ (states ≤ 1024) × (u * (40 + states) + (40 + states) ≤ length (now table)) × (states ≤ length (now prices)) × (hint ≤ states) × Packed (rowIn states (now table) u)
+        × (sign ≡ signOf (take states (now prices))) ⌝ }
     ensures { λ r. ⌜ Tested states (nodeIn states (now (table .entry)) u) (nodeWith spot paid (take states (now (prices .entry))) 0 0) r ⌝ }
 {
     let wide = 40 + states;
     let from = u * wide;
     let end = from + wide;
-    test_row(&table[from..end], states, spot, paid, prices, hint)
+    test_row(
+        &table[from..end],
+        states,
+        spot,
+        paid,
+        prices,
+        sign,
+        hint,
+    )
 }
 
 // The same, by the signatures first; `theirs` is that of node `u`, `sign` that of the other's prices.
@@ -206,7 +217,7 @@ fn test_node(
     if sign | theirs != theirs {
         return hint;
     }
-    test_at(table, states, u, spot, paid, prices, hint)
+    test_at(table, states, u, spot, paid, prices, sign, hint)
 }
 
 // Whether a signature has a bit that another lacks.
@@ -292,7 +303,16 @@ fn dominator(
     let recent = scan[33040 + slot_of(class, sign)] as usize;
     if recent > 0 {
         if recent <= count {
-            if test_at(table, states, recent - 1, spot, paid, prices, 0) > states {
+            if test_at(
+                table,
+                states,
+                recent - 1,
+                spot,
+                paid,
+                prices,
+                sign,
+                0,
+            ) > states {
                 return recent;
             }
         }
@@ -300,7 +320,18 @@ fn dominator(
     walk(table, states, count, scan, class, sign, spot, paid, prices)
 }
 
-// Whether one of the first `count` nodes dominates the node with these parts. The one that is found becomes the recent word of the class and the signature.
+// The next recent word: the node that was found, as one more than its number, or else the one behind the first `count` nodes. Any word is right.
+fn recent_word(found: usize, count: usize) -> u64
+    requires { ⌜ count ≤ 4096 ⌝ }
+{
+    if found == 0 {
+        return (count + 1) as u64;
+    }
+    found as u64
+}
+
+// Whether one of the first `count` nodes dominates the node with these parts. The one that is found becomes the recent word of the class and the
+// signature; where none is, the node itself, which is kept next if it is kept.
 pub fn is_dominated(
     table: &[u64],
     states: usize,
@@ -317,11 +348,9 @@ pub fn is_dominated(
     ensures { λ r. ⌜ (r ≡ any count (λ u. dominates (nodeIn states (now (table .entry)) u) (nodeWith spot paid (take states (now (prices .entry))) 0 0))) × Recalled (now (scan .entry)) (now (scan .exit)) ⌝ }
 {
     let found = dominator(table, states, count, scan, class, sign, spot, paid, prices);
-    if found == 0 {
-        return false;
-    }
-    scan[33040 + slot_of(class, sign)] = found as u64;
-    true
+    let place = 33040 + slot_of(class, sign);
+    scan[place] = recent_word(found, count);
+    found > 0
 }
 
 // ---- the choice

@@ -16,6 +16,7 @@ ghost use Rattle.rows.specs.Four.{fourTo};
 ghost use Rattle.rows.specs.Row.{spotOf, nodeOf, nodeWith, packOf, Packed, NotAbove, Above, Tested};
 ghost use Rattle.rows.specs.Scan.{Cut, goalsBy, keyBy, goalSumBy, goalCostBy};
 ghost use Rattle.rows.specs.Sign.{classOf, strideOf, signOf};
+ghost use Rattle.rows.specs.Sign.Bits.{HigherAt, AtBit};
 
 // ---- prices
 
@@ -265,9 +266,55 @@ fn place_from(row: &[u64], states: usize, prices: &[u64], from: usize) -> usize
     states
 }
 
-// The same of all prices. `hint` is tried first: where one node was too high the next is often too.
-fn place_above(row: &[u64], states: usize, prices: &[u64], hint: usize) -> usize
+// Whether the row's price of state k, where there is one, is higher.
+fn is_above(row: &[u64], states: usize, prices: &[u64], k: usize) -> bool
     requires { ⌜ (length (now row) ≡ 40 + states) × (states ≤ length (now prices)) ⌝ }
+    ensures { λ r. ⌜ HigherAt states (now (row .entry)) (now (prices .entry)) k r ⌝ }
+{
+    if k >= states {
+        return false;
+    }
+    row[40 + k] > prices[k]
+}
+
+// A place where the row's price is higher among the states of bit k of a signature; the number of states if there is none.
+fn place_at_bit(row: &[u64], states: usize, prices: &[u64], k: usize) -> usize
+    requires { ⌜ (states < 128) × (length (now row) ≡ 40 + states) × (states ≤ length (now prices)) × (k < 64) ⌝ }
+    ensures { λ r. ⌜ AtBit states (now (row .entry)) (now (prices .entry)) k r ⌝ }
+{
+    if is_above(row, states, prices, k) {
+        return k;
+    }
+    if is_above(row, states, prices, k + 64) {
+        return k + 64;
+    }
+    states
+}
+
+// A place where the row's price is higher, the number of states if there is none, by the bits of the prices' signature: fewer than 128 states are
+// each looked at there, and what cannot be reached has no lower price.
+fn place_by_sign(row: &[u64], states: usize, prices: &[u64], sign: u64) -> usize
+    requires { ⌜ (states < 128) × (length (now row) ≡ 40 + states) × (states ≤ length (now prices)) × (sign ≡ signOf (take states (now prices))) ⌝ }
+    ensures { λ r. ⌜ Above states (now (row .entry)) (now (prices .entry)) r ⌝ }
+{
+    let mut rest = sign;
+    let mut k: usize = 0;
+    while rest > 0 {
+        let skip = u64::trailing_zeros(rest);
+        let bit = k + skip as usize;
+        let place = place_at_bit(row, states, prices, bit);
+        if place < states {
+            return place;
+        }
+        rest = (rest >> skip) / 2;
+        k = bit + 1;
+    }
+    states
+}
+
+// The same of any number of states. `hint` is tried first: where one node was too high the next is often too.
+fn place_above(row: &[u64], states: usize, prices: &[u64], sign: u64, hint: usize) -> usize
+    requires { ⌜ (length (now row) ≡ 40 + states) × (states ≤ length (now prices)) × (sign ≡ signOf (take states (now prices))) ⌝ }
     ensures { λ r. ⌜ Above states (now (row .entry)) (now (prices .entry)) r ⌝ }
 {
     if hint < states {
@@ -275,27 +322,32 @@ fn place_above(row: &[u64], states: usize, prices: &[u64], hint: usize) -> usize
             return hint;
         }
     }
+    if states < 128 {
+        return place_by_sign(row, states, prices, sign);
+    }
     let from = place_in_fours(row, states, prices);
     place_from(row, states, prices, from)
 }
 
 // Whether the row's node has the same centre state, no higher centre cost and no higher price anywhere: then the answer is above the number of
-// states. Else it is the hint for the next node.
+// states. Else it is the hint for the next node. `sign` is the signature of the prices.
 pub fn test_row(
     row: &[u64],
     states: usize,
     spot: Centre,
     paid: u64,
     prices: &[u64],
+    sign: u64,
     hint: usize,
 ) -> usize
-    requires { ⌜ (states ≤ 1024) × (length (now row) ≡ 40 + states) × (states ≤ length (now prices)) × (hint ≤ states) × Packed (now row) ⌝ }
+    requires { ⌜ (states ≤ 1024) × (length (now row) ≡ 40 + states) × (states ≤ length (now prices)) × (hint ≤ states) × Packed (now row)
+        × (sign ≡ signOf (take states (now prices))) ⌝ }
     ensures { λ r. ⌜ Tested states (nodeOf states (now (row .entry))) (nodeWith spot paid (take states (now (prices .entry))) 0 0) r ⌝ }
 {
     if row[32] > paid {
         return hint;
     }
-    let place = place_above(row, states, prices, hint);
+    let place = place_above(row, states, prices, sign, hint);
     if place < states {
         return place;
     }

@@ -41,7 +41,7 @@ test-at-requires c κs =
     let s = c .before .before .before .before .before .before .before in
     let a = s .args in
     let inside : recent c - 1 < a .count = omega (arith, c .if2 .taken, c .before .if1 .taken) in
-    (s .pre .0 .0, row-in (a .states) (a .count) (recent c - 1) (a .table .now) inside (s .pre .0 .2), s .pre .0 .3, omega arith, s .pre .0 .4 .packed (recent c - 1) inside)
+    (s .pre .0 .0, row-in (a .states) (a .count) (recent c - 1) (a .table .now) inside (s .pre .0 .2), s .pre .0 .3, omega arith, s .pre .0 .4 .packed (recent c - 1) inside, s .pre .1 .1)
 
 -- the new node
 abbrev fresh : tie.Start → Node

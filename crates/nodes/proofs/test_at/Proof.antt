@@ -29,7 +29,7 @@ test-row-requires : tie.Need-test-row-requires
 test-row-requires c κs =
     let s = c .before .before .before in
     let a = s .args in
-    (s .pre .0, search needs, s .pre .2, s .pre .3, rw (row-lent (a .states) (a .u) (a .table .now)) (s .pre .4))
+    (s .pre .0, search needs, s .pre .2, s .pre .3, rw (row-lent (a .states) (a .u) (a .table .now)) (s .pre .4), s .pre .5)
 
 returns : tie.Need-returns
 returns c =

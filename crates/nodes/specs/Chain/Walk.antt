@@ -6,8 +6,9 @@ use mathlib.Core.List.{List}
 use Prim.Native.Nat.{ℕ, zero, suc, _+_, _-_, _*_, _≤_, _<_}
 use native.Mathlib.Omega.{arith}
 use native.Mathlib.Decide.{ℕ-discrete, decLt}
-use borrow.Author.Tests.{eq-eqb}
+use borrow.Author.Tests.{eq-eqb, lt-ltb}
 use lib.Bits.{bitOr}
+use lib.Dec.{ltb}
 use lib.ListN.{length}
 use Rattle.loops.specs.Count.{any}
 use Rattle.loops.specs.Count.Laws.{and-out, any-in, any-out, test-cases}
@@ -111,8 +112,7 @@ module _ (S : ℕ) (T : List ℕ) (n : ℕ) (m : Node) where
     none = λ e. absurd (omega arith);
   }
 
-  -- there is one
-  pub dominator-some : (r : ℕ) → Dominator S T n m r → (r ≡ 0 → ⊥) → any n (λ u. dominates (nodeIn S T u) m) ≡ true
-  dominator-some r k d =
-      let e : r ≡ suc (r - 1) = omega arith in
-      any-in n (λ u. dominates (nodeIn S T u) m) (r - 1) (omega (arith, k .inside)) (k .found (r - 1) e)
+  -- its number tells whether one does
+  pub dominator-tells : (r : ℕ) → Dominator S T n m r → ltb 0 r ≡ any n (λ u. dominates (nodeIn S T u) m)
+  dominator-tells zero k = sym (k .none refl)
+  dominator-tells (suc r) k = lt-ltb 0 (suc r) (omega arith) ∙ sym (any-in n (λ u. dominates (nodeIn S T u) m) r (k .inside) (k .found r refl))
