@@ -1,24 +1,23 @@
--- The scan words: 37,136 words in four parts of 4,096, one of 256, one of 16, one of four times 4,096 and one more of 4,096. Open keys stand at u,
--- signatures at 4096 + u, links at 8192 + u, heads at 12288 + h, block words at 16384 + b, upper words at 16640 + g, further words at
--- 16656 + 4 * u + k, recent words at 33040 + k.
--- Nodes are chained by the class of their centre state. A link or a head is one more than a node's number, 0 for none: the link of a node is the
--- last node before it of the same class, the head of a class is the last node of that class.
--- The further words of a node are the signatures of the three nodes before it in its chain, 0 where there is none, and the link of the third: a walk
--- that sees all four signatures at once goes on there.
--- A recent word is one more than the number of a node that dominated, to be tried first. It may be any number: nothing else goes by it.
-pub mod Back
+-- The scan words: 57,616 words. Open keys stand at u, signatures at 4096 + u, the links of groups at 8192 + g, heads at 12288 + h, the number of groups
+-- at 16383, block words at 16384 + b, upper words at 16640 + b, the signatures of entries at 16656 + 4 * g + k, the words of groups at 33040 + g, the
+-- nodes of entries at 37136 + 4 * g + k, recent words at 53520 + k.
+-- Nodes are chained by the class of their centre state, in groups: a group has up to four entries, each a node with its signature, so that a walk sees
+-- four signatures side by side. A link or a head is one more than a group's number, 0 for none: the link of a group is the last group before it of the
+-- same class, the head of a class is the last group of that class, to which the next node of the class goes while it has room.
+-- The word of a group is 8 times its class and the number of its entries.
+-- A recent word is one more than the number of a node that dominated or was kept, to be tried first. It may be any number: nothing else goes by it.
+pub mod Groups
 pub mod Laws
 pub mod Walk
 use mathlib.Core.Path.{_≡_}
-use mathlib.Core.Bool.{Bool, true, false, not, _&&_}
+use mathlib.Core.Bool.{Bool, true, false, not, cond, _&&_}
 use mathlib.Core.List.{List}
-use Prim.Native.Nat.{ℕ, zero, suc, _+_, _*_, _/_, _%_, _≤_, _<_}
+use Prim.Native.Nat.{ℕ, zero, suc, _+_, _-_, _*_, _/_, _%_, _≤_, _<_}
 use lib.Bits.{bitOr}
-use lib.Dec.{eqb}
+use lib.Dec.{eqb, ltb}
 use lib.ListN.{length, getD, set}
 use Rattle.loops.specs.Count.{any}
 use Rattle.search.specs.Node.{Node, dominates}
-use Rattle.rows.specs.Four.{fourTo}
 use Rattle.rows.specs.Row.{rowIn, nodeIn, Packed}
 use Rattle.rows.specs.Sign.{classOf, signOf}
 use Rattle.nodes.specs.Block.{loweredTo, Blocked}
@@ -27,90 +26,124 @@ use Rattle.nodes.specs.Block.{loweredTo, Blocked}
 abbrev pub signAt : List ℕ → ℕ → ℕ
 signAt C u = getD C (4096 + u) 0
 
--- the link of node u
+-- the link of group g
 abbrev pub linkAt : List ℕ → ℕ → ℕ
-linkAt C u = getD C (8192 + u) 0
+linkAt C g = getD C (8192 + g) 0
 
--- the head of class h
+-- the head of class h, of which there are fewer than 4,095
 abbrev pub headAt : List ℕ → ℕ → ℕ
 headAt C h = getD C (12288 + h) 0
 
--- further word k of node u
-abbrev pub furtherAt : List ℕ → ℕ → ℕ → ℕ
-furtherAt C u k = getD C (16656 + 4 * u + k) 0
+-- how many groups there are
+abbrev pub groupsIn : List ℕ → ℕ
+groupsIn C = getD C 16383 0
 
--- the word at f u of the node u that a link stands for, 0 where the link is 0; the remainder keeps any number inside the words
-unfoldable pub backAt : List ℕ → (ℕ → ℕ) → ℕ → ℕ
-backAt C f zero = 0
-backAt C f (suc u) = getD C (f (u % 4096)) 0
+-- the word of group g, its class and the number of its entries
+abbrev pub wordAt : List ℕ → ℕ → ℕ
+wordAt C g = getD C (33040 + g) 0
 
--- so the signature of that node
-abbrev pub backSign : List ℕ → ℕ → ℕ
-backSign C = backAt C (λ u. 4096 + u)
+abbrev pub classAt : List ℕ → ℕ → ℕ
+classAt C g = wordAt C g / 8
 
--- its link
-abbrev pub backLink : List ℕ → ℕ → ℕ
-backLink C = backAt C (λ u. 8192 + u)
+abbrev pub fillAt : List ℕ → ℕ → ℕ
+fillAt C g = wordAt C g % 8
 
--- its further word k
-abbrev pub backFurther : List ℕ → ℕ → ℕ → ℕ
-backFurther C k = backAt C (λ u. 16656 + 4 * u + k)
+-- the signature and the node of entry k of group g
+abbrev pub shownAt : List ℕ → ℕ → ℕ → ℕ
+shownAt C g k = getD C (16656 + 4 * g + k) 0
+
+abbrev pub entryAt : List ℕ → ℕ → ℕ → ℕ
+entryAt C g k = getD C (37136 + 4 * g + k) 0
 
 -- the place of the recent word of a class h and a signature s; any number below 4,096 is right, only speed depends on it
 unfoldable pub slotOf : ℕ → ℕ → ℕ
 slotOf h s = (h * 5 + s % 4093) % 4096
 
--- node n is chained: its key, its signature s, the old head of its class h as its link, and n as the new head
-unfoldable pub chainedTo : List ℕ → ℕ → ℕ → ℕ → ℕ → List ℕ
-chainedTo C n key s h = set (set (set (set C n key) (4096 + n) s) (8192 + n) (headAt C h)) (12288 + h) (n + 1)
+-- ---- what is stored; remainders keep any number inside the words
 
--- its block's word is no higher than its key, nor is the upper word
-unfoldable pub blockedTo : List ℕ → ℕ → ℕ → ℕ → ℕ → List ℕ
-blockedTo C n key s h = loweredTo (loweredTo (chainedTo C n key s h) (16384 + n / 16) key) (16640 + n / 16 / 16) key
+-- whether the group that a head stands for has room
+unfoldable pub hasRoom : List ℕ → ℕ → Bool
+hasRoom C zero = false
+hasRoom C (suc g) = ltb (fillAt C (g % 4096)) 4
 
--- the further words of node n, whose link is b, are stored
-unfoldable pub furtherTo : List ℕ → ℕ → ℕ → List ℕ
-furtherTo C n b = fourTo C (16656 + 4 * n) (backSign C b) (backFurther C 0 b) (backFurther C 1 b) (backLink C (backLink C (backLink C b)))
+-- the group that the next node of class h goes to: the last of the class where that has room, else a new one
+unfoldable pub groupFor : List ℕ → ℕ → ℕ
+groupFor C h = cond (hasRoom C (headAt C h)) ((headAt C h - 1) % 4096) (groupsIn C % 4096)
 
--- the scan words after node n is linked: it is chained, in its block's word and the upper word, and has its further words
+-- group g is the new last one of class h, without entries
+unfoldable pub withGroup : List ℕ → ℕ → ℕ → List ℕ
+withGroup C h g = set (set (set (set C (8192 + g) (headAt C h)) (33040 + g) (h * 8)) (12288 + h) (g + 1)) 16383 (g + 1)
+
+-- that group is there
+unfoldable pub openedTo : List ℕ → ℕ → List ℕ
+openedTo C h = cond (hasRoom C (headAt C h)) C (withGroup C h (groupsIn C % 4096))
+
+-- node n, of signature s, is the next entry of group g
+unfoldable pub joinedTo : List ℕ → ℕ → ℕ → ℕ → List ℕ
+joinedTo C g n s = set (set (set C (16656 + 4 * g + wordAt C g % 4) s) (37136 + 4 * g + wordAt C g % 4) n) (33040 + g) (wordAt C g % 65536 + 1)
+
+-- its key and its signature are stored, and its block's word is no higher than its key, nor is the upper word
+unfoldable pub blockedTo : List ℕ → ℕ → ℕ → ℕ → List ℕ
+blockedTo C n key s = loweredTo (loweredTo (set (set C n key) (4096 + n) s) (16384 + n / 16) key) (16640 + n / 16 / 16) key
+
+-- the scan words after node n, of class h, is linked
 unfoldable pub linkedTo : List ℕ → ℕ → ℕ → ℕ → ℕ → List ℕ
-linkedTo C n key s h = furtherTo (blockedTo C n key s h) n (headAt C h)
+linkedTo C n key s h = joinedTo (openedTo (blockedTo C n key s) h) (groupFor (blockedTo C n key s) h) n s
+
+-- ---- signatures
 
 -- the signature s has a bit that t lacks
 abbrev pub lacking : ℕ → ℕ → Bool
 lacking s t = not (eqb (bitOr s t) t)
 
--- node u and the three nodes before it in its chain lack a bit of s
+-- the signatures of all entries of group g lack a bit of s
 unfoldable pub allLack : List ℕ → ℕ → ℕ → Bool
-allLack C u s =
-    ((lacking s (signAt C u) && lacking s (furtherAt C u 0)) && lacking s (furtherAt C u 1)) && lacking s (furtherAt C u 2)
+allLack C g s =
+    ((lacking s (shownAt C g 0) && lacking s (shownAt C g 1)) && lacking s (shownAt C g 2)) && lacking s (shownAt C g 3)
 
--- the further words of the first n nodes: the signatures of the three nodes before each in its chain, and the link of the third
-pub record Further (C : List ℕ) (n : ℕ) : Type 0 where
-  pub firsts : (u : ℕ) → u < n → furtherAt C u 0 ≡ backSign C (linkAt C u)
-  pub seconds : (u : ℕ) → u < n → furtherAt C u 1 ≡ backSign C (backLink C (linkAt C u))
-  pub thirds : (u : ℕ) → u < n → furtherAt C u 2 ≡ backSign C (backLink C (backLink C (linkAt C u)))
-  pub jumps : (u : ℕ) → u < n → furtherAt C u 3 ≡ backLink C (backLink C (backLink C (linkAt C u)))
+-- ---- what holds of the words
 
--- the first n nodes of table T are chained in C, the block words are those of their open keys, their further words are right, and their rows
--- have their packs
+-- entry k of group g is one of the first n nodes, with its signature, and of the group's class
+pub record Entry (S : ℕ) (T C : List ℕ) (n g k : ℕ) : Type 0 where
+  pub inside : entryAt C g k < n
+  pub shown : shownAt C g k ≡ signOf (nodeIn S T (entryAt C g k) .prices)
+  pub class : classOf (nodeIn S T (entryAt C g k) .spot) ≡ classAt C g
+
+-- node w is an entry of a group
+pub record Placed (C : List ℕ) (w : ℕ) : Type 0 where
+  pub group : ℕ
+  pub place : ℕ
+  pub known : group < groupsIn C
+  pub filled : place < fillAt C group
+  pub is : entryAt C group place ≡ w
+
+-- the first n nodes of table T are the entries of groups, which are chained by class
+pub record Grouped (S : ℕ) (T C : List ℕ) (n : ℕ) : Type 0 where
+  pub fills : (g : ℕ) → g < groupsIn C → (fillAt C g ≤ 4) × (classAt C g < 4095)
+  pub links : (g : ℕ) → g < groupsIn C → linkAt C g ≤ g
+  pub skips : (g f : ℕ) → g < groupsIn C → linkAt C g ≤ f → f < g → classAt C f ≡ classAt C g → ⊥
+  pub linked : (g f : ℕ) → g < groupsIn C → linkAt C g ≡ suc f → classAt C f ≡ classAt C g
+  pub heads : (h : ℕ) → h < 4095 → headAt C h ≤ groupsIn C
+  pub last : (h f : ℕ) → h < 4095 → headAt C h ≤ f → f < groupsIn C → classAt C f ≡ h → ⊥
+  pub headed : (h f : ℕ) → h < 4095 → headAt C h ≡ suc f → classAt C f ≡ h
+  pub entries : (g k : ℕ) → g < groupsIn C → k < fillAt C g → Entry S T C n g k
+  pub placed : (w : ℕ) → w < n → Placed C w
+
+-- the first n nodes of table T have their signatures in C and are chained, the block words are those of their open keys, and their rows have their packs
 pub record Chained (S : ℕ) (T C : List ℕ) (n : ℕ) : Type 0 where
-  pub long : length C ≡ 37136
+  pub long : length C ≡ 57616
   pub signs : (u : ℕ) → u < n → signAt C u ≡ signOf (nodeIn S T u .prices)
-  pub links : (u : ℕ) → u < n → linkAt C u ≤ u
-  pub skips : (u w : ℕ) → u < n → linkAt C u ≤ w → w < u → classOf (nodeIn S T w .spot) ≡ classOf (nodeIn S T u .spot) → ⊥
-  pub linked : (u w : ℕ) → u < n → linkAt C u ≡ suc w → classOf (nodeIn S T w .spot) ≡ classOf (nodeIn S T u .spot)
-  pub heads : (h : ℕ) → h < 4096 → headAt C h ≤ n
-  pub last : (h w : ℕ) → h < 4096 → headAt C h ≤ w → w < n → classOf (nodeIn S T w .spot) ≡ h → ⊥
-  pub headed : (h w : ℕ) → h < 4096 → headAt C h ≡ suc w → classOf (nodeIn S T w .spot) ≡ h
+  pub few-groups : groupsIn C ≤ n
+  pub grouped : Grouped S T C n
   pub blocks : Blocked C n
-  pub further : Further C n
   pub packed : (u : ℕ) → u < n → Packed (rowIn S T u)
 
 -- the scan words D are those of C but for recent words
 pub record Recalled (C D : List ℕ) : Type 0 where
   pub long : length D ≡ length C
-  pub same : (i : ℕ) → i < 33040 → getD D i 0 ≡ getD C i 0
+  pub same : (i : ℕ) → i < 53520 → getD D i 0 ≡ getD C i 0
+
+-- ---- the node that dominates
 
 -- r is one more than the number of one of the n nodes, which dominates m; it is 0 only where none does
 pub record Dominator (S : ℕ) (T : List ℕ) (n : ℕ) (m : Node) (r : ℕ) : Type 0 where
@@ -118,8 +151,18 @@ pub record Dominator (S : ℕ) (T : List ℕ) (n : ℕ) (m : Node) (r : ℕ) : T
   pub found : (u : ℕ) → r ≡ suc u → dominates (nodeIn S T u) m ≡ true
   pub none : r ≡ 0 → any n (λ u. dominates (nodeIn S T u) m) ≡ false
 
--- a walk along the chain of node m has come to `to`, one more than the next node: no node of the n from there on dominates m
-pub record Walked (S : ℕ) (T : List ℕ) (n : ℕ) (m : Node) (to : ℕ) : Type 0 where
-  pub low : to ≤ n
-  pub none : (w : ℕ) → to ≤ w → w < n → dominates (nodeIn S T w) m ≡ false
-  pub class : (w : ℕ) → to ≡ suc w → classOf (nodeIn S T w .spot) ≡ classOf (m .spot)
+-- no entry of group g before place k dominates m
+abbrev pub Missed : ℕ → List ℕ → List ℕ → Node → ℕ → ℕ → Type 0
+Missed S T C m g k = (i : ℕ) → i < k → dominates (nodeIn S T (entryAt C g i)) m ≡ false
+
+-- the entries of group g were tried: r is one more than the number of one that dominates m, 0 only where none does
+pub record Tried (S : ℕ) (T C : List ℕ) (n : ℕ) (m : Node) (g r : ℕ) : Type 0 where
+  pub inside : r ≤ n
+  pub found : (u : ℕ) → r ≡ suc u → dominates (nodeIn S T u) m ≡ true
+  pub none : r ≡ 0 → Missed S T C m g (fillAt C g)
+
+-- a walk along the groups of m's class has come to `to`, one more than the next group: no entry of a group from there on dominates m
+pub record Walked (S : ℕ) (T C : List ℕ) (m : Node) (to : ℕ) : Type 0 where
+  pub low : to ≤ groupsIn C
+  pub none : (g : ℕ) → to ≤ g → g < groupsIn C → Missed S T C m g (fillAt C g)
+  pub class : (g : ℕ) → to ≡ suc g → classAt C g ≡ classOf (m .spot)

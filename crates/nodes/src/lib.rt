@@ -12,7 +12,7 @@ ghost use Rattle.rows.specs.Row.{rowIn, nodeIn, nodeWith, Packed, Tested};
 ghost use Rattle.rows.specs.Sign.{classOf, signOf};
 ghost use Rattle.nodes.specs.Choice.{chooseBy};
 ghost use Rattle.nodes.specs.Block.{blockSize, leastIn, chooseIn, Blocked, freshTo, loweredTo, raisedTo, retiredTo};
-ghost use Rattle.nodes.specs.Chain.{slotOf, lacking, allLack, backAt, backLink, backFurther, furtherTo, linkedTo, Chained, Recalled, Dominator};
+ghost use Rattle.nodes.specs.Chain.{groupsIn, slotOf, lacking, allLack, hasRoom, groupFor, withGroup, openedTo, joinedTo, linkedTo, Chained, Recalled, Dominator, Tried};
 
 // ---- chains
 
@@ -26,54 +26,6 @@ fn lesser(a: u64, b: u64) -> u64
     a
 }
 
-// The word at `from` of the node that a link stands for, 0 where the link is 0: `from` is where the signatures or the links begin.
-fn word_back(scan: &[u64], from: usize, to: u64) -> u64
-    requires { ⌜ (length (now scan) ≡ 37136) × (from ≤ 8192) ⌝ }
-    ensures { λ r. ⌜ r ≡ backAt (now (scan .entry)) (λ u. from + u) to ⌝ }
-{
-    if to == 0 {
-        return 0;
-    }
-    scan[from + ((to - 1) % 4096) as usize]
-}
-
-// The same of further word `k`.
-fn further_back(scan: &[u64], k: usize, to: u64) -> u64
-    requires { ⌜ (length (now scan) ≡ 37136) × (k < 4) ⌝ }
-    ensures { λ r. ⌜ r ≡ backFurther (now (scan .entry)) k to ⌝ }
-{
-    if to == 0 {
-        return 0;
-    }
-    scan[16656 + 4 * ((to - 1) % 4096) as usize + k]
-}
-
-// Three nodes back in the chain from the node that a link stands for, again as a link.
-fn third_back(scan: &[u64], to: u64) -> u64
-    requires { ⌜ length (now scan) ≡ 37136 ⌝ }
-    ensures { λ r. ⌜ r ≡ backLink (now (scan .entry)) (backLink (now (scan .entry)) (backLink (now (scan .entry)) to)) ⌝ }
-{
-    let first = word_back(scan, 8192, to);
-    let second = word_back(scan, 8192, first);
-    word_back(scan, 8192, second)
-}
-
-// The further words of a node whose link is `to`: the signatures of the three nodes before it in its chain, and the fourth, where a walk jumps to.
-fn link_further(scan: &mut [u64], node: usize, to: u64)
-    requires { ⌜ (length (now scan) ≡ 37136) × (node < 4096) ⌝ }
-    ensures { λ _. ⌜ now (scan .exit) ≡ furtherTo (now (scan .entry)) node to ⌝ }
-{
-    let first = word_back(scan, 4096, to);
-    let second = further_back(scan, 0, to);
-    let third = further_back(scan, 1, to);
-    let jump = third_back(scan, to);
-    let from = 16656 + 4 * node;
-    scan[from] = first;
-    scan[from + 1] = second;
-    scan[from + 2] = third;
-    scan[from + 3] = jump;
-}
-
 // The word at a place no higher than the key.
 fn lower(scan: &mut [u64], at: usize, key: u64)
     requires { ⌜ at < length (now scan) ⌝ }
@@ -83,27 +35,74 @@ fn lower(scan: &mut [u64], at: usize, key: u64)
     scan[at] = low;
 }
 
-// A node into the scan words: its key, its signature, the node itself as the last of its class, its block's word and the upper word no higher than its
-// key, and its further words.
-pub fn link(scan: &mut [u64], node: usize, key: u64, sign: u64, class: usize)
-    requires { ⌜ (length (now scan) ≡ 37136) × (node < 4096) × (class < 4096) ⌝ }
-    ensures { λ _. ⌜ now (scan .exit) ≡ linkedTo (now (scan .entry)) node key sign class ⌝ }
+// Whether the group that a head stands for has room for one entry more.
+fn has_room(scan: &[u64], head: u64) -> bool
+    requires { ⌜ length (now scan) ≡ 57616 ⌝ }
+    ensures { λ r. ⌜ r ≡ hasRoom (now (scan .entry)) head ⌝ }
+{
+    if head == 0 {
+        return false;
+    }
+    scan[33040 + ((head - 1) % 4096) as usize] % 8 < 4
+}
+
+// A group without entries becomes the last of its class.
+fn add_group(scan: &mut [u64], class: usize, group: usize)
+    requires { ⌜ (length (now scan) ≡ 57616) × (class < 4095) × (group < 4096) ⌝ }
+    ensures { λ _. ⌜ now (scan .exit) ≡ withGroup (now (scan .entry)) class group ⌝ }
 {
     let head = scan[12288 + class];
+    scan[8192 + group] = head;
+    scan[33040 + group] = (class * 8) as u64;
+    scan[12288 + class] = (group + 1) as u64;
+    scan[16383] = (group + 1) as u64;
+}
+
+// The group that the next node of a class goes to: the last of the class where that has room, else a new one.
+fn group_for(scan: &mut [u64], class: usize) -> usize
+    requires { ⌜ (length (now scan) ≡ 57616) × (class < 4095) ⌝ }
+    ensures { λ r. ⌜ (r ≡ groupFor (now (scan .entry)) class) × (now (scan .exit) ≡ openedTo (now (scan .entry)) class) ⌝ }
+{
+    let head = scan[12288 + class];
+    if has_room(scan, head) {
+        return ((head - 1) % 4096) as usize;
+    }
+    let group = (scan[16383] % 4096) as usize;
+    add_group(scan, class, group);
+    group
+}
+
+// A node with its signature as the next entry of a group.
+fn join(scan: &mut [u64], group: usize, node: usize, sign: u64)
+    requires { ⌜ (length (now scan) ≡ 57616) × (group < 4096) × (node < 4096) ⌝ }
+    ensures { λ _. ⌜ now (scan .exit) ≡ joinedTo (now (scan .entry)) group node sign ⌝ }
+{
+    let word = scan[33040 + group];
+    let place = 4 * group + (word % 4) as usize;
+    scan[16656 + place] = sign;
+    scan[37136 + place] = node as u64;
+    scan[33040 + group] = word % 65536 + 1;
+}
+
+// A node into the scan words: its key and its signature, its block's word and the upper word no higher than its key, and the node as an entry of the last
+// group of its class.
+pub fn link(scan: &mut [u64], node: usize, key: u64, sign: u64, class: usize)
+    requires { ⌜ (length (now scan) ≡ 57616) × (node < 4096) × (class < 4095) ⌝ }
+    ensures { λ _. ⌜ now (scan .exit) ≡ linkedTo (now (scan .entry)) node key sign class ⌝ }
+{
     scan[node] = key;
     scan[4096 + node] = sign;
-    scan[8192 + node] = head;
-    scan[12288 + class] = (node + 1) as u64;
     lower(scan, 16384 + node / 16, key);
     lower(scan, 16640 + node / 16 / 16, key);
-    link_further(scan, node, head);
+    let group = group_for(scan, class);
+    join(scan, group, node, sign);
 }
 
 // ---- blocks
 
 // The words of all blocks to the mark, and the upper words, which stand behind them.
 pub fn fresh(scan: &mut [u64])
-    requires { ⌜ length (now scan) ≡ 37136 ⌝ }
+    requires { ⌜ length (now scan) ≡ 57616 ⌝ }
     ensures { λ _. ⌜ now (scan .exit) ≡ freshTo (now (scan .entry)) 272 ⌝ }
 {
     for b in 0..272 {
@@ -149,7 +148,7 @@ fn block_size(block: usize, count: usize) -> usize
 
 // A block's word again the least of its keys: the words begin at `at`, the keys at `from`.
 fn raise(scan: &mut [u64], from: usize, at: usize, block: usize, count: usize)
-    requires { ⌜ (length (now scan) ≡ 37136) × (from ≤ 16384) × (at ≤ 16640) × (block * 16 ≤ count) × (count ≤ 4096) ⌝ }
+    requires { ⌜ (length (now scan) ≡ 57616) × (from ≤ 16384) × (at ≤ 16640) × (block * 16 ≤ count) × (count ≤ 4096) ⌝ }
     ensures { λ _. ⌜ now (scan .exit) ≡ raisedTo (now (scan .entry)) from at count block ⌝ }
 {
     let low = least_from(scan, from + block * 16, block_size(block, count));
@@ -158,7 +157,7 @@ fn raise(scan: &mut [u64], from: usize, at: usize, block: usize, count: usize)
 
 // The mark as the open key of a node, its block's word again the least of the block, and the upper word the least of its block words.
 pub fn retire(scan: &mut [u64], node: usize, count: usize)
-    requires { ⌜ (length (now scan) ≡ 37136) × (count ≤ 4096) × (node < count) ⌝ }
+    requires { ⌜ (length (now scan) ≡ 57616) × (count ≤ 4096) × (node < count) ⌝ }
     ensures { λ _. ⌜ now (scan .exit) ≡ retiredTo (now (scan .entry)) node count ⌝ }
 {
     scan[node] = MARK;
@@ -187,15 +186,7 @@ fn test_at(
     let wide = 40 + states;
     let from = u * wide;
     let end = from + wide;
-    test_row(
-        &table[from..end],
-        states,
-        spot,
-        paid,
-        prices,
-        sign,
-        hint,
-    )
+    test_row(&table[from..end], states, spot, paid, prices, sign, hint)
 }
 
 // The same, by the signatures first; `theirs` is that of node `u`, `sign` that of the other's prices.
@@ -227,22 +218,50 @@ fn lacks(sign: u64, theirs: u64) -> bool
     sign | theirs != theirs
 }
 
-// Whether node `u` and the three nodes before it in its chain all lack a bit of the signature. The four words stand side by side but for the first,
-// and nothing branches between them.
-fn all_lack(scan: &[u64], u: usize, sign: u64) -> bool
-    requires { ⌜ (length (now scan) ≡ 37136) × (u < 4096) ⌝ }
-    ensures { λ r. ⌜ r ≡ allLack (now (scan .entry)) u sign ⌝ }
+// Whether the signatures of all entries of a group lack a bit of the signature. The four words stand side by side, and nothing branches between them.
+fn all_lack(scan: &[u64], group: usize, sign: u64) -> bool
+    requires { ⌜ (length (now scan) ≡ 57616) × (group < 4096) ⌝ }
+    ensures { λ r. ⌜ r ≡ allLack (now (scan .entry)) group sign ⌝ }
 {
-    let from = 16656 + 4 * u;
-    let own = lacks(sign, scan[4096 + u]);
+    let from = 16656 + 4 * group;
     let first = lacks(sign, scan[from]);
     let second = lacks(sign, scan[from + 1]);
     let third = lacks(sign, scan[from + 2]);
-    own & first & second & third
+    let fourth = lacks(sign, scan[from + 3]);
+    first & second & third & fourth
 }
 
-// One more than the number of a node that dominates the node with these parts, 0 for none: those of its class are tried, the last first. Where four
-// nodes in a row are out by their signatures, the walk jumps over them.
+// The entries of a group are tried: one more than the number of a node that dominates the node with these parts, 0 for none.
+fn try_group(
+    table: &[u64],
+    states: usize,
+    count: usize,
+    scan: &[u64],
+    group: usize,
+    sign: u64,
+    spot: Centre,
+    paid: u64,
+    prices: &[u64],
+) -> usize
+    requires { ⌜ (states ≤ 1024) × (count ≤ 4096) × (count * (40 + states) ≤ length (now table)) × (states ≤ length (now prices)) × Chained states (now table) (now scan) count ⌝ }
+    requires { ⌜ (group < groupsIn (now scan)) × (sign ≡ signOf (take states (now prices))) ⌝ }
+    ensures { λ r. ⌜ Tried states (now (table .entry)) (now (scan .entry)) count (nodeWith spot paid (take states (now (prices .entry))) 0 0) group r ⌝ }
+{
+    let fill = (scan[33040 + group] % 8) as usize;
+    let mut hint = 0;
+    for k in 0..fill {
+        let u = scan[37136 + 4 * group + k] as usize;
+        let theirs = scan[16656 + 4 * group + k];
+        hint = test_node(table, states, u, theirs, sign, spot, paid, prices, hint);
+        if hint > states {
+            return u + 1;
+        }
+    }
+    0
+}
+
+// One more than the number of a node that dominates the node with these parts, 0 for none: the groups of its class are tried, the last first, but
+// for those whose signatures all lack a bit.
 fn walk(
     table: &[u64],
     states: usize,
@@ -258,20 +277,17 @@ fn walk(
     requires { ⌜ (class ≡ classOf spot) × (sign ≡ signOf (take states (now prices))) ⌝ }
     ensures { λ r. ⌜ Dominator states (now (table .entry)) count (nodeWith spot paid (take states (now (prices .entry))) 0 0) r ⌝ }
 {
-    let mut hint = 0;
     let mut to = scan[12288 + class] as usize;
     while to > 0 {
-        let u = to - 1;
-        if all_lack(scan, u, sign) {
-            to = scan[16656 + 4 * u + 3] as usize;
+        let group = to - 1;
+        to = scan[8192 + group] as usize;
+        if all_lack(scan, group, sign) {
             continue;
         }
-        let theirs = scan[4096 + u];
-        hint = test_node(table, states, u, theirs, sign, spot, paid, prices, hint);
-        if hint > states {
-            return to;
+        let found = try_group(table, states, count, scan, group, sign, spot, paid, prices);
+        if found > 0 {
+            return found;
         }
-        to = scan[8192 + u] as usize;
     }
     0
 }
@@ -300,19 +316,10 @@ fn dominator(
     requires { ⌜ (class ≡ classOf spot) × (sign ≡ signOf (take states (now prices))) ⌝ }
     ensures { λ r. ⌜ Dominator states (now (table .entry)) count (nodeWith spot paid (take states (now (prices .entry))) 0 0) r ⌝ }
 {
-    let recent = scan[33040 + slot_of(class, sign)] as usize;
+    let recent = scan[53520 + slot_of(class, sign)] as usize;
     if recent > 0 {
         if recent <= count {
-            if test_at(
-                table,
-                states,
-                recent - 1,
-                spot,
-                paid,
-                prices,
-                sign,
-                0,
-            ) > states {
+            if test_at(table, states, recent - 1, spot, paid, prices, sign, 0) > states {
                 return recent;
             }
         }
@@ -348,7 +355,7 @@ pub fn is_dominated(
     ensures { λ r. ⌜ (r ≡ any count (λ u. dominates (nodeIn states (now (table .entry)) u) (nodeWith spot paid (take states (now (prices .entry))) 0 0))) × Recalled (now (scan .entry)) (now (scan .exit)) ⌝ }
 {
     let found = dominator(table, states, count, scan, class, sign, spot, paid, prices);
-    let place = 33040 + slot_of(class, sign);
+    let place = 53520 + slot_of(class, sign);
     scan[place] = recent_word(found, count);
     found > 0
 }
@@ -368,7 +375,7 @@ fn pick_in(scan: &[u64], from: usize, block: usize, count: usize, bound: u64) ->
 // One more than the node with the least key below the bound, the lowest on ties; 0 for none. The upper word is picked, then the block by its word, then
 // the node in the block.
 pub fn choose(scan: &[u64], count: usize, bound: u64) -> usize
-    requires { ⌜ (length (now scan) ≡ 37136) × (count ≤ 4096) × (bound ≤ mark) × Blocked (now scan) count ⌝ }
+    requires { ⌜ (length (now scan) ≡ 57616) × (count ≤ 4096) × (bound ≤ mark) × Blocked (now scan) count ⌝ }
     ensures { λ r. ⌜ r ≡ chooseBy bound (now (scan .entry)) count ⌝ }
 {
     let upper = pick(scan, 16640, 16, bound);

@@ -190,7 +190,7 @@ fn search_with(
     let kinds = action_kinds(task);
     let starts = leaf_starts(task);
     let goals = leaf_goals(task, bases);
-    let mut scan = [0u64; 37136];
+    let mut scan = [0u64; 57616];
     let stop = explore(
         task,
         &bases,

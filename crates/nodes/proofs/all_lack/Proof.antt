@@ -2,8 +2,8 @@
 use mathlib.Core.Path.{_≡_}
 use Prim.Native.Nat.{_+_, _*_}
 use native.Mathlib.Omega.{arith}
-use borrow.Author.Needs.{needs}
 use Rattle.nodes.specs.Chain.{allLack}
+use borrow.Author.Needs.{needs}
 use Rattle.nodes.proofs.all_lack.Statement.{statement}
 use Rattle.nodes.proofs.all_lack.Tie as tie
 
@@ -13,9 +13,6 @@ mul-from c = search needs
 add-from : tie.Need-add-from
 add-from c = search needs
 
-add-lacks : tie.Need-add-lacks
-add-lacks c = search needs
-
 mul-lacks : tie.Need-mul-lacks
 mul-lacks c = search needs
 
@@ -24,6 +21,9 @@ shared-slice-read-lacks c = search needs
 
 lacks-requires : tie.Need-lacks-requires
 lacks-requires c κs = search needs
+
+add-lacks : tie.Need-add-lacks
+add-lacks c = search needs
 
 mul-lacks-2 : tie.Need-mul-lacks-2
 mul-lacks-2 c = search needs
@@ -61,8 +61,8 @@ lacks-requires-4 c κs = search needs
 returns : tie.Need-returns
 unfolding allLack
 returns c =
-    let u = c .before .before .before .before .before .before .before .before .before .args .u in
-    let e : 16656 + 4 * u + 0 ≡ 16656 + 4 * u = omega arith in
+    let g = c .before .before .before .before .before .before .before .before .before .args .group in
+    let e : 16656 + 4 * g + 0 ≡ 16656 + 4 * g = omega arith in
     rw (
       c .before .before .before .before .before .before .lacks .ensures,
       c .before .before .before .before .lacks2 .ensures,
@@ -77,10 +77,10 @@ all-lack-spec =
     (tie.spec
     mul-from
     add-from
-    add-lacks
     mul-lacks
     shared-slice-read-lacks
     lacks-requires
+    add-lacks
     mul-lacks-2
     shared-slice-read-lacks-2
     lacks-requires-2

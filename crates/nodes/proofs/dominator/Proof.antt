@@ -14,7 +14,7 @@ use Rattle.nodes.proofs.dominator.Statement.{statement}
 use Rattle.nodes.proofs.dominator.Tie as tie
 
 slot-of-requires : tie.Need-slot-of-requires
-slot-of-requires c κs = let s = c .before .before .before in rw (s .pre .1 .0) (class-lt (s .args .spot))
+slot-of-requires c κs = let s = c .before .before .before in omega (arith, s .pre .1 .0, class-lt (s .args .spot))
 
 -- the place is below 4,096
 small : (c : tie.After-slot-of) → c .slot-of .result < 4096
@@ -31,7 +31,7 @@ shared-slice-read-recent c = omega (arith, small (c .before), c .before .before 
 
 -- one more than the node that is tried
 abbrev recent : tie.Then2 → ℕ
-recent c = getD (c .before .before .before .before .before .before .before .args .scan .now) (33040 + c .before .before .before .slot-of .result) 0
+recent c = getD (c .before .before .before .before .before .before .before .args .scan .now) (53520 + c .before .before .before .slot-of .result) 0
 
 sub-test-at : tie.Need-sub-test-at
 sub-test-at c = search needs

@@ -14,7 +14,7 @@ dominator-requires : tie.Need-dominator-requires
 dominator-requires c κs = search needs
 
 slot-of-requires : tie.Need-slot-of-requires
-slot-of-requires c κs = let s = c .before .before .before .before .before in rw (s .pre .1 .0) (class-lt (s .args .spot))
+slot-of-requires c κs = let s = c .before .before .before .before .before in omega (arith, s .pre .1 .0, class-lt (s .args .spot))
 
 -- the place is below 4,096
 small : (c : tie.After-slot-of) → c .slot-of .result < 4096
@@ -40,7 +40,7 @@ returns c =
     let a = c .before .before .before .before .before .before .before .args in
     let d = c .before .before .dominator in (
       dominator-tells (a .states) (a .table .now) (a .count) (nodeWith (a .spot) (a .paid) (take (a .states) (a .prices .now)) 0 0) (d .result) (d .ensures),
-      recalled-set (a .scan .now) (33040 + c .before .slot-of .result) (c .recent-word .result) (omega arith),
+      recalled-set (a .scan .now) (53520 + c .before .slot-of .result) (c .recent-word .result) (omega arith),
     )
 
 pub is-dominated-spec : {M : Type 1} → statement M

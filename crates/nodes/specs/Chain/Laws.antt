@@ -1,14 +1,15 @@
 -- Laws of the scan words: chains as nodes are linked and retired, and recent words. Assumes nothing.
 use mathlib.Core.Path.{_≡_, refl, sym, ap, _∙_}
 use mathlib.Core.Logic.{_⊎_, inl, inr}
+use mathlib.Core.Bool.{true, false}
 use mathlib.Core.List.{List}
-use Prim.Native.Nat.{ℕ, suc, _+_, _*_, _/_, _≤_, _<_, min}
+use Prim.Native.Nat.{ℕ, suc, _+_, _-_, _*_, _/_, _%_, _≤_, _<_, min}
 use native.Mathlib.Nat.{not-suc-le-zero}
 use native.Mathlib.Omega.{arith}
-use native.Mathlib.Decide.{ℕ-discrete}
+use borrow.Author.Tests.{ltb-true}
 use lib.ListN.{length, getD, set, drop, length-set}
 use lib.Seq.{getD-set-same, getD-set-other, getD-drop}
-use Rattle.loops.specs.Count.Laws.{below-cases}
+use Rattle.loops.specs.Count.Laws.{below-cases, test-cases}
 use Rattle.task.specs.declared.Centre.{Centre}
 use Rattle.leaf.specs.Price.{mark}
 use Rattle.rows.specs.Row.{nodeOf, rowIn, nodeIn, Packed}
@@ -16,59 +17,39 @@ use Rattle.rows.specs.Sign.{classOf, signOf}
 use Rattle.rows.specs.Sign.Laws.{class-lt}
 use Rattle.nodes.specs.Block.{blockWords, upperWords, Blocked, freshTo, loweredTo, retiredTo}
 use Rattle.nodes.specs.Block.Laws.{under-same, under-lowered, blocked-none, fresh-length, fresh-other, fresh-block, drop-same, lowered-length, lowered-other, lowered-here, retired-length, retired-key, retired-behind, blocked-retire}
-use Rattle.nodes.specs.Chain.{signAt, linkAt, headAt, furtherAt, backLink, backSign, backFurther, slotOf, chainedTo, blockedTo, linkedTo, Further, Chained, Recalled}
-use Rattle.nodes.specs.Chain.Back.{back-same, back-first, back-second, back-thrice, back-sign, back-sign-once, back-sign-twice, further-same, further-length, further-other, further-first, further-second, further-third, further-jump, further-more}
+use Rattle.nodes.specs.Chain.{signAt, headAt, groupsIn, wordAt, classAt, fillAt, slotOf, hasRoom, groupFor, withGroup, openedTo, joinedTo, blockedTo, linkedTo, Grouped, Chained, Recalled}
+use Rattle.nodes.specs.Chain.Groups.{room-some, room-head, group-last, group-new, SameGroups, grouped-none, grouped-words, grouped-same, open-other, open-groups, open-word, open-length, grouped-open, join-length, join-before, grouped-join}
 
 -- ---- chains
 
--- no node has further words
-further-none : (C : List ℕ) → Further C 0
-further-none C = record {
-  firsts = λ u h. absurd (not-suc-le-zero h);
-  seconds = λ u h. absurd (not-suc-le-zero h);
-  thirds = λ u h. absurd (not-suc-le-zero h);
-  jumps = λ u h. absurd (not-suc-le-zero h);
-}
-
 -- no node
-pub chained-none : (S : ℕ) (T C : List ℕ) → length C ≡ 37136 → ((h : ℕ) → h < 4096 → headAt C h ≡ 0) → ((b : ℕ) → b < 272 → getD C (16384 + b) 0 ≡ mark)
+pub chained-none : (S : ℕ) (T C : List ℕ) → length C ≡ 57616 → ((h : ℕ) → h < 4096 → headAt C h ≡ 0) → ((b : ℕ) → b < 272 → getD C (16384 + b) 0 ≡ mark)
     → Chained S T C 0
 chained-none S T C l z m = record {
   long = l;
   signs = λ u h. absurd (not-suc-le-zero h);
-  links = λ u h. absurd (not-suc-le-zero h);
-  skips = λ u w h. absurd (not-suc-le-zero h);
-  linked = λ u w h. absurd (not-suc-le-zero h);
-  heads = λ h b. omega (arith, z h b);
-  last = λ h w b a k. absurd (not-suc-le-zero k);
-  headed = λ h w b e. absurd (omega (arith, z h b));
+  few-groups = omega (arith, z 4095 (omega arith));
+  grouped = grouped-none S T C z;
   blocks = blocked-none C m;
-  further = further-none C;
   packed = λ u h. absurd (not-suc-le-zero h);
 }
 
 -- no node, after all block words are set to the mark
-pub chained-fresh : (S : ℕ) (T C : List ℕ) → length C ≡ 37136 → ((h : ℕ) → h < 4096 → headAt C h ≡ 0) → Chained S T (freshTo C 272) 0
+pub chained-fresh : (S : ℕ) (T C : List ℕ) → length C ≡ 57616 → ((h : ℕ) → h < 4096 → headAt C h ≡ 0) → Chained S T (freshTo C 272) 0
 chained-fresh S T C l z =
     chained-none S T (freshTo C 272) (fresh-length C 272 ∙ l) (λ h b. fresh-other C 272 (12288 + h) (omega arith) ∙ z h b)
     (λ b k. fresh-block C 272 b (omega arith) k)
 
--- signatures, links, heads and further words are the same, and the block words are right
+-- signatures and groups are the same, and the block words are right
 chained-words : (S : ℕ) (T C C′ : List ℕ) (n : ℕ) → n ≤ 4096 → length C′ ≡ length C → ((i : ℕ) → 4096 ≤ i → i < 16384 → getD C′ i 0 ≡ getD C i 0)
-    → ((i : ℕ) → 16656 ≤ i → i < 33040 → getD C′ i 0 ≡ getD C i 0) → Blocked C′ n → Chained S T C n → Chained S T C′ n
+    → ((i : ℕ) → 16656 ≤ i → i < 53520 → getD C′ i 0 ≡ getD C i 0) → Blocked C′ n → Chained S T C n → Chained S T C′ n
 chained-words S T C C′ n few l s f k r = record {
   long = l ∙ r .long;
   signs = λ u h. s (4096 + u) (omega arith) (omega arith) ∙ r .signs u h;
-  links = λ u h. omega (arith, s (8192 + u) (omega arith) (omega arith), r .links u h);
-  skips = λ u w h a. r .skips u w h (omega (arith, s (8192 + u) (omega arith) (omega arith)));
-  linked = λ u w h e. r .linked u w h (sym (s (8192 + u) (omega arith) (omega arith)) ∙ e);
-  heads = λ h b. omega (arith, s (12288 + h) (omega arith) (omega arith), r .heads h b);
-  last = λ h w b a. r .last h w b (omega (arith, s (12288 + h) (omega arith) (omega arith)));
-  headed = λ h w b e. r .headed h w b (sym (s (12288 + h) (omega arith) (omega arith)) ∙ e);
+  few-groups = omega (arith, s 16383 (omega arith) (omega arith), r .few-groups);
+  grouped =
+      grouped-words S T C C′ n (omega (arith, r .few-groups)) (record { chains = λ i a. s i (omega arith); members = f }) (r .grouped);
   blocks = k;
-  further =
-      further-same C C′ n few (r .links) (λ u h. s (4096 + u) (omega arith) (omega arith)) (λ u h. s (8192 + u) (omega arith) (omega arith))
-      (λ u i h b. f (16656 + 4 * u + i) (omega arith) (omega arith)) (r .further);
   packed = r .packed;
 }
 
@@ -86,7 +67,7 @@ pub recalled-none : (C : List ℕ) → Recalled C C
 recalled-none C = record { long = refl; same = λ i l. refl }
 
 -- one recent word is stored
-pub recalled-set : (C : List ℕ) (i v : ℕ) → 33040 ≤ i → Recalled C (set C i v)
+pub recalled-set : (C : List ℕ) (i v : ℕ) → 53520 ≤ i → Recalled C (set C i v)
 recalled-set C i v h = record { long = length-set C i v; same = λ k l. getD-set-other C i k v 0 (λ e. omega arith) }
 
 -- the block words do not go by recent words
@@ -98,7 +79,7 @@ blocked-recalled C D n few k r = record {
       (λ g l. word 16640 g (omega arith)) (r .words);
 }
   where
-    word : (at b : ℕ) → at + b < 33040 → getD (drop at D) b 0 ≡ getD (drop at C) b 0
+    word : (at b : ℕ) → at + b < 53520 → getD (drop at D) b 0 ≡ getD (drop at C) b 0
     word at b l = drop-same C D at b (k .same (at + b) l)
 
 -- nor do the chains
@@ -107,7 +88,7 @@ chained-recalled S T C D n few k r =
     chained-words S T C D n few (k .long) (λ i l h. k .same i (omega arith)) (λ i l h. k .same i h) (blocked-recalled C D n few k (r .blocks)) r
 
 -- the same where one recent word is stored
-pub chained-recent : (S : ℕ) (T C : List ℕ) (n i v : ℕ) → n ≤ 4096 → 33040 ≤ i → Chained S T C n → Chained S T (set C i v) n
+pub chained-recent : (S : ℕ) (T C : List ℕ) (n i v : ℕ) → n ≤ 4096 → 53520 ≤ i → Chained S T C n → Chained S T (set C i v) n
 chained-recent S T C n i v few h = chained-recalled S T C (set C i v) n few (recalled-set C i v h)
 
 -- the place of a recent word is below 4,096
@@ -122,324 +103,266 @@ pub chained-same : (S : ℕ) (T T′ C : List ℕ) (n : ℕ) → ((u : ℕ) → 
 chained-same S T T′ C n s r = record {
   long = r .long;
   signs = λ u h. r .signs u h ∙ ap (λ (row : List ℕ). signOf (nodeOf S row .prices)) (sym (s u h));
-  links = r .links;
-  skips = λ u w h a b e. r .skips u w h a b (sym (class w (omega arith)) ∙ e ∙ class u h);
-  linked = λ u w h e. class w (omega (arith, r .links u h)) ∙ r .linked u w h e ∙ sym (class u h);
-  heads = r .heads;
-  last = λ h w b a k e. r .last h w b a k (sym (class w k) ∙ e);
-  headed = λ h w b e. class w (omega (arith, r .heads h b)) ∙ r .headed h w b e;
+  few-groups = r .few-groups;
+  grouped = grouped-same S T T′ C n s (r .grouped);
   blocks = r .blocks;
-  further = r .further;
   packed = λ u h. rw (s u h) (r .packed u h);
 }
-  where
-    class : (u : ℕ) → u < n → classOf (nodeIn S T′ u .spot) ≡ classOf (nodeIn S T u .spot)
-    class u h = ap (λ (row : List ℕ). classOf (nodeOf S row .spot)) (s u h)
+
+-- ---- a node's key and signature are stored
+
+module _ (C : List ℕ) (n key s : ℕ) where
+  abbrev stored : List ℕ
+  stored = set (set C n key) (4096 + n) s
+
+  abbrev half : List ℕ
+  half = loweredTo stored (16384 + n / 16) key
+
+  abbrev B : List ℕ
+  B = blockedTo C n key s
+
+  half-length : length half ≡ length C
+  half-length = lowered-length stored (16384 + n / 16) key ∙ simp length-set
+
+  -- the scan words stay as many
+  pub block-length : length B ≡ length C
+  unfolding blockedTo
+  block-length = lowered-length half (16640 + n / 16 / 16) key ∙ half-length
+
+  -- but for the key, the signature, its block's word and the upper word they are the same
+  block-but : (i : ℕ) → (i ≡ 16384 + n / 16 → ⊥) → (i ≡ 16640 + n / 16 / 16 → ⊥) → getD B i 0 ≡ getD stored i 0
+  unfolding blockedTo
+  block-but i d f = lowered-other half (16640 + n / 16 / 16) key i f ∙ lowered-other stored (16384 + n / 16) key i d
+
+  -- of the open keys only the node's is stored
+  pub block-key : (u : ℕ) → u < 4096 → getD B u 0 ≡ getD (set C n key) u 0
+  block-key u b = block-but u (λ e. omega arith) (λ e. omega arith) ∙ getD-set-other (set C n key) (4096 + n) u s 0 (λ e. omega arith)
+
+  module _ (long : length C ≡ 57616) (few : n < 4096) where
+    block-old : (i : ℕ) → 4096 ≤ i → (i ≡ 4096 + n → ⊥) → (i ≡ 16384 + n / 16 → ⊥) → (i ≡ 16640 + n / 16 / 16 → ⊥) → getD B i 0 ≡ getD C i 0
+    block-old i b a d f =
+        block-but i d f ∙ getD-set-other (set C n key) (4096 + n) i s 0 a ∙ getD-set-other C n i key 0 (λ e. omega arith)
+
+    -- the node's signature, and those of the nodes before it
+    block-sign : signAt B n ≡ s
+    block-sign = block-but (4096 + n) (λ e. omega arith) (λ e. omega arith) ∙ getD-set-same (set C n key) (4096 + n) s 0 (simp length-set (omega arith))
+
+    sign-old : (u : ℕ) → u < n → signAt B u ≡ signAt C u
+    sign-old u l = block-old (4096 + u) (omega arith) (λ e. omega arith) (λ e. omega arith) (λ e. omega arith)
+
+    -- groups are as they were
+    same-groups : SameGroups C B
+    same-groups = record {
+      chains = λ i a b. block-old i (omega arith) (λ e. omega arith) (λ e. omega arith) (λ e. omega arith);
+      members = λ i a b. block-old i (omega arith) (λ e. omega arith) (λ e. omega arith) (λ e. omega arith);
+    }
+
+    -- the other words of blocks and upper words, as those from a place on
+    block-at : (at b : ℕ) → 16384 ≤ at → at + b < 16656 → (at + b ≡ 16384 + n / 16 → ⊥) → (at + b ≡ 16640 + n / 16 / 16 → ⊥)
+        → getD (drop at B) b 0 ≡ getD (drop at C) b 0
+    block-at at b l i d f = drop-same C B at b (block-old (at + b) (omega arith) (λ e. omega arith) d f)
+
+    -- so the words of the other blocks
+    block-words : (b : ℕ) → b < 256 → (b ≡ n / 16 → ⊥) → getD (blockWords B) b 0 ≡ getD (blockWords C) b 0
+    block-words b l d = block-at 16384 b (omega arith) (omega arith) (λ e. d (omega arith)) (λ e. omega arith)
+
+    -- a word from the block words on, before it is lowered
+    stored-word : (at b : ℕ) → 16384 ≤ at → getD stored (at + b) 0 ≡ getD (drop at C) b 0
+    stored-word at b l =
+        getD-set-other (set C n key) (4096 + n) (at + b) s 0 (λ e. omega arith) ∙ getD-set-other C n (at + b) key 0 (λ e. omega arith)
+        ∙ sym (getD-drop at C b 0)
+
+    -- the word of its block
+    block-word : getD (blockWords B) (n / 16) 0 ≡ min (getD (blockWords C) (n / 16) 0) key
+    unfolding blockedTo
+    block-word =
+        getD-drop 16384 B (n / 16) 0
+        ∙ lowered-other half (16640 + n / 16 / 16) key (16384 + n / 16) (λ e. omega arith)
+        ∙ lowered-here stored (16384 + n / 16) key (simp length-set (omega arith))
+        ∙ ap (λ (i : ℕ). min i key) (stored-word 16384 (n / 16) (omega arith))
+
+    -- the upper word
+    block-upper : getD (upperWords B) (n / 16 / 16) 0 ≡ min (getD (upperWords C) (n / 16 / 16) 0) key
+    unfolding blockedTo
+    block-upper =
+        getD-drop 16640 B (n / 16 / 16) 0
+        ∙ lowered-here half (16640 + n / 16 / 16) key (omega (arith, half-length))
+        ∙ ap (λ (i : ℕ). min i key)
+        (lowered-other stored (16384 + n / 16) key (16640 + n / 16 / 16) (λ e. omega arith) ∙ stored-word 16640 (n / 16 / 16) (omega arith))
+
+    -- the open keys of the nodes before it, and its own
+    key-old : (u : ℕ) → u < n → getD B u 0 ≡ getD C u 0
+    key-old u l = block-key u (omega arith) ∙ getD-set-other C n u key 0 (λ e. omega arith)
+
+    key-new : getD B n 0 ≡ key
+    key-new = block-key n few ∙ getD-set-same C n key 0 (omega arith)
+
+    -- the block words are right again
+    pub blocked-link : Blocked C n → Blocked B (suc n)
+    blocked-link r = record {
+      keys =
+          under-lowered C (blockWords C) B (blockWords B) 256 n (suc n) n
+          (record { keys = λ u l d. key-old u (omega arith); words = block-words; old = λ u l d. omega arith; kept = omega arith; few = omega arith })
+          (r .keys) key (omega arith) block-word (λ l. absurd (omega arith)) (λ _. key-new);
+      words =
+          under-lowered (blockWords C) (upperWords C) (blockWords B) (upperWords B) 16 256 256 (n / 16)
+          (record { keys = block-words; words = λ g l d. block-at 16640 g (omega arith) (omega arith) (λ e. omega arith) (λ e. d (omega arith)); old = λ u l d. l; kept = omega arith; few = omega arith })
+          (r .words) key (omega arith) block-upper (λ _. block-word) (λ l. absurd (omega arith));
+    }
+
+-- ---- the group that it goes to
+
+-- a group for the next node of class h is there, and has room
+pub record Ready (S : ℕ) (T C : List ℕ) (n h : ℕ) (D : List ℕ) (g : ℕ) : Type 0 where
+  pub kept : length D ≡ length C
+  pub same : (i : ℕ) → i < 8192 → getD D i 0 ≡ getD C i 0
+  pub words : (i : ℕ) → 16384 ≤ i → i < 16656 → getD D i 0 ≡ getD C i 0
+  pub few : groupsIn D ≤ groupsIn C + 1
+  pub known : g < groupsIn D
+  pub room : fillAt D g < 4
+  pub own : classAt D g ≡ h
+  pub grouped : Grouped S T D n
+
+module _ (S : ℕ) (T C : List ℕ) (n h : ℕ) (long : length C ≡ 57616) (few : groupsIn C < 4096) (small : h < 4095) (r : Grouped S T C n) where
+  -- it is the last of the class
+  ready-last : hasRoom C (headAt C h) ≡ true → Ready S T C n h C ((headAt C h - 1) % 4096)
+  ready-last e =
+      let some = room-head C (headAt C h) e in
+      let top = r .heads h small in
+      let is : headAt C h ≡ suc ((headAt C h - 1) % 4096) = omega arith in
+      record {
+        kept = refl;
+        same = λ i l. refl;
+        words = λ i a l. refl;
+        few = omega arith;
+        known = omega arith;
+        room = ltb-true _ 4 (sym (room-some C (headAt C h) (λ z. omega arith)) ∙ e);
+        own = r .headed h ((headAt C h - 1) % 4096) small is;
+        grouped = r;
+      }
+
+  -- it is new
+  ready-new : Ready S T C n h (withGroup C h (groupsIn C % 4096)) (groupsIn C % 4096)
+  unfolding withGroup
+  ready-new =
+      let is : groupsIn C % 4096 ≡ groupsIn C = omega arith in
+      let word = open-word S T C n h long few small r in
+      let more = open-groups S T C n h long few small r in
+      rw is
+      (record {
+        kept = open-length S T C n h long few small r;
+        same = λ i l. open-other S T C n h long few small r i (λ e. omega arith) (λ e. omega arith) (λ e. omega arith) (λ e. omega arith);
+        words = λ i a l. open-other S T C n h long few small r i (λ e. omega arith) (λ e. omega arith) (λ e. omega arith) (λ e. omega arith);
+        few = omega (arith, more);
+        known = omega (arith, more);
+        room = rw word (omega arith);
+        own = rw word (omega arith);
+        grouped = grouped-open S T C n h long few small r;
+      })
+
+  ready : Ready S T C n h (openedTo C h) (groupFor C h)
+  ready = go (test-cases (hasRoom C (headAt C h)))
+    where
+      go : (hasRoom C (headAt C h) ≡ true) ⊎ (hasRoom C (headAt C h) ≡ false) → Ready S T C n h (openedTo C h) (groupFor C h)
+      go (inl e) = rw (group-last C h e .0, group-last C h e .1) (ready-last e)
+      go (inr e) = rw (group-new C h e .0, group-new C h e .1) ready-new
 
 -- ---- a node is linked
 
--- the scan words stay as many
-chain-length : (C : List ℕ) (n key s h : ℕ) → length (chainedTo C n key s h) ≡ length C
-unfolding chainedTo
-chain-length C n key s h = simp length-set
+-- neither a new group nor an entry is among the open keys
+group-key : (C : List ℕ) (h g u : ℕ) → u < 4096 → getD (withGroup C h g) u 0 ≡ getD C u 0
+unfolding withGroup
+group-key C h g u b =
+    getD-set-other (set (set (set C (8192 + g) (headAt C h)) (33040 + g) (h * 8)) (12288 + h) (g + 1)) 16383 u (g + 1) 0 (λ e. omega arith)
+    ∙ getD-set-other (set (set C (8192 + g) (headAt C h)) (33040 + g) (h * 8)) (12288 + h) u (g + 1) 0 (λ e. omega arith)
+    ∙ getD-set-other (set C (8192 + g) (headAt C h)) (33040 + g) u (h * 8) 0 (λ e. omega arith)
+    ∙ getD-set-other C (8192 + g) u (headAt C h) 0 (λ e. omega arith)
 
--- also with the block's word
-half-length : (C : List ℕ) (n key s h : ℕ) → length (loweredTo (chainedTo C n key s h) (16384 + n / 16) key) ≡ length C
-half-length C n key s h = lowered-length (chainedTo C n key s h) (16384 + n / 16) key ∙ chain-length C n key s h
+opened-key : (C : List ℕ) (h u : ℕ) → u < 4096 → getD (openedTo C h) u 0 ≡ getD C u 0
+opened-key C h u b = go (test-cases (hasRoom C (headAt C h)))
+  where
+    go : (hasRoom C (headAt C h) ≡ true) ⊎ (hasRoom C (headAt C h) ≡ false) → getD (openedTo C h) u 0 ≡ getD C u 0
+    go (inl e) = ap (λ (D : List ℕ). getD D u 0) (group-last C h e .1)
+    go (inr e) = ap (λ (D : List ℕ). getD D u 0) (group-new C h e .1) ∙ group-key C h (groupsIn C % 4096) u b
 
--- with the upper word
-block-length : (C : List ℕ) (n key s h : ℕ) → length (blockedTo C n key s h) ≡ length C
-unfolding blockedTo
-block-length C n key s h =
-    lowered-length (loweredTo (chainedTo C n key s h) (16384 + n / 16) key) (16640 + n / 16 / 16) key ∙ half-length C n key s h
-
--- and with further words
-pub linked-length : (C : List ℕ) (n key s h : ℕ) → length (linkedTo C n key s h) ≡ length C
-unfolding linkedTo
-linked-length C n key s h = further-length (blockedTo C n key s h) n (headAt C h) ∙ block-length C n key s h
-
--- before the further words, those of the chains and blocks
-linked-before : (C : List ℕ) (n key s h i : ℕ) → i < 16656 → getD (linkedTo C n key s h) i 0 ≡ getD (blockedTo C n key s h) i 0
-unfolding linkedTo
-linked-before C n key s h i b = further-other (blockedTo C n key s h) n (headAt C h) i (λ l k. omega arith)
-
--- but for its block's word and the upper word those of the chains
-block-but : (C : List ℕ) (n key s h i : ℕ) → (i ≡ 16384 + n / 16 → ⊥) → (i ≡ 16640 + n / 16 / 16 → ⊥)
-    → getD (blockedTo C n key s h) i 0 ≡ getD (chainedTo C n key s h) i 0
-unfolding blockedTo
-block-but C n key s h i d f =
-    lowered-other (loweredTo (chainedTo C n key s h) (16384 + n / 16) key) (16640 + n / 16 / 16) key i f
-    ∙ lowered-other (chainedTo C n key s h) (16384 + n / 16) key i d
-
--- so before the block words
-linked-chain : (C : List ℕ) (n key s h i : ℕ) → i < 16384 → getD (linkedTo C n key s h) i 0 ≡ getD (chainedTo C n key s h) i 0
-linked-chain C n key s h i b = linked-before C n key s h i (omega arith) ∙ block-but C n key s h i (λ e. omega arith) (λ e. omega arith)
-
--- a word that is none of the four
-chain-other : (C : List ℕ) (n key s h i : ℕ) → (i ≡ n → ⊥) → (i ≡ 4096 + n → ⊥) → (i ≡ 8192 + n → ⊥) → (i ≡ 12288 + h → ⊥)
-    → getD (chainedTo C n key s h) i 0 ≡ getD C i 0
-unfolding chainedTo
-chain-other C n key s h i p q r t =
-    getD-set-other (set (set (set C n key) (4096 + n) s) (8192 + n) (headAt C h)) (12288 + h) i (n + 1) 0 t
-    ∙ getD-set-other (set (set C n key) (4096 + n) s) (8192 + n) i (headAt C h) 0 r
-    ∙ getD-set-other (set C n key) (4096 + n) i s 0 q
-    ∙ getD-set-other C n i key 0 p
+joined-key : (C : List ℕ) (g n s u : ℕ) → u < 4096 → getD (joinedTo C g n s) u 0 ≡ getD C u 0
+unfolding joinedTo
+joined-key C g n s u b =
+    getD-set-other (set (set C (16656 + 4 * g + wordAt C g % 4) s) (37136 + 4 * g + wordAt C g % 4) n) (33040 + g) u (wordAt C g % 65536 + 1) 0 (λ e. omega arith)
+    ∙ getD-set-other (set C (16656 + 4 * g + wordAt C g % 4) s) (37136 + 4 * g + wordAt C g % 4) u n 0 (λ e. omega arith)
+    ∙ getD-set-other C (16656 + 4 * g + wordAt C g % 4) u s 0 (λ e. omega arith)
 
 -- of the open keys only the node's is stored
 pub linked-key : (C : List ℕ) (n key s h u : ℕ) → u < 4096 → getD (linkedTo C n key s h) u 0 ≡ getD (set C n key) u 0
-unfolding chainedTo
-linked-key C n key s h u b =
-    linked-chain C n key s h u (omega arith)
-    ∙ getD-set-other (set (set (set C n key) (4096 + n) s) (8192 + n) (headAt C h)) (12288 + h) u (n + 1) 0 (λ e. omega arith)
-    ∙ getD-set-other (set (set C n key) (4096 + n) s) (8192 + n) u (headAt C h) 0 (λ e. omega arith)
-    ∙ getD-set-other (set C n key) (4096 + n) u s 0 (λ e. omega arith)
-
-module _ (C : List ℕ) (n key s h : ℕ) (long : length C ≡ 37136) (few : n < 4096) (small : h < 4096) where
-  -- the node's signature
-  linked-sign : signAt (linkedTo C n key s h) n ≡ s
-  unfolding chainedTo
-  linked-sign =
-      linked-chain C n key s h (4096 + n) (omega arith)
-      ∙ getD-set-other (set (set (set C n key) (4096 + n) s) (8192 + n) (headAt C h)) (12288 + h) (4096 + n) (n + 1) 0 (λ e. omega arith)
-      ∙ getD-set-other (set (set C n key) (4096 + n) s) (8192 + n) (4096 + n) (headAt C h) 0 (λ e. omega arith)
-      ∙ getD-set-same (set C n key) (4096 + n) s 0 (simp length-set (omega arith))
-
-  -- its link
-  linked-link : linkAt (linkedTo C n key s h) n ≡ headAt C h
-  unfolding chainedTo
-  linked-link =
-      linked-chain C n key s h (8192 + n) (omega arith)
-      ∙ getD-set-other (set (set (set C n key) (4096 + n) s) (8192 + n) (headAt C h)) (12288 + h) (8192 + n) (n + 1) 0 (λ e. omega arith)
-      ∙ getD-set-same (set (set C n key) (4096 + n) s) (8192 + n) (headAt C h) 0 (simp length-set (omega arith))
-
-  -- the head of its class
-  linked-head : headAt (linkedTo C n key s h) h ≡ n + 1
-  unfolding chainedTo
-  linked-head =
-      linked-chain C n key s h (12288 + h) (omega arith)
-      ∙ getD-set-same (set (set (set C n key) (4096 + n) s) (8192 + n) (headAt C h)) (12288 + h) (n + 1) 0 (simp length-set (omega arith))
-
-  -- from the block words on only those two are stored before the further words are
-  block-old : (i : ℕ) → 16384 ≤ i → (i ≡ 16384 + n / 16 → ⊥) → (i ≡ 16640 + n / 16 / 16 → ⊥) → getD (blockedTo C n key s h) i 0 ≡ getD C i 0
-  block-old i b d f =
-      block-but C n key s h i d f ∙ chain-other C n key s h i (λ e. omega arith) (λ e. omega arith) (λ e. omega arith) (λ e. omega arith)
-
-  -- so behind the upper words nothing
-  block-behind : (i : ℕ) → 16656 ≤ i → getD (blockedTo C n key s h) i 0 ≡ getD C i 0
-  block-behind i b = block-old i (omega arith) (λ e. omega arith) (λ e. omega arith)
-
-  -- the other words of blocks and upper words, as those from a place on
-  linked-at : (at b : ℕ) → 16384 ≤ at → at + b < 16656 → (at + b ≡ 16384 + n / 16 → ⊥) → (at + b ≡ 16640 + n / 16 / 16 → ⊥)
-      → getD (drop at (linkedTo C n key s h)) b 0 ≡ getD (drop at C) b 0
-  linked-at at b l i d f =
-      drop-same C (linkedTo C n key s h) at b (linked-before C n key s h (at + b) i ∙ block-old (at + b) (omega arith) d f)
-
-  -- so the words of the other blocks
-  linked-words : (b : ℕ) → b < 256 → (b ≡ n / 16 → ⊥) → getD (blockWords (linkedTo C n key s h)) b 0 ≡ getD (blockWords C) b 0
-  linked-words b l d = linked-at 16384 b (omega arith) (omega arith) (λ e. d (omega arith)) (λ e. omega arith)
-
-  -- a word from the block words on, before it is lowered
-  chain-word : (at b : ℕ) → 16384 ≤ at → getD (chainedTo C n key s h) (at + b) 0 ≡ getD (drop at C) b 0
-  chain-word at b l =
-      chain-other C n key s h (at + b) (λ e. omega arith) (λ e. omega arith) (λ e. omega arith) (λ e. omega arith) ∙ sym (getD-drop at C b 0)
-
-  -- the word of its block
-  linked-word : getD (blockWords (linkedTo C n key s h)) (n / 16) 0 ≡ min (getD (blockWords C) (n / 16) 0) key
-  unfolding blockedTo
-  linked-word =
-      getD-drop 16384 (linkedTo C n key s h) (n / 16) 0 ∙ linked-before C n key s h (16384 + n / 16) (omega arith)
-      ∙ lowered-other (loweredTo (chainedTo C n key s h) (16384 + n / 16) key) (16640 + n / 16 / 16) key (16384 + n / 16) (λ e. omega arith)
-      ∙ lowered-here (chainedTo C n key s h) (16384 + n / 16) key (omega (arith, chain-length C n key s h))
-      ∙ ap (λ (i : ℕ). min i key) (chain-word 16384 (n / 16) (omega arith))
-
-  -- the upper word
-  linked-upper : getD (upperWords (linkedTo C n key s h)) (n / 16 / 16) 0 ≡ min (getD (upperWords C) (n / 16 / 16) 0) key
-  unfolding blockedTo
-  linked-upper =
-      getD-drop 16640 (linkedTo C n key s h) (n / 16 / 16) 0 ∙ linked-before C n key s h (16640 + n / 16 / 16) (omega arith)
-      ∙ lowered-here (loweredTo (chainedTo C n key s h) (16384 + n / 16) key) (16640 + n / 16 / 16) key (omega (arith, half-length C n key s h))
-      ∙ ap (λ (i : ℕ). min i key)
-      (lowered-other (chainedTo C n key s h) (16384 + n / 16) key (16640 + n / 16 / 16) (λ e. omega arith) ∙ chain-word 16640 (n / 16 / 16) (omega arith))
-
-  -- the open keys of the nodes before it
-  linked-old : (u : ℕ) → u < n → getD (linkedTo C n key s h) u 0 ≡ getD C u 0
-  linked-old u l = linked-key C n key s h u (omega arith) ∙ getD-set-other C n u key 0 (λ e. omega arith)
-
-  -- its own open key
-  linked-new : getD (linkedTo C n key s h) n 0 ≡ key
-  linked-new = linked-key C n key s h n few ∙ getD-set-same C n key 0 (omega arith)
-
-  -- the block words are right again
-  pub blocked-link : Blocked C n → Blocked (linkedTo C n key s h) (suc n)
-  blocked-link r = record {
-    keys =
-        under-lowered C (blockWords C) (linkedTo C n key s h) (blockWords (linkedTo C n key s h)) 256 n (suc n) n
-        (record { keys = λ u l d. linked-old u (omega arith); words = linked-words; old = λ u l d. omega arith; kept = omega arith; few = omega arith })
-        (r .keys) key (omega arith) linked-word (λ l. absurd (omega arith)) (λ _. linked-new);
-    words =
-        under-lowered (blockWords C) (upperWords C) (blockWords (linkedTo C n key s h)) (upperWords (linkedTo C n key s h)) 16 256 256 (n / 16)
-        (record { keys = linked-words; words = λ g l d. linked-at 16640 g (omega arith) (omega arith) (λ e. omega arith) (λ e. d (omega arith)); old = λ u l d. l; kept = omega arith; few = omega arith })
-        (r .words) key (omega arith) linked-upper (λ _. linked-word) (λ l. absurd (omega arith));
-  }
-
-  -- further words, of the nodes before it as they were
-  linked-further : (u k : ℕ) → u < n → k < 4 → furtherAt (linkedTo C n key s h) u k ≡ furtherAt C u k
-  unfolding linkedTo
-  linked-further u k l b =
-      further-other (blockedTo C n key s h) n (headAt C h) (16656 + 4 * u + k) (λ p q. omega arith)
-      ∙ block-behind (16656 + 4 * u + k) (omega arith)
+unfolding linkedTo
+linked-key C n key s h u b = joined-key (openedTo (blockedTo C n key s) h) (groupFor (blockedTo C n key s) h) n s u b ∙ opened-key (blockedTo C n key s) h u b ∙ block-key C n key s u b
 
 -- node n of the table is linked behind the first n
 module _ (S : ℕ) (T C : List ℕ) (n key : ℕ) (few : n < 4096) (own : Packed (rowIn S T n)) (r : Chained S T C n) where
-  -- its signature, its class, and the words
-  abbrev s : ℕ
-  s = signOf (nodeIn S T n .prices)
+  abbrev sign : ℕ
+  sign = signOf (nodeIn S T n .prices)
 
-  abbrev h : ℕ
-  h = classOf (nodeIn S T n .spot)
+  abbrev class : ℕ
+  class = classOf (nodeIn S T n .spot)
 
-  abbrev D : List ℕ
-  D = linkedTo C n key s h
+  abbrev mid : List ℕ
+  mid = blockedTo C n key sign
 
-  small : h < 4096
-  small = class-lt (nodeIn S T n .spot)
+  mid-long : length mid ≡ 57616
+  mid-long = block-length C n key sign ∙ r .long
 
-  -- the words of the nodes before it, and the heads of the other classes
-  sign-old : (u : ℕ) → u < n → signAt D u ≡ signAt C u
-  sign-old u l =
-      linked-chain C n key s h (4096 + u) (omega arith)
-      ∙ chain-other C n key s h (4096 + u) (λ e. omega arith) (λ e. omega arith) (λ e. omega arith) (λ e. omega arith)
+  mid-groups : groupsIn mid ≡ groupsIn C
+  mid-groups = same-groups C n key sign (r .long) few .chains 16383 (omega arith) (omega arith)
 
-  link-old : (u : ℕ) → u < n → linkAt D u ≡ linkAt C u
-  link-old u l =
-      linked-chain C n key s h (8192 + u) (omega arith)
-      ∙ chain-other C n key s h (8192 + u) (λ e. omega arith) (λ e. omega arith) (λ e. omega arith) (λ e. omega arith)
+  got : Ready S T mid n class (openedTo mid class) (groupFor mid class)
+  got =
+      ready S T mid n class mid-long (omega (arith, mid-groups, r .few-groups)) (class-lt (nodeIn S T n .spot))
+      (grouped-words S T C mid n (omega (arith, r .few-groups)) (same-groups C n key sign (r .long) few) (r .grouped))
 
-  head-old : (i : ℕ) → i < 4096 → (i ≡ h → ⊥) → headAt D i ≡ headAt C i
-  head-old i b d =
-      linked-chain C n key s h (12288 + i) (omega arith)
-      ∙ chain-other C n key s h (12288 + i) (λ e. omega arith) (λ e. omega arith) (λ e. omega arith) (λ e. d (omega arith))
-
-  sign-new : signAt D n ≡ s
-  sign-new = linked-sign C n key s h (r .long) few small
-
-  link-new : linkAt D n ≡ headAt C h
-  link-new = linked-link C n key s h (r .long) few small
-
-  head-new : headAt D h ≡ n + 1
-  head-new = linked-head C n key s h (r .long) few small
-
-  -- each part of the chains, of the nodes before it and of it
-  signs-more : (u : ℕ) → u < suc n → signAt D u ≡ signOf (nodeIn S T u .prices)
-  signs-more u b = go (below-cases b)
-    where
-      go : (u < n) ⊎ (u ≡ n) → signAt D u ≡ signOf (nodeIn S T u .prices)
-      go (inl l) = sign-old u l ∙ r .signs u l
-      go (inr e) = rw e sign-new
-
-  links-more : (u : ℕ) → u < suc n → linkAt D u ≤ u
-  links-more u b = go (below-cases b)
-    where
-      go : (u < n) ⊎ (u ≡ n) → linkAt D u ≤ u
-      go (inl l) = omega (arith, link-old u l, r .links u l)
-      go (inr e) = rw e (omega (arith, link-new, r .heads h small))
-
-  skips-more : (u w : ℕ) → u < suc n → linkAt D u ≤ w → w < u → classOf (nodeIn S T w .spot) ≡ classOf (nodeIn S T u .spot) → ⊥
-  skips-more u w b = go (below-cases b)
-    where
-      go : (u < n) ⊎ (u ≡ n) → linkAt D u ≤ w → w < u → classOf (nodeIn S T w .spot) ≡ classOf (nodeIn S T u .spot) → ⊥
-      go (inl l) = λ a. r .skips u w l (omega (arith, link-old u l))
-      go (inr e) = rw e (λ a. r .last h w small (omega (arith, link-new)))
-
-  linked-more : (u w : ℕ) → u < suc n → linkAt D u ≡ suc w → classOf (nodeIn S T w .spot) ≡ classOf (nodeIn S T u .spot)
-  linked-more u w b = go (below-cases b)
-    where
-      go : (u < n) ⊎ (u ≡ n) → linkAt D u ≡ suc w → classOf (nodeIn S T w .spot) ≡ classOf (nodeIn S T u .spot)
-      go (inl l) = λ a. r .linked u w l (sym (link-old u l) ∙ a)
-      go (inr e) = rw e (λ a. r .headed h w small (sym link-new ∙ a))
-
-  heads-more : (i : ℕ) → i < 4096 → headAt D i ≤ suc n
-  heads-more i b = go (ℕ-discrete i h)
-    where
-      go : Dec (i ≡ h) → headAt D i ≤ suc n
-      go (yes e) = rw e (omega (arith, head-new))
-      go (no d) = omega (arith, head-old i b d, r .heads i b)
-
-  last-more : (i w : ℕ) → i < 4096 → headAt D i ≤ w → w < suc n → classOf (nodeIn S T w .spot) ≡ i → ⊥
-  last-more i w b a k c = go (ℕ-discrete i h)
-    where
-      other : (i ≡ h → ⊥) → (w < n) ⊎ (w ≡ n) → ⊥
-      other d (inl l) = r .last i w b (omega (arith, head-old i b d)) l c
-      other d (inr e) = d (sym c ∙ ap (λ (u : ℕ). classOf (nodeIn S T u .spot)) e)
-
-      go : Dec (i ≡ h) → ⊥
-      go (yes e) = let a′ = rw e at a in omega (arith, head-new)
-      go (no d) = other d (below-cases k)
-
-  headed-more : (i w : ℕ) → i < 4096 → headAt D i ≡ suc w → classOf (nodeIn S T w .spot) ≡ i
-  headed-more i w b a = go (ℕ-discrete i h)
-    where
-      go : Dec (i ≡ h) → classOf (nodeIn S T w .spot) ≡ i
-      go (yes e) =
-          let a′ = rw e at a in
-          let q : w ≡ n = omega (arith, head-new) in
-          ap (λ (u : ℕ). classOf (nodeIn S T u .spot)) q ∙ sym e
-      go (no d) = r .headed i w b (sym (head-old i b d) ∙ a)
-
-  -- the words before the further words are stored, and the link of the node
   abbrev E : List ℕ
-  E = blockedTo C n key s h
+  E = openedTo mid class
 
-  abbrev b : ℕ
-  b = headAt C h
+  abbrev g : ℕ
+  g = groupFor mid class
 
-  sign-mid : (u : ℕ) → u < n → signAt E u ≡ signAt C u
-  sign-mid u l = sym (linked-before C n key s h (4096 + u) (omega arith)) ∙ sign-old u l
+  E-long : length E ≡ 57616
+  E-long = got .kept ∙ mid-long
 
-  link-mid : (u : ℕ) → u < n → linkAt E u ≡ linkAt C u
-  link-mid u l = sym (linked-before C n key s h (8192 + u) (omega arith)) ∙ link-old u l
+  E-few : groupsIn E ≤ suc n
+  E-few = omega (arith, got .few, mid-groups, r .few-groups)
 
-  back-mid : (k : ℕ) → k < 4 → backFurther E k b ≡ backFurther C k b
-  back-mid k l =
-      back-same C E (λ u. 16656 + 4 * u + k) n b (omega arith)
-      (λ u i. block-behind C n key s h (r .long) few small (16656 + 4 * u + k) (omega arith)) (r .heads h small)
-
-  room : 16656 + 4 * n + 4 ≤ length E
-  room = omega (arith, block-length C n key s h, r .long)
-
-  -- the further words of the node itself
-  first-new : furtherAt D n 0 ≡ backSign D (linkAt D n)
+  -- a word before the groups
+  word-same : (i : ℕ) → i < 8192 → getD (linkedTo C n key sign class) i 0 ≡ getD mid i 0
   unfolding linkedTo
-  first-new =
-      further-first E n b room
-      ∙ back-sign C E n (omega arith) (r .links) sign-mid link-mid b (r .heads h small)
-      ∙ sym (ap (backSign D) link-new ∙ back-sign C D n (omega arith) (r .links) sign-old link-old b (r .heads h small))
+  word-same i l =
+      join-before S T E n g E-long (omega (arith, E-few)) (got .known) (got .room) (got .own) (got .grouped) i (omega arith) ∙ got .same i l
 
-  second-new : furtherAt D n 1 ≡ backSign D (backLink D (linkAt D n))
+  -- a block word or an upper word
+  block-same : (i : ℕ) → 16384 ≤ i → i < 16656 → getD (linkedTo C n key sign class) i 0 ≡ getD mid i 0
   unfolding linkedTo
-  second-new =
-      further-second E n b room ∙ back-mid 0 (omega arith) ∙ back-first C n (omega arith) (r .further) b (r .heads h small)
-      ∙ sym (ap (λ (x : ℕ). backSign D (backLink D x)) link-new ∙ back-sign-once C D n (omega arith) (r .links) sign-old link-old b (r .heads h small))
+  block-same i a l =
+      join-before S T E n g E-long (omega (arith, E-few)) (got .known) (got .room) (got .own) (got .grouped) i l ∙ got .words i a l
 
-  third-new : furtherAt D n 2 ≡ backSign D (backLink D (backLink D (linkAt D n)))
-  unfolding linkedTo
-  third-new =
-      further-third E n b room ∙ back-mid 1 (omega arith) ∙ back-second C n (omega arith) (r .further) b (r .heads h small)
-      ∙ sym (ap (λ (x : ℕ). backSign D (backLink D (backLink D x))) link-new
-      ∙ back-sign-twice C D n (omega arith) (r .links) sign-old link-old b (r .heads h small))
+  signs-more : (u : ℕ) → u < suc n → signAt (linkedTo C n key sign class) u ≡ signOf (nodeIn S T u .prices)
+  signs-more u b = word-same (4096 + u) (omega arith) ∙ go (below-cases b)
+    where
+      go : (u < n) ⊎ (u ≡ n) → signAt mid u ≡ signOf (nodeIn S T u .prices)
+      go (inl l) = sign-old C n key sign (r .long) few u l ∙ r .signs u l
+      go (inr e) = rw e (block-sign C n key sign (r .long) few)
 
-  jump-new : furtherAt D n 3 ≡ backLink D (backLink D (backLink D (linkAt D n)))
-  unfolding linkedTo
-  jump-new =
-      further-jump E n b room
-      ∙ back-thrice C E n (omega arith) (r .links) sign-mid link-mid b (r .heads h small)
-      ∙ sym (ap (λ (x : ℕ). backLink D (backLink D (backLink D x))) link-new
-      ∙ back-thrice C D n (omega arith) (r .links) sign-old link-old b (r .heads h small))
-
-  further-new : Further D (suc n)
-  further-new =
-      further-more D n first-new second-new third-new jump-new
-      (further-same C D n (omega arith) (r .links) sign-old link-old (linked-further C n key s h (r .long) few small) (r .further))
+  blocks-more : Blocked (linkedTo C n key sign class) (suc n)
+  blocks-more =
+      let k = blocked-link C n key sign (r .long) few (r .blocks) in
+      let D = linkedTo C n key sign class in
+      record {
+        keys = under-same mid (blockWords mid) D (blockWords D) 256 (suc n) (omega arith) (λ u l. word-same u (omega arith)) (λ b l. word 16384 b (omega arith) (omega arith)) (k .keys);
+        words =
+            under-same (blockWords mid) (upperWords mid) (blockWords D) (upperWords D) 16 256 (omega arith) (λ b l. word 16384 b (omega arith) (omega arith))
+            (λ b l. word 16640 b (omega arith) (omega arith)) (k .words);
+      }
+    where
+      word : (at b : ℕ) → 16384 ≤ at → at + b < 16656 → getD (drop at (linkedTo C n key sign class)) b 0 ≡ getD (drop at mid) b 0
+      word at b a l = drop-same mid (linkedTo C n key sign class) at b (block-same (at + b) (omega arith) l)
 
   packed-more : (u : ℕ) → u < suc n → Packed (rowIn S T u)
   packed-more u b = go (below-cases b)
@@ -449,17 +372,13 @@ module _ (S : ℕ) (T C : List ℕ) (n key : ℕ) (few : n < 4096) (own : Packed
       go (inr e) = rw e own
 
   chained-link : Chained S T (linkedTo C n key (signOf (nodeIn S T n .prices)) (classOf (nodeIn S T n .spot))) (suc n)
+  unfolding linkedTo
   chained-link = record {
-    long = linked-length C n key s h ∙ r .long;
+    long = join-length S T E n g E-long (omega (arith, E-few)) (got .known) (got .room) (got .own) (got .grouped) ∙ E-long;
     signs = signs-more;
-    links = links-more;
-    skips = skips-more;
-    linked = linked-more;
-    heads = heads-more;
-    last = last-more;
-    headed = headed-more;
-    blocks = blocked-link C n key s h (r .long) few small (r .blocks);
-    further = further-new;
+    few-groups = omega (arith, join-before S T E n g E-long (omega (arith, E-few)) (got .known) (got .room) (got .own) (got .grouped) 16383 (omega arith), E-few);
+    grouped = grouped-join S T E n g E-long (omega (arith, E-few)) (got .known) (got .room) (got .own) (got .grouped);
+    blocks = blocks-more;
     packed = packed-more;
   }
 

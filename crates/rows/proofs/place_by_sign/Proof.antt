@@ -70,12 +70,11 @@ loop-again c =
     let s = t .before .before .before .before in
     let a = s .args in
     let r = c .before .place-at-bit .ensures in
-    let e : c .before .place-at-bit .result ≡ a .states = omega (arith, r .inside, c .if1 .left) in
-    (
+    let e : c .before .place-at-bit .result ≡ a .states = omega (arith, r .inside, c .if1 .left) in (
       omega (arith, bit-below t),
       rest-more (a .sign) (l .k) (l .rest) (word s) (l .inv .0) (l .inv .1) (t .loop-test .taken),
       passed-more (a .states) (a .row .now) (a .prices .now) (s .pre .0) (s .pre .2) (cap (t .before .before .before)) (a .sign) (l .k) (l .rest) (word s) (s .pre .3) (l .inv .0) (l .inv .1)
-      (t .loop-test .taken) (l .inv .2) (r .none e),
+          (t .loop-test .taken) (l .inv .2) (r .none e),
     )
 
 returns-2 : tie.Need-returns-2 Inv-loop μ-loop

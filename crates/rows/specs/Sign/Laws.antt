@@ -112,8 +112,8 @@ sign-within P Q e h =
 
 -- ---- classes
 
--- a class is below 4,096
-pub class-lt : (c : Centre) → classOf c < 4096
+-- a class is below 4,095
+pub class-lt : (c : Centre) → classOf c < 4095
 unfolding classOf
 class-lt c = omega arith
 
