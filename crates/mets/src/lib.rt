@@ -53,7 +53,7 @@ fn find(
     }
 }
 
-// Whether a slot, which begins at `at`, is filled with what holds in the centre state of these values.
+// Whether a slot, which begins at `at`, is filled with what holds in the centre state of these values. All are compared: without a branch that is quicker.
 fn is_known(known: &[u8], at: usize, values: &[u8]) -> bool
     requires { ⌜ (at + 320 ≤ length (now known)) × (length (now values) ≡ 32) ⌝ }
     ensures { λ r. ⌜ (r ≡ true → (getD (now (known .entry)) (at + 288) 0 ≡ 0 → ⊥)
@@ -62,12 +62,11 @@ fn is_known(known: &[u8], at: usize, values: &[u8]) -> bool
     if known[at + 288] == 0 {
         return false;
     }
+    let mut same = true;
     for v in 0..32 {
-        if known[at + 256 + v] != values[v] {
-            return false;
-        }
+        same = same & (known[at + 256 + v] == values[v]);
     }
-    true
+    same
 }
 
 // The slot of a class.

@@ -1,20 +1,22 @@
--- `mets::is_known` meets its contract. The invariant: the values so far are the same. Assumes nothing.
-use Prim.Native.Nat.{ℕ, _+_, _≤_, _<_, _-_}
-use borrow.Author.Needs.{needs}
-use mathlib.Core.Bool.{true≢false}
-use native.Mathlib.Nat.{not-suc-le-zero}
-use borrow.Author.Count.{below-more}
-use lib.ListN.{getD}
+-- `mets::is_known` meets its contract. The invariant: where all was the same so far, the values are. Assumes nothing.
 use mathlib.Core.Path.{_≡_, sym}
+use mathlib.Core.Bool.{true, true≢false}
+use Prim.Native.Nat.{ℕ, _+_, _-_, _≤_, _<_}
+use native.Mathlib.Nat.{not-suc-le-zero}
 use native.Mathlib.Omega.{arith}
+use lib.ListN.{getD}
+use borrow.Author.Count.{below-more}
+use borrow.Author.Needs.{needs}
+use borrow.Author.Tests.{eqb-true}
+use Rattle.loops.specs.Count.Laws.{and-out}
 use Rattle.mets.proofs.is_known.Statement.{statement}
 use Rattle.mets.proofs.is_known.Tie as tie
 
 abbrev Inv-loop : tie.InvT-loop
-Inv-loop known at values v₀ v = (v ≤ 32) × ((k : ℕ) → k < v → getD known (at + 256 + k) 0 ≡ getD values k 0)
+Inv-loop known at values same₀ v₀ same v = (v ≤ 32) × (same ≡ true → (k : ℕ) → k < v → getD known (at + 256 + k) 0 ≡ getD values k 0)
 
 abbrev μ-loop : tie.MeasureT-loop
-μ-loop known at values v₀ v = 32 - v
+μ-loop known at values same₀ v₀ same v = 32 - v
 
 add-if1 : tie.Need-add-if1 Inv-loop μ-loop
 add-if1 c = search needs
@@ -26,22 +28,19 @@ returns : tie.Need-returns Inv-loop μ-loop
 returns c = λ e. absurd (true≢false (sym e))
 
 loop-holds : tie.Need-loop-holds Inv-loop μ-loop
-loop-holds c = (omega arith, λ k l. absurd (not-suc-le-zero l))
+loop-holds c = (omega arith, λ e k l. absurd (not-suc-le-zero l))
 
-add-if2 : tie.Need-add-if2 Inv-loop μ-loop
-add-if2 c = search needs
+add-same : tie.Need-add-same Inv-loop μ-loop
+add-same c = search needs
 
-add-if2-2 : tie.Need-add-if2-2 Inv-loop μ-loop
-add-if2-2 c = search needs
+add-same-2 : tie.Need-add-same-2 Inv-loop μ-loop
+add-same-2 c = search needs
 
-shared-slice-read-if2 : tie.Need-shared-slice-read-if2 Inv-loop μ-loop
-shared-slice-read-if2 c = search needs
+shared-slice-read-same : tie.Need-shared-slice-read-same Inv-loop μ-loop
+shared-slice-read-same c = search needs
 
-shared-slice-read-if2-2 : tie.Need-shared-slice-read-if2-2 Inv-loop μ-loop
-shared-slice-read-if2-2 c = search needs
-
-returns-2 : tie.Need-returns-2 Inv-loop μ-loop
-returns-2 c = λ e. absurd (true≢false (sym e))
+shared-slice-read-same-2 : tie.Need-shared-slice-read-same-2 Inv-loop μ-loop
+shared-slice-read-same-2 c = search needs
 
 add-v : tie.Need-add-v Inv-loop μ-loop
 add-v c = search needs
@@ -50,10 +49,12 @@ loop-less : tie.Need-loop-less Inv-loop μ-loop
 loop-less c = search needs
 
 loop-again : tie.Need-loop-again Inv-loop μ-loop
-loop-again c = (omega arith, below-more _ _ (c .before .before .before .before .loop .inv .1) (c .if2 .left))
+loop-again c =
+    let l = c .before .before .before .loop in
+    (omega arith, λ e. let (x, y) = and-out (l .same) _ e in below-more _ _ (l .inv .1 x) (eqb-true _ _ y))
 
-returns-3 : tie.Need-returns-3 Inv-loop μ-loop
-returns-3 c = λ _. (c .before .before .if1 .left, λ v l. c .before .loop .inv .1 v (omega arith))
+returns-2 : tie.Need-returns-2 Inv-loop μ-loop
+returns-2 c = λ e. (c .before .before .if1 .left, λ v l. c .before .loop .inv .1 e v (omega arith))
 
 pub is-known-spec : {M : Type 1} → statement M
 is-known-spec =
@@ -65,12 +66,11 @@ is-known-spec =
     shared-slice-read-if1
     returns
     loop-holds
-    add-if2
-    add-if2-2
-    shared-slice-read-if2
-    shared-slice-read-if2-2
-    returns-2
+    add-same
+    add-same-2
+    shared-slice-read-same
+    shared-slice-read-same-2
     add-v
     loop-less
     loop-again
-    returns-3)
+    returns-2)
