@@ -16,6 +16,7 @@ ghost use Rattle.leaf.specs.Pass.{pass};
 ghost use Rattle.layer.specs.Board.{Sound, beginOn, appliesOn};
 ghost use Rattle.layer.specs.Lent.{boardOf};
 ghost use Rattle.search.specs.Node.{leastOf};
+ghost use Rattle.rows.specs.Begun.{begunWords};
 ghost use Rattle.rows.specs.Scan.{Cut, keyBy};
 ghost use Rattle.rows.specs.Sign.{signOf};
 ghost use Rattle.begins.specs.Still.{StaysIn, Stays, Still, Stills};
@@ -197,7 +198,7 @@ fn begin_moved(
 }
 
 // The begin of the layer behind centre action a, at the front of `next`, with its key and signature. Where the action moves no leaf state it is the
-// old layer; `low` is the key that this would have, `sign` its signature.
+// old layer, and nothing is written; `low` is the key that this would have, `sign` its signature.
 pub fn begin_of(
     leaves: usize,
     actions: usize,
@@ -219,14 +220,15 @@ pub fn begin_of(
     requires { ⌜ Still leaves actions (now bases) (now moves) (now still) × Stills leaves actions (now bases) (now moves) (now stills) ⌝ }
     requires { ⌜ (a < actions) × (getD (now bases) leaves 0 ≤ length (now old)) × (getD (now bases) leaves 0 ≤ length (now next)) ⌝ }
     requires { ⌜ sign ≡ signOf (take (getD (now bases) leaves 0) (now old)) ⌝ }
-    ensures { λ r. ⌜ (now (next .exit) ≡ beginOn (boardOf leaves actions (now (bases .entry)) (now (moves .entry)) (now (costs .entry)) (now (kinds .entry))
+    ensures { λ r. ⌜ (begunWords (getD (now (still .entry)) a 0) (getD (now (bases .entry)) leaves 0) (now (old .entry)) (now (next .exit)) ≡ beginOn (boardOf leaves actions (now (bases .entry)) (now (moves .entry)) (now (costs .entry)) (now (kinds .entry))
         factors (now (conditions .entry))) a (now (old .entry)) ++ drop (getD (now (bases .entry)) leaves 0) (now (next .entry)))
-        × ((spent : ℕ) → low ≡ keyBy leaves (now (bases .entry)) spent (now (old .entry)) → r .key ≡ keyBy leaves (now (bases .entry)) spent (now (next .exit)))
-        × (r .sign ≡ signOf (take (getD (now (bases .entry)) leaves 0) (now (next .exit)))) ⌝ }
+        × ((spent : ℕ) → low ≡ keyBy leaves (now (bases .entry)) spent (now (old .entry)) → r .key ≡ keyBy leaves (now (bases .entry)) spent
+        (begunWords (getD (now (still .entry)) a 0) (getD (now (bases .entry)) leaves 0) (now (old .entry)) (now (next .exit))))
+        × (r .sign ≡ signOf (take (getD (now (bases .entry)) leaves 0)
+        (begunWords (getD (now (still .entry)) a 0) (getD (now (bases .entry)) leaves 0) (now (old .entry)) (now (next .exit))))) ⌝ }
 {
     let states = bases[leaves];
     if still[a] != 0 {
-        copy_words(old, next, states);
         return Begun { key: low, sign };
     }
     let key = begin_moved(

@@ -180,6 +180,8 @@ fn turn(
         a,
         begun.key,
         begun.sign,
+        still[a],
+        old,
         next,
         table,
         scan,

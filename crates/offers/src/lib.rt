@@ -8,6 +8,7 @@ use rows::goal_cost;
 use rows::sign_of;
 use rows::write_row;
 use task::Centre;
+use words::copy_words;
 ghost use mathlib.Core.Path.{_≡_};
 ghost use mathlib.Core.Bool.{false};
 ghost use mathlib.Core.List.{_++_};
@@ -18,6 +19,7 @@ ghost use Rattle.layer.specs.First.{Firsts};
 ghost use Rattle.layer.specs.Lent.{boardOf};
 ghost use Rattle.mets.specs.Known.{Known};
 ghost use Rattle.edges.specs.Edges.{Edges};
+ghost use Rattle.rows.specs.Begun.{readFrom, begunWords};
 ghost use Rattle.rows.specs.Row.{nodeWith};
 ghost use Rattle.rows.specs.Scan.{Cut, goalCostBy};
 ghost use Rattle.rows.specs.Sign.{signOf};
@@ -168,7 +170,28 @@ fn settle_begin(
     )
 }
 
-// A successor of node `parent` by `action`, from its layer's begin: dropped, refused for a full table, or settled and kept under the next number.
+// Where the prices of a layer's begin are read: in the layer before, where the action is still, else where they were made.
+fn read_from<'a>(old: &'a [u64], begin: &'a [u64], still: u8) -> &'a [u64]
+    ensures { λ r. ⌜ now r ≡ readFrom still (now (old .entry)) (now (begin .entry)) ⌝ }
+{
+    if still == 0 {
+        return begin;
+    }
+    old
+}
+
+// The prices of a layer's begin, at the front of `begin`.
+fn fill_begin(old: &[u64], begin: &mut [u64], still: u8, states: usize)
+    requires { ⌜ (states ≤ length (now old)) × (states ≤ length (now begin)) ⌝ }
+    ensures { λ _. ⌜ now (begin .exit) ≡ begunWords still states (now (old .entry)) (now (begin .entry)) ⌝ }
+{
+    if still == 0 {
+        return;
+    }
+    copy_words(old, begin, states);
+}
+
+// A successor of node `parent` by `action`, from its layer's begin, which is `old` where `still` is not 0: dropped, refused for a full table, or settled and kept under the next number.
 pub fn offer(
     leaves: usize,
     actions: usize,
@@ -190,6 +213,8 @@ pub fn offer(
     action: usize,
     key: u64,
     sign: u64,
+    still: u8,
+    old: &[u64],
     begin: &mut [u64],
     table: &mut [u64],
     scan: &mut [u64],
@@ -203,10 +228,12 @@ pub fn offer(
         × Known (boardOf leaves actions (now bases) (now moves) (now costs) (now kinds) factors (now conditions)) (now known)
         × (length (now flags) ≡ 256) ⌝ }
     requires { ⌜ Cut leaves (now bases) (length (now begin)) × Cut leaves (now bases) (length (now goals)) ⌝ }
-    requires { ⌜ sign ≡ signOf (take (getD (now bases) leaves 0) (now begin)) ⌝ }
+    requires { ⌜ (sign ≡ signOf (take (getD (now bases) leaves 0) (begunWords still (getD (now bases) leaves 0) (now old) (now begin))))
+        × (getD (now bases) leaves 0 ≤ length (now old)) ⌝ }
     requires { ⌜ Room (getD (now bases) leaves 0) nodes (now table) (now scan) run ⌝ }
     ensures offered { λ r. ⌜ Offered (boardOf leaves actions (now (bases .entry)) (now (moves .entry)) (now (costs .entry)) (now (kinds .entry)) factors
-        (now (conditions .entry))) (now (goals .entry)) goal nodes (now (table .entry)) (now (scan .entry)) run spot paid (now (begin .entry)) parent action key
+        (now (conditions .entry))) (now (goals .entry)) goal nodes (now (table .entry)) (now (scan .entry)) run spot paid
+        (begunWords still (getD (now (bases .entry)) leaves 0) (now (old .entry)) (now (begin .entry))) parent action key
         (now (table .exit)) (now (scan .exit)) r ⌝ }
     ensures known { λ _. ⌜ Known (boardOf leaves actions (now (bases .entry)) (now (moves .entry)) (now (costs .entry)) (now (kinds .entry)) factors
         (now (conditions .entry))) (now (known .exit)) ⌝ }
@@ -226,13 +253,14 @@ pub fn offer(
         sign,
         spot,
         paid,
-        &begin[..],
+        read_from(old, &begin[..], still),
     ) {
         return Turned { full: false, run };
     }
     if count >= nodes {
         return Turned { full: true, run };
     }
+    fill_begin(old, begin, still, states);
     let swept = settle_begin(
         leaves,
         actions,

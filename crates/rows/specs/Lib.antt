@@ -1,3 +1,4 @@
+pub mod Begun
 pub mod Four
 pub mod Row
 pub mod Scan

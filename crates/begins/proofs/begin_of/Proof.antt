@@ -2,10 +2,11 @@
 use mathlib.Core.Path.{_≡_, sym}
 use native.Mathlib.Omega.{arith}
 use denote.Ref.{now}
-use lib.ListN.{length, drop}
+use lib.ListN.{length, getD, drop}
 use lib.Seq.{length-take-le}
 use Rattle.layer.specs.Board.{Board, rowOn}
 use Rattle.layer.specs.Lent.{boardOf}
+use Rattle.rows.specs.Begun.{begunWords, begun-moved, begun-stays}
 use Rattle.begins.specs.Still.{begun-still}
 use borrow.Author.Needs.{needs}
 use Rattle.begins.proofs.begin_of.Statement.{statement}
@@ -26,20 +27,15 @@ shared-slice-read-states c = search needs
 shared-slice-read-if1 : tie.Need-shared-slice-read-if1
 shared-slice-read-if1 c = search needs
 
-copy-words-requires : tie.Need-copy-words-requires
-copy-words-requires c κs = search needs
-
-same-length : tie.Need-same-length
-same-length c = search needs
-
 returns : tie.Need-returns
 returns c =
-    let w = c .before .before .copy-words in
-    let s = c .before .before .before .before .before .before .before .before .before .before .before .before .before .before .before .before in
+    let s = c .before .before .before .before .before .before .before .before .before .before .before .before in
     let a = s .args in
+    let still = getD (now (a .still)) (a .a) 0 in
     begun-still (board s) (s .pre .0) (a .a) (now (a .old)) (drop (rowOn (board s)) (now (a .next))) (a .low) (a .sign)
-    (s .pre .1 .1 .0 .1) (λ x. omega (arith, c .before .before .before .before .before .before .before .before .shared-slice-known8 .given x)) (s .pre .1 .0 .0 .stays (a .a) (s .pre .1 .1 .0 .0) (c .before .before .before .before .if1 .taken))
-    (s .pre .1 .1 .1) (w .last .1 .0) (w .ensures)
+    (s .pre .1 .1 .0 .1) (λ x. omega (arith, c .before .before .before .before .shared-slice-known8 .given x)) (s .pre .1 .0 .0 .stays (a .a) (s .pre .1 .1 .0 .0) (c .if1 .taken))
+    (s .pre .1 .1 .1) (begunWords still (rowOn (board s)) (now (a .old)) (now (a .next)))
+    (begun-stays still (rowOn (board s)) (now (a .old)) (now (a .next)) (c .if1 .taken))
 
 begin-moved-requires : tie.Need-begin-moved-requires
 begin-moved-requires c κs = search needs
@@ -57,12 +53,16 @@ slice-aggregate-sign-of c =
 sign-of-requires : tie.Need-sign-of-requires
 sign-of-requires c κs = search needs
 
-same-length-2 : tie.Need-same-length-2
-same-length-2 c = search needs
+same-length : tie.Need-same-length
+same-length c = search needs
 
 returns-2 : tie.Need-returns-2
 returns-2 c =
     let n = c .before .before .before .before .begin-moved in
+    let e = c .before .before .before .before .before .before in
+    let s = e .before .before .before .before .before .before .before .before .before .before .before .before in
+    let a = s .args in
+    rw (begun-moved (getD (now (a .still)) (a .a) 0) (rowOn (board s)) (now (a .old)) (n .last .1 .1 .1 .1 .1 .1 .1 .1 .1 .1 .1 .1 .0) (e .if1 .left))
     (n .ensures .0, n .ensures .1, c .sign-of .ensures)
 
 pub begin-of-spec : {M : Type 1} → statement M
@@ -72,12 +72,10 @@ begin-of-spec =
     mul-states
     shared-slice-read-states
     shared-slice-read-if1
-    copy-words-requires
-    same-length
     returns
     begin-moved-requires
     slice-reshare-prefix-sign-of
     slice-aggregate-sign-of
     sign-of-requires
-    same-length-2
+    same-length
     returns-2)

@@ -6,6 +6,7 @@ use denote.Ref.{now}
 use lib.ListN.{length, getD, drop}
 use Rattle.layer.specs.Board.{Board, rowOn}
 use Rattle.layer.specs.Lent.{boardOf}
+use Rattle.rows.specs.Begun.{begunWords}
 use Rattle.rows.specs.Scan.{keyBy}
 use Rattle.begins.specs.Still.{key-more}
 use Rattle.offers.specs.Held.Laws.{cut}
@@ -101,10 +102,15 @@ begin-of-requires c κs =
       ),
     )
 
+shared-slice-read-offer : tie.Need-shared-slice-read-offer
+shared-slice-read-offer c =
+    let s = c .before .before .before .before .before .before .before .before .before .before .before .before .before .before .before .before .before .before .before .before .before .before .before .before .before .before .before .before .before .before .before .before .before .before in
+    omega (arith, s .pre .0 .few-actions, s .pre .1 .0 .0 .long, s .pre .1 .1 .0 .5)
+
 offer-requires : tie.Need-offer-requires
 offer-requires c κs =
-    let n = c .before .before .before .before .before .before .before .begin-of in
-    let s = c .before .before .before .before .before .before .before .before .before .before .before .before .before .before .before .before .before .before .before .before .before .before .before .before .before .before .before .before .before .before .before .before .before .before .before .before .before .before in
+    let n = c .before .before .before .before .before .before .before .before .begin-of in
+    let s = c .before .before .before .before .before .before .before .before .before .before .before .before .before .before .before .before .before .before .before .before .before .before .before .before .before .before .before .before .before .before .before .before .before .before .before .before .before .before .before in
     let next = n .last .1 .1 .1 .1 .1 .1 .1 .1 .1 .1 .1 .1 .1 .1 .0 in
     let kept : length next ≡ length (now (s .args .next)) = n .kept .1 .1 .1 .1 .1 .1 .1 .1 .1 .1 .1 .1 .1 .1 .0 in
     let all = s .pre .0 .few-all in (
@@ -116,7 +122,7 @@ offer-requires c κs =
             cut {n = length next} (s .pre .0) (omega (arith, s .pre .1 .1 .0 .3)),
             cut {n = length (now (s .args .goals))} (s .pre .0) (omega (arith, s .pre .1 .1 .0 .1)),
           ),
-          (n .ensures .2, s .pre .1 .1 .1 .1),
+          ((n .ensures .2, omega (arith, s .pre .1 .1 .0 .2)), s .pre .1 .1 .1 .1),
         ),
       ),
     )
@@ -139,21 +145,21 @@ same-length-5 c = search needs
 returns-4 : tie.Need-returns-4
 returns-4 c =
     let o = c .before .before .before .before .before .before .before .before .before .before .offer in
-    let n = c .before .before .before .before .before .before .before .before .before .before .before .before .before .before .before .before .before .before .begin-of in
-    let p = c .before .before .before .before .before .before .before .before .before .before .before .before .before .before .before .before .before .before .before .before .add-price2 in
-    let f = c .before .before .before .before .before .before .before .before .before .before .before .before .before .before .before .before .before .before .before .before .before .after in
-    let g = c .before .before .before .before .before .before .before .before .before .before .before .before .before .before .before .before .before .before .before .before .before .before .pairs-of in
-    let s = c .before .before .before .before .before .before .before .before .before .before .before .before .before .before .before .before .before .before .before .before .before .before .before .before .before .before .before .before .before .before .before .before .before .before .before .before .before .before .before .before .before .before .before .before .before .before .before .before .before in
+    let n = c .before .before .before .before .before .before .before .before .before .before .before .before .before .before .before .before .before .before .before .begin-of in
+    let p = c .before .before .before .before .before .before .before .before .before .before .before .before .before .before .before .before .before .before .before .before .before .add-price2 in
+    let f = c .before .before .before .before .before .before .before .before .before .before .before .before .before .before .before .before .before .before .before .before .before .before .after in
+    let g = c .before .before .before .before .before .before .before .before .before .before .before .before .before .before .before .before .before .before .before .before .before .before .before .pairs-of in
+    let s = c .before .before .before .before .before .before .before .before .before .before .before .before .before .before .before .before .before .before .before .before .before .before .before .before .before .before .before .before .before .before .before .before .before .before .before .before .before .before .before .before .before .before .before .before .before .before .before .before .before .before in
     let a = s .args in
     let low : a .key ≡ keyBy (a .leaves) (now (a .bases)) (a .paid) (now (a .old))
-    → c .before .before .before .before .before .before .before .before .before .before .before .before .before .before .before .before .before .before .before .before .before .before .before .before .before .before .before .add-price .result ≡ keyBy (a .leaves) (now (a .bases)) (p .result) (now (a .old)) =
-    λ isKey. c .before .before .before .before .before .before .before .before .before .before .before .before .before .before .before .before .before .before .before .before .before .before .before .before .before .before .before .add-price .ensures
+    → c .before .before .before .before .before .before .before .before .before .before .before .before .before .before .before .before .before .before .before .before .before .before .before .before .before .before .before .before .add-price .result ≡ keyBy (a .leaves) (now (a .bases)) (p .result) (now (a .old)) =
+    λ isKey. c .before .before .before .before .before .before .before .before .before .before .before .before .before .before .before .before .before .before .before .before .before .before .before .before .before .before .before .before .add-price .ensures
     ∙ rw (isKey, p .ensures) (key-more (a .leaves) (now (a .bases)) (a .paid) (getD (now (a .costs)) (a .a) 0) (now (a .old))) in (
       moved-offered (board s) (now (a .effects)) (now (a .goals)) (a .goal) (a .nodes) (a .spot) (a .paid) (now (a .old)) (a .key) (a .u) (a .a)
           (now (a .table)) (now (a .scan)) (a .run) (s .pre .1 .1 .1 .1 .few-nodes) (s .pre .1 .1 .1 .1 .count-few) (s .pre .1 .1 .0 .5) (s .pre .1 .1 .0 .4)
-          (c .before .before .before .before .before .before .before .before .before .before .before .before .before .before .before .before .before .before .before .before .before .before .before .before .before .before .before .before .before .if1 .left) true (sym (s .pre .1 .0 .4)) refl
-          (g .result) (n .last .1 .1 .1 .1 .1 .1 .1 .1 .1 .1 .1 .1 .1 .1 .0) (drop (rowOn (board s)) (now (a .next))) (f .result) (p .result)
-          (g .ensures) (f .ensures) (n .ensures .0) (p .ensures) (n .result .key) (λ isKey. n .ensures .1 (p .result) (low isKey)) (o .last .1 .1 .1 .1 .1 .1 .1 .1 .1 .1 .1 .1 .1 .1 .1 .1 .1 .1 .1 .1 .1 .0) (o .last .1 .1 .1 .1 .1 .1 .1 .1 .1 .1 .1 .1 .1 .1 .1 .1 .1 .1 .1 .1 .1 .1 .0) (o .result) (o .ensures .0),
+          (c .before .before .before .before .before .before .before .before .before .before .before .before .before .before .before .before .before .before .before .before .before .before .before .before .before .before .before .before .before .before .if1 .left) true (sym (s .pre .1 .0 .4)) refl
+          (g .result) (begunWords (getD (now (a .still)) (a .a) 0) (rowOn (board s)) (now (a .old)) (n .last .1 .1 .1 .1 .1 .1 .1 .1 .1 .1 .1 .1 .1 .1 .0)) (drop (rowOn (board s)) (now (a .next))) (f .result) (p .result)
+          (g .ensures) (f .ensures) (n .ensures .0) (p .ensures) (n .result .key) (λ isKey. n .ensures .1 (p .result) (low isKey)) (o .last .1 .1 .1 .1 .1 .1 .1 .1 .1 .1 .1 .1 .1 .1 .1 .1 .1 .1 .1 .1 .1 .1 .1 .0) (o .last .1 .1 .1 .1 .1 .1 .1 .1 .1 .1 .1 .1 .1 .1 .1 .1 .1 .1 .1 .1 .1 .1 .1 .1 .0) (o .result) (o .ensures .0),
       o .ensures .1,
     )
 
@@ -174,6 +180,7 @@ turn-spec =
     after-requires
     add-price-requires-2
     begin-of-requires
+    shared-slice-read-offer
     offer-requires
     same-length
     same-length-2

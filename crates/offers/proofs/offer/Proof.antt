@@ -1,12 +1,17 @@
 -- `offers::offer` meets its contract: one law for each of its four ends. Assumes nothing.
 use mathlib.Core.Path.{_≡_, sym, ap, _∙_}
+use mathlib.Core.Bool.{Bool}
 use mathlib.Core.List.{List}
 use Prim.Native.Nat.{ℕ, _+_, _≤_}
 use native.Mathlib.Omega.{arith}
 use denote.Ref.{now}
 use lib.ListN.{length, take}
+use Rattle.loops.specs.Count.{any}
 use Rattle.layer.specs.Board.{Board, rowOn}
 use Rattle.layer.specs.Lent.{boardOf}
+use Rattle.search.specs.Node.{dominates}
+use Rattle.rows.specs.Begun.{readFrom, begunWords, read-begun, read-long}
+use Rattle.rows.specs.Row.{nodeIn, nodeWith}
 use Rattle.rows.specs.Sign.{signOf}
 use Rattle.rows.specs.Sign.Laws.{class-lt}
 use Rattle.offers.specs.Held.Laws.{rows-fit, cut}
@@ -21,6 +26,10 @@ board s =
     let a = s .args in
     boardOf (a .leaves) (a .actions) (now (a .bases)) (now (a .moves)) (now (a .costs)) (now (a .kinds)) (a .factors) (now (a .conditions))
 
+-- the words of the layer's begin
+abbrev begun : tie.Start → List ℕ
+begun s = let a = s .args in begunWords (a .still) (rowOn (board s)) (now (a .old)) (now (a .begin))
+
 -- the scan words behind the test of dominance
 abbrev words : tie.After-is-dominated → List ℕ
 words d = d .is-dominated .last .1 .1 .1 .0
@@ -33,10 +42,10 @@ shared-slice-read-states c = search needs
 
 returns : tie.Need-returns
 returns c =
-    let s = c .before .before .before .before .before .before .before .before .before .before .before .before .before .before .before .before .before in
+    let s = c .before .before .before .before .before .before .before .before .before .before .before .before .before .before .before .before .before .before in
     let a = s .args in (
       offered-above (board s) (now (a .goals)) (a .goal) (a .nodes) (now (a .table)) (now (a .scan)) (a .run)
-          (a .spot) (a .paid) (now (a .begin)) (a .parent) (a .action) (s .pre .1 .1 .1 .1 .few-nodes) (s .pre .1 .1 .1 .1 .count-few)
+          (a .spot) (a .paid) (begun s) (a .parent) (a .action) (s .pre .1 .1 .1 .1 .few-nodes) (s .pre .1 .1 .1 .1 .count-few)
           (a .key) (c .if1 .taken),
       s .pre .1 .0 .2,
     )
@@ -44,20 +53,40 @@ returns c =
 class-of-requires : tie.Need-class-of-requires
 class-of-requires c κs = search needs
 
+read-from-requires : tie.Need-read-from-requires
+read-from-requires c κs = search needs
+
+-- where the function starts
+abbrev from-read : tie.After-read-from → tie.Start
+from-read c = c .before .before .before .before .before .before .before .before .before .before .before .before .before .before .before .before .before .before .before .before .before .before .before
+
+-- what is read are the begin's prices
+read-is : (c : tie.After-read-from) → let s = from-read c in take (rowOn (board s)) (now (c .read-from .result)) ≡ take (rowOn (board s)) (begun s)
+read-is c =
+    let s = from-read c in
+    let a = s .args in
+    ap (take (rowOn (board s))) (c .read-from .ensures) ∙ read-begun (a .still) (rowOn (board s)) (now (a .old)) (now (a .begin)) (s .pre .1 .1 .1 .0 .1)
+
 is-dominated-requires : tie.Need-is-dominated-requires
 is-dominated-requires c κs =
-    let s = c .before .before .before .before .before .before .before .before .before .before .before .before .before .before .before .before .before .before .before .before .before in
+    let s = from-read c in
+    let a = s .args in
     let room = s .pre .1 .1 .1 .1 in
-    let some : s .args .run .count ≤ s .args .nodes + 1 = omega (arith, room .count-few) in (
+    let some : a .run .count ≤ a .nodes + 1 = omega (arith, room .count-few) in (
       (
         room .few-states,
         omega (arith, room .few-nodes, room .count-few),
-        rows-fit room (s .args .run .count) some,
-        s .pre .1 .1 .0 .0 .fits,
+        rows-fit room (a .run .count) some,
+        rw (c .read-from .ensures) (read-long (a .still) (rowOn (board s)) (now (a .old)) (now (a .begin)) (s .pre .1 .1 .1 .0 .1) (s .pre .1 .1 .0 .0 .fits)),
         room .chained,
       ),
-      (c .before .before .before .class-of .ensures, s .pre .1 .1 .1 .0),
+      (c .before .before .before .before .class-of .ensures, s .pre .1 .1 .1 .0 .0 ∙ ap signOf (sym (read-is c))),
     )
+
+-- whether a node kept dominates the begin
+found-is : (d : tie.After-is-dominated) → let s = from-read (d .before) in let a = s .args in
+    d .is-dominated .result ≡ any (a .run .count) (λ u. dominates (nodeIn (rowOn (board s)) (now (a .table)) u) (nodeWith (a .spot) (a .paid) (take (rowOn (board s)) (begun s)) 0 0))
+found-is d = rw (read-is (d .before)) at (d .is-dominated .ensures .0)
 
 same-length : tie.Need-same-length
 same-length c = search needs
@@ -71,11 +100,11 @@ same-length-3 c = search needs
 returns-2 : tie.Need-returns-2
 returns-2 c =
     let d = c .before .before .before in
-    let s = c .before .before .before .before .before .before .before .before .before .before .before .before .before .before .before .before .before .before .before .before .before .before .before .before .before in
+    let s = from-read (d .before) in
     let a = s .args in (
       offered-dominated (board s) (now (a .goals)) (a .goal) (a .nodes) (now (a .table)) (now (a .scan)) (a .run)
-          (a .spot) (a .paid) (now (a .begin)) (a .parent) (a .action) (s .pre .1 .1 .1 .1 .few-nodes) (s .pre .1 .1 .1 .1 .count-few)
-          (a .key) (c .before .before .before .before .before .before .before .before .if1 .left) (d .is-dominated .result) (d .is-dominated .ensures .0) (words d) (d .is-dominated .ensures .1) (c .if2 .taken),
+          (a .spot) (a .paid) (begun s) (a .parent) (a .action) (s .pre .1 .1 .1 .1 .few-nodes) (s .pre .1 .1 .1 .1 .count-few)
+          (a .key) (c .before .before .before .before .before .before .before .before .before .if1 .left) (d .is-dominated .result) (found-is d) (words d) (d .is-dominated .ensures .1) (c .if2 .taken),
       s .pre .1 .0 .2,
     )
 
@@ -91,34 +120,43 @@ same-length-6 c = search needs
 returns-3 : tie.Need-returns-3
 returns-3 c =
     let d = c .before .before .before .before in
-    let s = c .before .before .before .before .before .before .before .before .before .before .before .before .before .before .before .before .before .before .before .before .before .before .before .before .before .before in
+    let s = from-read (d .before) in
     let a = s .args in (
       offered-full (board s) (now (a .goals)) (a .goal) (a .nodes) (now (a .table)) (now (a .scan)) (a .run)
-          (a .spot) (a .paid) (now (a .begin)) (a .parent) (a .action) (s .pre .1 .1 .1 .1 .few-nodes) (s .pre .1 .1 .1 .1 .count-few)
-          (a .key) (c .before .before .before .before .before .before .before .before .before .if1 .left) (d .is-dominated .result) (d .is-dominated .ensures .0) (words d) (d .is-dominated .ensures .1) (c .before .if2 .left) (c .if3 .taken),
+          (a .spot) (a .paid) (begun s) (a .parent) (a .action) (s .pre .1 .1 .1 .1 .few-nodes) (s .pre .1 .1 .1 .1 .count-few)
+          (a .key) (c .before .before .before .before .before .before .before .before .before .before .if1 .left) (d .is-dominated .result) (found-is d) (words d) (d .is-dominated .ensures .1) (c .before .if2 .left) (c .if3 .taken),
       s .pre .1 .0 .2,
     )
 
+fill-begin-requires : tie.Need-fill-begin-requires
+fill-begin-requires c κs = let s = from-read (c .before .before .before .before .before .before) in (s .pre .1 .1 .1 .0 .1, s .pre .1 .1 .0 .0 .fits)
+
+-- there are as many prices behind it
+filled : (c : tie.After-fill-begin) → length (c .fill-begin .last .1 .0) ≡ length (now (from-read (c .before .before .before .before .before .before .before) .args .begin))
+filled c = c .fill-begin .kept .1 .0
+
 settle-begin-requires : tie.Need-settle-begin-requires
 settle-begin-requires c κs =
-    let s = c .before .before .before .before .before .before .before .before .before .before .before .before .before .before .before .before .before .before .before .before .before .before .before .before .before .before .before .before .before in
-    (s .pre .0, (s .pre .1 .0 .0, s .pre .1 .0 .1, s .pre .1 .0 .2, omega (arith, class-lt (s .args .spot), c .before .before .before .before .before .before .before .before .before .before .before .class-of .ensures), s .pre .1 .0 .3, s .pre .1 .1 .0 .0 .fits))
+    let f = c .before .before .before .before .before in
+    let s = from-read (f .before .before .before .before .before .before .before) in
+    (s .pre .0, (s .pre .1 .0 .0, s .pre .1 .0 .1, s .pre .1 .0 .2, omega (arith, class-lt (s .args .spot), c .before .before .before .before .before .before .before .before .before .before .before .before .before .before .before .before .class-of .ensures), s .pre .1 .0 .3, omega (arith, filled f, s .pre .1 .1 .0 .0 .fits)))
 
 keep-requires : tie.Need-keep-requires
 keep-requires c κs =
     let n = c .before .before .before .before .before .before .before .before .before .settle-begin in
-    let d = c .before .before .before .before .before .before .before .before .before .before .before .before .before .before .before .before .before in
-    let s = c .before .before .before .before .before .before .before .before .before .before .before .before .before .before .before .before .before .before .before .before .before .before .before .before .before .before .before .before .before .before .before .before .before .before .before .before .before .before .before in
+    let f = c .before .before .before .before .before .before .before .before .before .before .before .before .before .before .before in
+    let d = c .before .before .before .before .before .before .before .before .before .before .before .before .before .before .before .before .before .before .before .before .before in
+    let s = from-read (d .before) in
     let room = s .pre .1 .1 .1 .1 in
-    let left = c .before .before .before .before .before .before .before .before .before .before .before .before .before .if3 .left in
+    let left = c .before .before .before .before .before .before .before .before .before .before .before .before .before .before .before .before .before .if3 .left in
     let new = n .last .1 .1 .1 .1 .1 .1 .1 .1 .1 .1 .1 .1 .1 .0 in
-    let kept : length new ≡ length (now (s .args .begin)) = n .kept .1 .1 .1 .1 .1 .1 .1 .1 .1 .1 .1 .1 .1 .0 in
+    let kept : length new ≡ length (f .fill-begin .last .1 .0) = n .kept .1 .1 .1 .1 .1 .1 .1 .1 .1 .1 .1 .1 .1 .0 in
     let fits = s .pre .1 .1 .0 .0 .fits in
     let long : length (words d) ≡ length (now (s .args .scan)) = d .is-dominated .kept .1 .1 .1 .0 in (
-      (cut {n = length new} (s .pre .0) (omega arith), s .pre .1 .1 .0 .1),
+      (cut {n = length new} (s .pre .0) (omega (arith, filled f)), s .pre .1 .1 .0 .1),
       (
         (room .few-states, omega (arith, room .few-nodes), rows-fit room (s .args .run .count + 1) (omega arith), long ∙ room .scan-long),
-        λ e. s .pre .1 .1 .1 .0 ∙ ap (λ (xs : List ℕ). signOf (take (rowOn (board s)) xs)) (sym (n .ensures .2 e)),
+        λ e. s .pre .1 .1 .1 .0 .0 ∙ ap (λ (xs : List ℕ). signOf (take (rowOn (board s)) xs)) (sym (n .ensures .2 e ∙ f .fill-begin .ensures)),
       ),
     )
 
@@ -130,7 +168,7 @@ same-length-8 c = search needs
 
 same-length-9 : tie.Need-same-length-9
 same-length-9 c =
-    let d = c .before .before .before .before .before .before .before .before .before .before .before .before .before .before .before .before .before .before .before .before .before .before in
+    let d = c .before .before .before .before .before .before .before .before .before .before .before .before .before .before .before .before .before .before .before .before .before .before .before .before .before .before in
     let w = c .before .before .before .before .keep in
     let kept : length (w .last .1 .1 .1 .1 .1 .1 .1 .1 .1 .1 .1 .1 .1 .1 .0) ≡ length (words d) = w .kept .1 .1 .1 .1 .1 .1 .1 .1 .1 .1 .1 .1 .1 .1 .0 in
     kept ∙ d .is-dominated .kept .1 .1 .1 .0
@@ -145,13 +183,14 @@ returns-4 : tie.Need-returns-4
 returns-4 c =
     let w = c .before .before .before .before .keep in
     let n = c .before .before .before .before .before .before .before .before .before .before .before .before .before .before .settle-begin in
-    let d = c .before .before .before .before .before .before .before .before .before .before .before .before .before .before .before .before .before .before .before .before .before .before in
-    let s = c .before .before .before .before .before .before .before .before .before .before .before .before .before .before .before .before .before .before .before .before .before .before .before .before .before .before .before .before .before .before .before .before .before .before .before .before .before .before .before .before .before .before .before .before in
+    let f = c .before .before .before .before .before .before .before .before .before .before .before .before .before .before .before .before .before .before .before .before .fill-begin in
+    let d = c .before .before .before .before .before .before .before .before .before .before .before .before .before .before .before .before .before .before .before .before .before .before .before .before .before .before in
+    let s = from-read (d .before) in
     let a = s .args in (
       offered-kept (board s) (now (a .goals)) (a .goal) (a .nodes) (now (a .table)) (now (a .scan)) (a .run)
-          (a .spot) (a .paid) (now (a .begin)) (a .parent) (a .action) (s .pre .1 .1 .1 .1 .few-nodes) (s .pre .1 .1 .1 .1 .count-few)
-          (a .key) (c .before .before .before .before .before .before .before .before .before .before .before .before .before .before .before .before .before .before .before .before .before .before .before .before .before .before .before .if1 .left) (d .is-dominated .result) (d .is-dominated .ensures .0) (words d) (d .is-dominated .ensures .1) (c .before .before .before .before .before .before .before .before .before .before .before .before .before .before .before .before .before .before .before .if2 .left) (c .before .before .before .before .before .before .before .before .before .before .before .before .before .before .before .before .before .before .if3 .left)
-          (s .pre .1 .1 .1 .1 .scan-long) (n .last .1 .1 .1 .1 .1 .1 .1 .1 .1 .1 .1 .1 .1 .0) (n .ensures .0) (w .last .1 .1 .1 .1 .1 .1 .1 .1 .1 .1 .1 .1 .1 .0) (w .last .1 .1 .1 .1 .1 .1 .1 .1 .1 .1 .1 .1 .1 .1 .0) (w .result) (w .ensures),
+          (a .spot) (a .paid) (begun s) (a .parent) (a .action) (s .pre .1 .1 .1 .1 .few-nodes) (s .pre .1 .1 .1 .1 .count-few)
+          (a .key) (c .before .before .before .before .before .before .before .before .before .before .before .before .before .before .before .before .before .before .before .before .before .before .before .before .before .before .before .before .before .before .before .before .if1 .left) (d .is-dominated .result) (found-is d) (words d) (d .is-dominated .ensures .1) (c .before .before .before .before .before .before .before .before .before .before .before .before .before .before .before .before .before .before .before .before .before .before .before .if2 .left) (c .before .before .before .before .before .before .before .before .before .before .before .before .before .before .before .before .before .before .before .before .before .before .if3 .left)
+          (s .pre .1 .1 .1 .1 .scan-long) (n .last .1 .1 .1 .1 .1 .1 .1 .1 .1 .1 .1 .1 .1 .0) (rw (f .ensures) at (n .ensures .0)) (w .last .1 .1 .1 .1 .1 .1 .1 .1 .1 .1 .1 .1 .1 .0) (w .last .1 .1 .1 .1 .1 .1 .1 .1 .1 .1 .1 .1 .1 .1 .0) (w .result) (w .ensures),
       n .ensures .1,
     )
 
@@ -163,6 +202,7 @@ offer-spec =
     shared-slice-read-states
     returns
     class-of-requires
+    read-from-requires
     is-dominated-requires
     same-length
     same-length-2
@@ -172,6 +212,7 @@ offer-spec =
     same-length-5
     same-length-6
     returns-3
+    fill-begin-requires
     settle-begin-requires
     keep-requires
     same-length-7
