@@ -3,7 +3,6 @@ use begins::begin_of;
 use begins::is_stuck;
 use begins::still_actions;
 use begins::still_leaves;
-use edges::fill_edges;
 use layer::first_conditions;
 use layer::first_layer;
 use layer::pairs_of;
@@ -573,7 +572,8 @@ pub fn explore(
     goals: &[u16],
     nodes: usize,
     budget: u32,
-    edges: &mut [u8],
+    edges: &[u8],
+    ends: &[usize],
     table: &mut [u64],
     scan: &mut [u64],
 ) -> Stop
@@ -595,19 +595,6 @@ pub fn explore(
     let stills = still_leaves(leaves, actions, bases, moves);
     let firsts = first_conditions(factors, &conditions, actions);
     let mut run = start(task, bases, moves, costs, kinds, starts, goals, table, scan);
-    let mut ends: [usize; 1025] = [0; 1025];
-    fill_edges(
-        leaves,
-        actions,
-        bases,
-        moves,
-        costs,
-        kinds,
-        factors,
-        &conditions,
-        edges,
-        &mut ends,
-    );
     let mut known = [0u8; 40960];
     let mut flags = [0u8; 256];
     let mut mets = [0u8; 256];
@@ -626,8 +613,8 @@ pub fn explore(
             &still,
             &stills,
             &firsts,
-            &edges[..],
-            &ends,
+            edges,
+            ends,
             &effects,
             goals,
             goal,

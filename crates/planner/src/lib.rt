@@ -1,4 +1,5 @@
 // The planner: a plan of least cost, "unsolvable", or one numbered refusal.
+use edges::fill_edges;
 use explore::Stop;
 use explore::Why;
 use explore::explore;
@@ -84,6 +85,8 @@ fn finish(
     table: &[u64],
     run: Run,
     plan: &mut [u8],
+    edges: &[u8],
+    ends: &[usize],
 ) -> PlanAnswer
     requires { ⌜ Valid task ⌝ }
     requires { ⌜ Tabled task (now bases) (now moves) (now costs) (now kinds) (now starts) × Goals task (now goals) ⌝ }
@@ -111,6 +114,8 @@ fn finish(
         run.count,
         best - 1,
         plan,
+        edges,
+        ends,
     );
     if length > plan.len() {
         return PlanAnswer::Refused(PlanRefusal::PlanLong, counts);
@@ -136,6 +141,8 @@ fn answer_of(
     table: &[u64],
     stop: Stop,
     plan: &mut [u8],
+    edges: &[u8],
+    ends: &[usize],
 ) -> PlanAnswer
     requires { ⌜ Valid task ⌝ }
     requires { ⌜ Tabled task (now bases) (now moves) (now costs) (now kinds) (now starts) × Goals task (now goals) ⌝ }
@@ -163,6 +170,8 @@ fn answer_of(
             table,
             run,
             plan,
+            edges,
+            ends,
         ),
     }
 }
@@ -190,6 +199,23 @@ fn search_with(
     let kinds = action_kinds(task);
     let starts = leaf_starts(task);
     let goals = leaf_goals(task, bases);
+    let leaves = task.leaves as usize;
+    let actions = task.actions as usize;
+    let factors = task.factors;
+    let conditions = task.conditions;
+    let mut ends: [usize; 1025] = [0; 1025];
+    fill_edges(
+        leaves,
+        actions,
+        &bases,
+        moves,
+        &costs,
+        &kinds,
+        factors,
+        &conditions,
+        edges,
+        &mut ends,
+    );
     let mut scan = [0u64; 37136];
     let stop = explore(
         task,
@@ -202,6 +228,7 @@ fn search_with(
         nodes,
         budget,
         edges,
+        &ends,
         table,
         &mut scan,
     );
@@ -216,6 +243,8 @@ fn search_with(
         table,
         stop,
         plan,
+        edges,
+        &ends,
     )
 }
 

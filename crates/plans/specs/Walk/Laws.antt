@@ -124,25 +124,6 @@ module _ (b : Board) (starts T : List ℕ) (i u : ℕ) (B : List ℕ) (y : ℕ) 
 
 -- ---- room to work in
 
--- there are no more enabled actions than actions
-acts-few : (b : Board) (i : ℕ) (c : Centre) (n : ℕ) → length (enabledOn b i c n) ≤ n
-unfolding enabledOn
-acts-few b i c zero = omega arith
-acts-few b i c (suc a) = go (eqb (getD (b .kinds) a 0) (i + 1) && metOn b c a) (acts-few b i c a)
-  where
-    go : (t : Bool) → length (enabledOn b i c a) ≤ a → length (cond t (enabledOn b i c a ++ (a ∷ [])) (enabledOn b i c a)) ≤ suc a
-    go true h = simp length-append (omega arith)
-    go false h = omega arith
-
--- what has room for the edges of all actions has room for those of the enabled ones, by the actions and prices as they are lent
-pub room-here : (b : Board) (T : List ℕ) (i u : ℕ) (acts : List ℕ) (m : ℕ) (P : List ℕ) (k : ℕ) → acts ≡ actsOn b T i u → m ≡ length acts
-    → P ≡ pricesOn b T i u → length (pricesOn b T i u) ≡ statesOn b i → b .actions * statesOn b i ≤ k → m * length P ≤ k
-room-here b T i u acts m P k these many same long room =
-    rw (same, long) (omega (arith, mul-le-mul-right (statesOn b i) (few), room))
-  where
-    few : m ≤ b .actions
-    few = omega (arith, many, ap length these, acts-few b i (nodeOn b T u .spot) (b .actions))
-
 -- entries enough for all leaf states are enough for each leaf, and so are 255 times 256
 pub roomy-small : (b : Board) → Sound b → (k : ℕ) → b .actions * rowOn b ≤ k → Roomy (b .leaves) (b .actions) (b .bases) k
 roomy-small b sound k h i l =
