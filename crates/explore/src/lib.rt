@@ -579,7 +579,8 @@ pub fn explore(
 ) -> Stop
     requires { ⌜ Valid task ⌝ }
     requires { ⌜ Tabled task (now bases) (now moves) (now costs) (now kinds) (now starts) × Goals task (now goals) ⌝ }
-    requires { ⌜ allStates task * task .actions ≤ length (now edges) ⌝ }
+    requires { ⌜ Edges (boardOf (task .leaves) (task .actions) (now bases) (now moves) (now costs) (now kinds) (task .factors) (task .conditions))
+        (now edges) (now ends) ⌝ }
     requires { ⌜ (1 ≤ nodes) × (nodes ≤ 4096) × ((nodes + 1) * (40 + allStates task) ≤ length (now table)) × (length (now scan) ≡ 37136)
         × ((h : ℕ) → h < 4096 → getD (now scan) (12288 + h) 0 ≡ 0) ⌝ }
     ensures { λ r. ⌜ (stoppedOf (allStates task) (now (table .exit)) (now (scan .exit)) r ≡ explored task nodes budget)
