@@ -75,7 +75,12 @@ fn edge_to(
     if index[action] == 0 {
         return 0;
     }
-    tight_move(prices, x, costs[action] as u64, moves[action * row + (at + x)])
+    tight_move(
+        prices,
+        x,
+        costs[action] as u64,
+        moves[action * row + (at + x)],
+    )
 }
 
 // The tight edges of state x, of these actions, go behind the first `from` entries of `tight`. How many entries there are then.
@@ -407,7 +412,16 @@ pub fn leaf_back(
     let index = index_of(acts, count);
     let mut stops: [usize; 257] = [0; 257];
     tight_edges(
-        prices, moves, row, at, costs, &index, edges, ends, tight, &mut stops,
+        prices,
+        moves,
+        row,
+        at,
+        costs,
+        &index,
+        edges,
+        ends,
+        tight,
+        &mut stops,
     );
     let mut depths = [0u64; 256];
     let n = prices.len();

@@ -46,8 +46,12 @@ sources-of-requires c κs =
     let d = c .before .before .before in
     let w = start d .pre .0 in
     let long = backed-length _ _ _ _ _ _ _ _ _ _ w _ (made d w) in
-    rw long (w .woven .few-states, w .woven .stops-long, λ x h.
-    let r = w .woven .stops-in x h in (r .0, r .1, woven-leading _ _ _ _ _ _ _ _ (w .woven) x h))
+    rw long (
+      w .woven .few-states,
+      w .woven .stops-long,
+      λ x h.
+          let r = w .woven .stops-in x h in (r .0, r .1, woven-leading _ _ _ _ _ _ _ _ (w .woven) x h),
+    )
 
 slice-aggregate-walk : tie.Need-slice-aggregate-walk
 slice-aggregate-walk c = search needs

@@ -306,11 +306,11 @@ module _ (moves : List ℕ) (row at : ℕ) (acts index tight stops : List ℕ) (
         ends-long = rw zero-add (w .stops-long);
         ends-in = λ x h. rw zero-add (w .stops-in x h);
         along = λ x h. rw zero-add (record {
-              costs-long = λ j l. omega (arith, w .sound x j h l .small, length-replicate {A = ℕ} 256 1);
-              mets-long = λ j l. omega (arith, w .sound x j h l .small, w .index-long);
-              moves-long = λ j l. omega (arith, w .sound x j h l .readable, length-drop at moves);
-              moves-in = λ j l. let s = w .sound x j h l in rw (shifted _ x, s .leads) (stays w (s .act) x (s .below) h);
-            });
+          costs-long = λ j l. omega (arith, w .sound x j h l .small, length-replicate {A = ℕ} 256 1);
+          mets-long = λ j l. omega (arith, w .sound x j h l .small, w .index-long);
+          moves-long = λ j l. omega (arith, w .sound x j h l .readable, length-drop at moves);
+          moves-in = λ j l. let s = w .sound x j h l in rw (shifted _ x, s .leads) (stays w (s .act) x (s .below) h);
+        });
       }
 
   pub woven-meant : (w : Woven moves row at acts index tight stops n)
