@@ -1,19 +1,18 @@
 -- Laws of rows and goal states by tables, as the code reads them. Assumes nothing.
 use mathlib.Core.Path.{_≡_, refl, sym, ap, _∙_}
-use mathlib.Core.Bool.{Bool, true, false, cond, _&&_}
-use mathlib.Core.List.{List, [], _∷_, _++_}
+use mathlib.Core.Bool.{cond, _&&_}
+use mathlib.Core.List.{List}
 use Prim.Native.Nat.{ℕ, zero, suc, _+_, _*_, _≤_, _<_}
-use native.Mathlib.Nat.{not-suc-le-zero, mul-le-mul, mul-le-mul-left, mul-le-mul-right}
+use native.Mathlib.Nat.{not-suc-le-zero, mul-le-mul, mul-le-mul-left}
 use native.Mathlib.Omega.{arith}
 use lib.Dec.{ltb, eqb}
-use lib.ListN.{length, getD, set, take, drop, replicate, length-drop, length-append}
+use lib.ListN.{length, getD, set, take, drop, replicate, length-drop}
 use lib.Seq.{length-take-le, drop-drop, getD-take, getD-drop}
-use Rattle.task.specs.declared.Centre.{Centre}
 use Rattle.leaf.specs.Price.{mark}
 use Rattle.leaf.specs.Settle.Turns.{at-any}
 use Rattle.leaf.specs.Pass.{pass}
 use Rattle.layer.specs.Layer.Front.{part-take}
-use Rattle.layer.specs.Board.{Board, Sound, baseOn, rowOn, statesOn, metOn, enabledOn, passOn}
+use Rattle.layer.specs.Board.{Board, Sound, baseOn, rowOn, statesOn, passOn}
 use Rattle.layer.specs.Board.Turns.{base-in, leaf-passed}
 use Rattle.search.specs.Node.Laws.{list-entry}
 use Rattle.search.specs.Plan.{lowest}

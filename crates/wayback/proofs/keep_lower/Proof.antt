@@ -1,7 +1,7 @@
 -- `wayback::keep_lower` meets its contract. Each return is what it should be, by the tests that led there. Assumes nothing.
 use mathlib.Core.Path.{_≡_, refl}
 use mathlib.Core.Logic.{inl, inr}
-use Prim.Native.Nat.{suc, _-_}
+use Prim.Native.Nat.{_-_}
 use native.Mathlib.Omega.{arith}
 use borrow.Author.Needs.{needs}
 use Rattle.wayback.proofs.keep_lower.Statement.{statement}

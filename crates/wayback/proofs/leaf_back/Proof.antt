@@ -1,6 +1,5 @@
 -- `wayback::leaf_back` meets its contract. Without an action nothing is walked; else the tight edges of the actions are listed, and their way is the
 -- one meant. Assumes nothing.
-use mathlib.Core.Path.{_≡_, _∙_}
 use mathlib.Core.List.{List}
 use Prim.Native.Nat.{ℕ, _≤_, _<_}
 use native.Mathlib.Omega.{arith}

@@ -1,8 +1,7 @@
 -- `wayback::tight_edges` meets its contract. The invariant: the tight edges of the states so far are listed, no more than edges were read. Assumes
 -- nothing.
 use mathlib.Core.Path.{_≡_, refl, _∙_}
-use mathlib.Core.List.{List}
-use Prim.Native.Nat.{ℕ, _+_, _-_, _≤_, _<_}
+use Prim.Native.Nat.{_+_, _-_, _≤_, _<_}
 use native.Mathlib.Nat.{add-zero}
 use native.Mathlib.Omega.{arith}
 use lib.ListN.{length, getD, length-set}

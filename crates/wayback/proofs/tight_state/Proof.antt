@@ -1,9 +1,9 @@
 -- `wayback::tight_state` meets its contract. The invariant: of the actions so far those with an edge are picked. Assumes nothing.
 use mathlib.Core.Path.{_≡_, refl, sym, ap, _∙_}
 use mathlib.Core.Logic.{⊎-elim}
-use Prim.Native.Nat.{ℕ, _-_, _≤_, _<_}
+use Prim.Native.Nat.{ℕ, _-_, _≤_}
 use native.Mathlib.Omega.{arith}
-use lib.ListN.{length, getD, length-set}
+use lib.ListN.{length, length-set}
 use borrow.Author.Needs.{needs}
 use Rattle.wayback.specs.Woven.{edgeAt, Picked}
 use Rattle.wayback.specs.Woven.Laws.{picked-none, picked-not, picked-here}

@@ -7,18 +7,18 @@ use native.Mathlib.Nat.{not-suc-le-zero, zero-add}
 use native.Mathlib.Numerals.{add-one}
 use native.Mathlib.Decide.{ℕ-discrete, decLt}
 use native.Mathlib.Omega.{arith}
-use lib.ListN.{length, getD, set, take, drop, replicate, length-set, length-take, length-drop, length-replicate, List·getD-eq-default}
+use lib.ListN.{length, getD, set, take, drop, replicate, length-take, length-drop, length-replicate, List·getD-eq-default}
 use lib.Seq.{getD-set-same, getD-set-other, getD-take, getD-drop}
 use Rattle.loops.specs.Count.Laws.{below-cases}
 use Rattle.leaf.specs.Settle.Steps.{replicate-at}
 use Rattle.leaf.specs.Settle.Turns.{at-any}
-use Rattle.leaf.specs.Lent.{Lent, costBy, moveBy}
+use Rattle.leaf.specs.Lent.{Lent, costBy}
 use Rattle.edges.specs.Edges.{edgesAt, moveMet, Ways, Covered, Meant}
 use Rattle.edges.specs.Edges.Those.{Placed}
 use Rattle.edges.specs.Edges.Leaf.{gated-out, gated-open}
-use Rattle.wayback.specs.Steps.{tightAt, tightBy}
+use Rattle.wayback.specs.Steps.{tightBy}
 use Rattle.wayback.specs.Tight.{tight-is, tight-ranged}
-use Rattle.wayback.specs.Woven.{IndexedFrom, Indexed, Legible, edgeAt, Between, Picked, Listed, Spread, Covers, Leading, Taken, Woven}
+use Rattle.wayback.specs.Woven.{IndexedFrom, Indexed, Legible, edgeAt, Between, Picked, Listed, Covers, Leading, Taken, Woven}
 
 -- ---- the list of actions, read backwards
 

@@ -1,9 +1,8 @@
 -- The edges of a leaf by the tables of a Board: they can be read, and the enabled actions' moves are among them. Assumes nothing.
-use mathlib.Core.Path.{_≡_, refl, sym, ap, _∙_}
+use mathlib.Core.Path.{_≡_, ap}
 use mathlib.Core.List.{List}
 use Prim.Native.Nat.{ℕ, zero, suc, _+_, _-_, _*_, _≤_, _<_}
-use native.Mathlib.Nat.{add-zero, add-assoc, suc-mul, mul-comm}
-use native.Mathlib.Numerals.{add-one}
+use native.Mathlib.Nat.{add-zero, suc-mul, mul-comm}
 use native.Mathlib.Omega.{arith}
 use lib.ListN.{length, getD}
 use Rattle.task.specs.declared.Centre.{Centre}
