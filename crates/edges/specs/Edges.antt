@@ -100,3 +100,10 @@ pub record Meant (moves : List ℕ) (row at : ℕ) (costs mets edges ends : List
   pub back : (x : ℕ) → x < n →
       let acts = edgesAt edges ends (at + x) in
       Covered (length acts) (costBy costs acts) (moveMet moves row at mets acts) m cost to x
+
+-- some actions do
+pub record Aims (moves : List ℕ) (row at : ℕ) (costs mets edges ends : List ℕ) (n : ℕ) : Type 0 where
+  pub count : ℕ
+  pub cost : ℕ → ℕ
+  pub to : ℕ → ℕ → ℕ
+  pub meant : Meant moves row at costs mets edges ends n count cost to

@@ -9,13 +9,13 @@ ghost use mathlib.Core.List.{_++_};
 ghost use Prim.Native.Nat.{ℕ, _+_, _*_, _-_, _<_, _≤_, min};
 ghost use lib.ListN.{length, getD, set, drop};
 ghost use Rattle.leaf.specs.Price.{mark};
-ghost use Rattle.leaf.specs.Settle.{lower, relax};
+ghost use Rattle.leaf.specs.Settle.{lower, relax, settled};
 ghost use Rattle.leaf.specs.Settle.Sweeps.{Fell, Visited, Swept};
 ghost use Rattle.leaf.specs.Lent.{costBy};
 ghost use Rattle.layer.specs.Board.{Sound, settleOn, settledOn};
 ghost use Rattle.layer.specs.Lent.{Front, boardOf};
 ghost use Rattle.mets.specs.Mets.{Mets};
-ghost use Rattle.edges.specs.Edges.{those, edgeBy, EdgesTo, Edges, Wrote, gated, moveMet, Along, Ways, Unmet, Meant};
+ghost use Rattle.edges.specs.Edges.{those, edgeBy, EdgesTo, Edges, Wrote, gated, moveMet, Along, Ways, Unmet, Meant, Aims};
 
 // Whether an action is a leaf action of the leaf behind i leaves and moves state s, counted over all leaves.
 fn is_edge(moves: &[u16], row: usize, kinds: &[u8], i: usize, s: usize, action: usize) -> bool
@@ -279,8 +279,28 @@ fn some_met(mets: &[u8], acts: &[u8]) -> bool
     false
 }
 
-// The prices of the leaf behind i leaves settle: every state is dirty at first, and sweeps go on as long as a price falls. Where no edge of the leaf
-// has its flag set, the prices are settled as they are. Whether it was swept.
+// Prices settle along the edges of their states: every state is dirty at first, and sweeps go on as long as a price falls.
+pub fn settle_along(
+    prices: &mut [u64],
+    moves: &[u16],
+    row: usize,
+    at: usize,
+    costs: &[u16],
+    mets: &[u8],
+    edges: &[u8],
+    ends: &[usize],
+)
+    requires { ⌜ (length (now prices) ≤ 256) × Ways (now moves) row at (now costs) (now mets) (now edges) (now ends) (length (now prices))
+        × Aims (now moves) row at (now costs) (now mets) (now edges) (now ends) (length (now prices)) ⌝ }
+    ensures { λ _. ⌜ ((m : ℕ) (cost : ℕ → ℕ) (to : ℕ → ℕ → ℕ)
+        → Meant (now (moves .entry)) row at (now (costs .entry)) (now (mets .entry)) (now (edges .entry)) (now (ends .entry))
+        (length (now (prices .entry))) m cost to → now (prices .exit) ≡ settled mark m cost to (now (prices .entry))) ⌝ }
+{
+    let mut dirty = [1u8; 256];
+    while sweep(prices, &mut dirty, moves, row, at, costs, mets, edges, ends) {}
+}
+
+// The prices of the leaf behind i leaves settle. Where no edge of the leaf has its flag set, they are settled as they are. Whether it was swept.
 fn settle_leaf(
     leaves: usize,
     actions: usize,
@@ -311,8 +331,7 @@ fn settle_leaf(
     if !some_met(mets, &edges[from..to]) {
         return false;
     }
-    let mut dirty = [1u8; 256];
-    while sweep(prices, &mut dirty, moves, row, at, costs, mets, edges, ends) {}
+    settle_along(prices, moves, row, at, costs, mets, edges, ends);
     true
 }
 

@@ -3,7 +3,6 @@ use begins::begin_of;
 use begins::is_stuck;
 use begins::still_actions;
 use begins::still_leaves;
-use edges::fill_edges;
 use layer::first_conditions;
 use layer::first_layer;
 use layer::pairs_of;
@@ -575,13 +574,15 @@ pub fn explore(
     goals: &[u16],
     nodes: usize,
     budget: u32,
-    edges: &mut [u8],
+    edges: &[u8],
+    ends: &[usize],
     table: &mut [u64],
     scan: &mut [u64],
 ) -> Stop
     requires { ⌜ Valid task ⌝ }
     requires { ⌜ Tabled task (now bases) (now moves) (now costs) (now kinds) (now starts) × Goals task (now goals) ⌝ }
-    requires { ⌜ allStates task * task .actions ≤ length (now edges) ⌝ }
+    requires { ⌜ Edges (boardOf (task .leaves) (task .actions) (now bases) (now moves) (now costs) (now kinds) (task .factors) (task .conditions))
+        (now edges) (now ends) ⌝ }
     requires { ⌜ (1 ≤ nodes) × (nodes ≤ 4096) × ((nodes + 1) * (40 + allStates task) ≤ length (now table)) × (length (now scan) ≡ 57616)
         × ((h : ℕ) → h < 4096 → getD (now scan) (12288 + h) 0 ≡ 0) ⌝ }
     ensures { λ r. ⌜ (stoppedOf (allStates task) (now (table .exit)) (now (scan .exit)) r ≡ explored task nodes budget)
@@ -597,19 +598,6 @@ pub fn explore(
     let stills = still_leaves(leaves, actions, bases, moves);
     let firsts = first_conditions(factors, &conditions, actions);
     let mut run = start(task, bases, moves, costs, kinds, starts, goals, table, scan);
-    let mut ends: [usize; 1025] = [0; 1025];
-    fill_edges(
-        leaves,
-        actions,
-        bases,
-        moves,
-        costs,
-        kinds,
-        factors,
-        &conditions,
-        edges,
-        &mut ends,
-    );
     let mut known = [0u8; 40960];
     let mut flags = [0u8; 256];
     let mut mets = [0u8; 256];
@@ -628,8 +616,8 @@ pub fn explore(
             &still,
             &stills,
             &firsts,
-            &edges[..],
-            &ends,
+            edges,
+            ends,
             &effects,
             goals,
             goal,

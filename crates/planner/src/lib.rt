@@ -1,4 +1,5 @@
 // The planner: a plan of least cost, "unsolvable", or one numbered refusal.
+use edges::fill_edges;
 use explore::Stop;
 use explore::Why;
 use explore::explore;
@@ -22,7 +23,9 @@ ghost use lib.ListN.{length};
 ghost use Rattle.task.specs.Factors.{allStates};
 ghost use Rattle.task.specs.Valid.{Valid};
 ghost use Rattle.record.specs.Record.{readRecord};
-ghost use Rattle.tables.specs.Tables.{Bases, Tabled, Goals};
+ghost use Rattle.layer.specs.Lent.{boardOf};
+ghost use Rattle.edges.specs.Edges.{Edges};
+ghost use Rattle.tables.specs.Tables.{Bases, Moves, Costs, Kinds, Tabled, Goals};
 ghost use Rattle.search.specs.Explore.{explored};
 ghost use Rattle.explore.specs.Held.{reasonOf};
 ghost use Rattle.planner.specs.Planner.{Outcome, refusalNumber, atBest, atStop, tableWords, searched, taskPlan, recordPlan, fittingNodes, recordNodes};
@@ -84,10 +87,13 @@ fn finish(
     table: &[u64],
     run: Run,
     plan: &mut [u8],
+    edges: &[u8],
+    ends: &[usize],
 ) -> PlanAnswer
     requires { ⌜ Valid task ⌝ }
     requires { ⌜ Tabled task (now bases) (now moves) (now costs) (now kinds) (now starts) × Goals task (now goals) ⌝ }
-    requires { ⌜ Sound task (now table) run ⌝ }
+    requires { ⌜ Sound task (now table) run × Edges (boardOf (task .leaves) (task .actions) (now bases) (now moves) (now costs) (now kinds) (task .factors) (task .conditions))
+        (now edges) (now ends) ⌝ }
     ensures { λ r. ⌜ _≡_ {A = Outcome} (record { answer = r; plan = now (plan .exit); words = [] })
         (atBest task (runIn (allStates task) (now (table .entry)) run) (run .best) (now (plan .entry)) []) ⌝ }
 {
@@ -111,6 +117,8 @@ fn finish(
         run.count,
         best - 1,
         plan,
+        edges,
+        ends,
     );
     if length > plan.len() {
         return PlanAnswer::Refused(PlanRefusal::PlanLong, counts);
@@ -136,10 +144,13 @@ fn answer_of(
     table: &[u64],
     stop: Stop,
     plan: &mut [u8],
+    edges: &[u8],
+    ends: &[usize],
 ) -> PlanAnswer
     requires { ⌜ Valid task ⌝ }
     requires { ⌜ Tabled task (now bases) (now moves) (now costs) (now kinds) (now starts) × Goals task (now goals) ⌝ }
-    requires { ⌜ Sound task (now table) (stop .run) ⌝ }
+    requires { ⌜ Sound task (now table) (stop .run) × Edges (boardOf (task .leaves) (task .actions) (now bases) (now moves) (now costs) (now kinds) (task .factors) (task .conditions))
+        (now edges) (now ends) ⌝ }
     ensures { λ r. ⌜ _≡_ {A = Outcome} (record { answer = r; plan = now (plan .exit); words = [] })
         (atStop task (reasonOf (stop .why)) (runIn (allStates task) (now (table .entry)) (stop .run)) (now (plan .entry)) []) ⌝ }
 {
@@ -163,8 +174,44 @@ fn answer_of(
             table,
             run,
             plan,
+            edges,
+            ends,
         ),
     }
+}
+
+// The table of the edges of all leaf states, by the other tables of the task.
+fn task_edges(
+    task: Task,
+    bases: &[usize],
+    moves: &[u16],
+    costs: &[u16],
+    kinds: &[u8],
+    edges: &mut [u8],
+    ends: &mut [usize],
+)
+    requires { ⌜ Valid task ⌝ }
+    requires { ⌜ Bases task (now bases) × Moves task (now moves) × Costs task (now costs) × Kinds task (now kinds) ⌝ }
+    requires { ⌜ (task .actions * allStates task ≤ length (now moves)) × (task .actions * allStates task ≤ length (now edges)) × (1025 ≤ length (now ends)) ⌝ }
+    ensures { λ _. ⌜ Edges (boardOf (task .leaves) (task .actions) (now (bases .entry)) (now (moves .entry)) (now (costs .entry)) (now (kinds .entry))
+        (task .factors) (task .conditions)) (now (edges .exit)) (now (ends .exit)) ⌝ }
+{
+    let leaves = task.leaves as usize;
+    let actions = task.actions as usize;
+    let factors = task.factors;
+    let conditions = task.conditions;
+    fill_edges(
+        leaves,
+        actions,
+        bases,
+        moves,
+        costs,
+        kinds,
+        factors,
+        &conditions,
+        edges,
+        ends,
+    );
 }
 
 // The tables of the task, the search, and its answer; `moves` is lent for what each action makes of each leaf state, `edges` for the leaf actions
@@ -190,6 +237,8 @@ fn search_with(
     let kinds = action_kinds(task);
     let starts = leaf_starts(task);
     let goals = leaf_goals(task, bases);
+    let mut ends: [usize; 1025] = [0; 1025];
+    task_edges(task, &bases, moves, &costs, &kinds, edges, &mut ends);
     let mut scan = [0u64; 57616];
     let stop = explore(
         task,
@@ -202,6 +251,7 @@ fn search_with(
         nodes,
         budget,
         edges,
+        &ends,
         table,
         &mut scan,
     );
@@ -216,6 +266,8 @@ fn search_with(
         table,
         stop,
         plan,
+        edges,
+        &ends,
     )
 }
 

@@ -20,6 +20,7 @@ ghost use Rattle.task.specs.Valid.{Valid};
 ghost use Rattle.leaf.specs.Price.{mark};
 ghost use Rattle.layer.specs.Board.{Sound};
 ghost use Rattle.layer.specs.Lent.{boardOf};
+ghost use Rattle.edges.specs.Edges.{Edges};
 ghost use Rattle.tables.specs.Tables.{Filled, Goals, Tabled};
 ghost use Rattle.search.specs.Node.{leastOf, isGoal};
 ghost use Rattle.search.specs.Explore.{nodeAt};
@@ -148,15 +149,18 @@ fn leaf_walk(
     i: usize,
     begins: &[u64],
     state: usize,
-    tight: &mut [u16],
+    tight: &mut [u8],
     plan: &mut [u8],
     total: usize,
     place: usize,
+    edges: &[u8],
+    stops: &[usize],
 ) -> Ended
     requires { ⌜ Sound (boardOf leaves actions (now bases) (now moves) (now costs) (now kinds) factors (now conditions)) × (i < leaves)
         × RowIn (getD (now bases) leaves 0) (now table) node ⌝ }
     requires { ⌜ WalkableFrom (boardOf leaves actions (now bases) (now moves) (now costs) (now kinds) factors (now conditions)) (now table) i node (now begins) state ⌝ }
-    requires { ⌜ (actions * (getD (now bases) (i + 1) 0 - getD (now bases) i 0) ≤ length (now tight)) × (total ≤ length (now plan)) × (place + 256 ≤ mark) ⌝ }
+    requires { ⌜ (actions * (getD (now bases) (i + 1) 0 - getD (now bases) i 0) ≤ length (now tight)) × (total ≤ length (now plan)) × (place + 256 ≤ mark)
+        × Edges (boardOf leaves actions (now bases) (now moves) (now costs) (now kinds) factors (now conditions)) (now edges) (now stops) ⌝ }
     ensures { λ r. ⌜ Walked (backFrom (boardOf leaves actions (now (bases .entry)) (now (moves .entry)) (now (costs .entry)) (now (kinds .entry)) factors
         (now (conditions .entry))) (now (table .entry)) i node (now (begins .entry)) state) total place (now (plan .entry)) r (now (plan .exit)) ⌝ }
 {
@@ -178,6 +182,8 @@ fn leaf_walk(
         costs,
         &acts[..count],
         count,
+        edges,
+        stops,
         begins,
         &table[from..end],
         state,
@@ -203,14 +209,17 @@ fn leaf_step(
     node: usize,
     i: usize,
     state: usize,
-    tight: &mut [u16],
+    tight: &mut [u8],
     plan: &mut [u8],
     total: usize,
     place: usize,
+    edges: &[u8],
+    stops: &[usize],
 ) -> Ended
     requires { ⌜ Standing (boardOf leaves actions (now bases) (now moves) (now costs) (now kinds) factors (now conditions)) (now starts) (now table) node × (i < leaves) ⌝ }
     requires { ⌜ WalkableOn (boardOf leaves actions (now bases) (now moves) (now costs) (now kinds) factors (now conditions)) (now starts) (now table) i node state ⌝ }
-    requires { ⌜ (actions * (getD (now bases) (i + 1) 0 - getD (now bases) i 0) ≤ length (now tight)) × (total ≤ length (now plan)) × (place + 256 ≤ mark) ⌝ }
+    requires { ⌜ (actions * (getD (now bases) (i + 1) 0 - getD (now bases) i 0) ≤ length (now tight)) × (total ≤ length (now plan)) × (place + 256 ≤ mark)
+        × Edges (boardOf leaves actions (now bases) (now moves) (now costs) (now kinds) factors (now conditions)) (now edges) (now stops) ⌝ }
     ensures { λ r. ⌜ Walked (backOn (boardOf leaves actions (now (bases .entry)) (now (moves .entry)) (now (costs .entry)) (now (kinds .entry)) factors
         (now (conditions .entry))) (now (starts .entry)) (now (table .entry)) i node state) total place (now (plan .entry)) r (now (plan .exit)) ⌝ }
 {
@@ -249,6 +258,8 @@ fn leaf_step(
         plan,
         total,
         place,
+        edges,
+        stops,
     )
 }
 
@@ -269,15 +280,18 @@ fn layer_back(
     table: &[u64],
     node: usize,
     ends: &mut [usize],
-    tight: &mut [u16],
+    tight: &mut [u8],
     plan: &mut [u8],
     total: usize,
     place: usize,
+    edges: &[u8],
+    stops: &[usize],
 ) -> usize
     requires { ⌜ Standing (boardOf leaves actions (now bases) (now moves) (now costs) (now kinds) factors (now conditions)) (now starts) (now table) node ⌝ }
     requires { ⌜ ((i : ℕ) → i < leaves → WalkableOn (boardOf leaves actions (now bases) (now moves) (now costs) (now kinds) factors (now conditions)) (now starts) (now table) i node
         (getD (now ends) i 0)) ⌝ }
-    requires { ⌜ (leaves ≤ length (now ends)) × Roomy leaves actions (now bases) (length (now tight)) × (total ≤ length (now plan)) × (place + 2048 ≤ mark) ⌝ }
+    requires { ⌜ (leaves ≤ length (now ends)) × Roomy leaves actions (now bases) (length (now tight)) × (total ≤ length (now plan)) × (place + 2048 ≤ mark)
+        × Edges (boardOf leaves actions (now bases) (now moves) (now costs) (now kinds) factors (now conditions)) (now edges) (now stops) ⌝ }
     ensures { λ r. ⌜ LayerWalked leaves (λ i. backOn (boardOf leaves actions (now (bases .entry)) (now (moves .entry)) (now (costs .entry)) (now (kinds .entry)) factors
         (now (conditions .entry))) (now (starts .entry)) (now (table .entry)) i node (getD (now (ends .entry)) i 0)) total place (now (plan .entry)) r (now (ends .exit))
         (now (plan .exit)) ⌝ }
@@ -304,6 +318,8 @@ fn layer_back(
             plan,
             total,
             p,
+            edges,
+            stops,
         );
         ends[i] = end.state;
         p = end.place;
@@ -402,17 +418,20 @@ fn node_back(
     table: &[u64],
     node: usize,
     ends: &mut [usize],
-    tight: &mut [u16],
+    tight: &mut [u8],
     plan: &mut [u8],
     total: usize,
     place: usize,
+    edges: &[u8],
+    stops: &[usize],
 ) -> usize
     requires { ⌜ Standing (boardOf leaves actions (now bases) (now moves) (now costs) (now kinds) factors (now conditions)) (now starts) (now table) node × (0 < node) ⌝ }
     requires { ⌜ ((i : ℕ) → i < leaves → WalkableOn (boardOf leaves actions (now bases) (now moves) (now costs) (now kinds) factors (now conditions)) (now starts) (now table) i node
         (getD (now ends) i 0)) ⌝ }
     requires { ⌜ ((i : ℕ) → i < leaves → backOn (boardOf leaves actions (now bases) (now moves) (now costs) (now kinds) factors (now conditions)) (now starts) (now table) i node
         (getD (now ends) i 0) .from < getD (now bases) (i + 1) 0 - getD (now bases) i 0) ⌝ }
-    requires { ⌜ (leaves ≤ length (now ends)) × Roomy leaves actions (now bases) (length (now tight)) × (total ≤ length (now plan)) × (place + 2049 ≤ mark) ⌝ }
+    requires { ⌜ (leaves ≤ length (now ends)) × Roomy leaves actions (now bases) (length (now tight)) × (total ≤ length (now plan)) × (place + 2049 ≤ mark)
+        × Edges (boardOf leaves actions (now bases) (now moves) (now costs) (now kinds) factors (now conditions)) (now edges) (now stops) ⌝ }
     ensures { λ r. ⌜ NodeWalked leaves (λ i. backOn (boardOf leaves actions (now (bases .entry)) (now (moves .entry)) (now (costs .entry)) (now (kinds .entry)) factors
         (now (conditions .entry))) (now (starts .entry)) (now (table .entry)) i node (getD (now (ends .entry)) i 0))
         (nodeIn (getD (now (bases .entry)) leaves 0) (now (table .entry)) node .action) (λ i z. overOn (boardOf leaves actions (now (bases .entry)) (now (moves .entry)) (now (costs .entry)) (now (kinds .entry)) factors
@@ -436,6 +455,8 @@ fn node_back(
         plan,
         total,
         place,
+        edges,
+        stops,
     );
     let action = action_of(table, bases[leaves], node);
     put(plan, total, behind, action as u8);
@@ -470,14 +491,17 @@ pub fn walk_back(
     count: usize,
     node: usize,
     ends: [usize; 8],
-    tight: &mut [u16],
+    tight: &mut [u8],
     plan: &mut [u8],
     total: usize,
+    edges: &[u8],
+    stops: &[usize],
 ) -> usize
     requires { ⌜ Valid task × Tabled task (now bases) (now moves) (now costs) (now kinds) (now starts) ⌝ }
     requires { ⌜ Real task (heldIn (allStates task) (now table) count) × Priced task (heldIn (allStates task) (now table) count) node (λ i. getD ends i 0) ⌝ }
     requires { ⌜ (node < count) × (count ≤ 4096) × (count * (40 + allStates task) ≤ length (now table)) × (total ≤ length (now plan))
-        × Roomy (task .leaves) (task .actions) (now bases) (length (now tight)) ⌝ }
+        × Roomy (task .leaves) (task .actions) (now bases) (length (now tight))
+        × Edges (boardOf (task .leaves) (task .actions) (now bases) (now moves) (now costs) (now kinds) (task .factors) (task .conditions)) (now edges) (now stops) ⌝ }
     ensures { λ r. ⌜ (r ≡ length (planBack task (heldIn (allStates task) (now (table .entry)) count) node node (λ i. getD ends i 0)))
         × (now (plan .exit) ≡ laid total 0 (planBack task (heldIn (allStates task) (now (table .entry)) count) node node (λ i. getD ends i 0)) (now (plan .entry))) ⌝ }
 {
@@ -506,6 +530,8 @@ pub fn walk_back(
             plan,
             total,
             place,
+            edges,
+            stops,
         );
         u = parent_of(table, bases[leaves], u);
     }
@@ -526,6 +552,8 @@ pub fn walk_back(
         plan,
         total,
         place,
+        edges,
+        stops,
     )
 }
 
@@ -542,13 +570,16 @@ fn write_with(
     table: &[u64],
     count: usize,
     node: usize,
-    tight: &mut [u16],
+    tight: &mut [u8],
     plan: &mut [u8],
+    edges: &[u8],
+    stops: &[usize],
 ) -> usize
     requires { ⌜ Valid task × Tabled task (now bases) (now moves) (now costs) (now kinds) (now starts) × Goals task (now goals) ⌝ }
     requires { ⌜ Real task (heldIn (allStates task) (now table) count) × (isGoal task (nodeAt task (heldIn (allStates task) (now table) count) node) ≡ true) ⌝ }
     requires { ⌜ (node < count) × (count ≤ 4096) × (count * (40 + allStates task) ≤ length (now table))
-        × Roomy (task .leaves) (task .actions) (now bases) (length (now tight)) ⌝ }
+        × Roomy (task .leaves) (task .actions) (now bases) (length (now tight))
+        × Edges (boardOf (task .leaves) (task .actions) (now bases) (now moves) (now costs) (now kinds) (task .factors) (task .conditions)) (now edges) (now stops) ⌝ }
     ensures { λ r. ⌜ (r ≡ length (planOf task (heldIn (allStates task) (now (table .entry)) count) node))
         × (now (plan .exit) ≡ written (planOf task (heldIn (allStates task) (now (table .entry)) count) node) (now (plan .entry))) ⌝ }
 {
@@ -570,6 +601,8 @@ fn write_with(
         tight,
         plan,
         0,
+        edges,
+        stops,
     );
     if length > plan.len() {
         return length;
@@ -588,6 +621,8 @@ fn write_with(
         tight,
         plan,
         length,
+        edges,
+        stops,
     )
 }
 
@@ -605,17 +640,20 @@ pub fn write_plan(
     count: usize,
     node: usize,
     plan: &mut [u8],
+    edges: &[u8],
+    stops: &[usize],
 ) -> usize
     requires { ⌜ Valid task × Tabled task (now bases) (now moves) (now costs) (now kinds) (now starts) × Goals task (now goals) ⌝ }
     requires { ⌜ Real task (heldIn (allStates task) (now table) count) × (isGoal task (nodeAt task (heldIn (allStates task) (now table) count) node) ≡ true) ⌝ }
-    requires { ⌜ (node < count) × (count ≤ 4096) × (count * (40 + allStates task) ≤ length (now table)) ⌝ }
+    requires { ⌜ (node < count) × (count ≤ 4096) × (count * (40 + allStates task) ≤ length (now table))
+        × Edges (boardOf (task .leaves) (task .actions) (now bases) (now moves) (now costs) (now kinds) (task .factors) (task .conditions)) (now edges) (now stops) ⌝ }
     ensures { λ r. ⌜ (r ≡ length (planOf task (heldIn (allStates task) (now (table .entry)) count) node))
         × (now (plan .exit) ≡ written (planOf task (heldIn (allStates task) (now (table .entry)) count) node) (now (plan .entry))) ⌝ }
 {
     let leaves = task.leaves as usize;
     let actions = task.actions as usize;
     if actions * bases[leaves] <= 4096 {
-        let mut tight = [0u16; 4096];
+        let mut tight = [0u8; 4096];
         return write_with(
             task,
             bases,
@@ -629,9 +667,11 @@ pub fn write_plan(
             node,
             &mut tight,
             plan,
+            edges,
+            stops,
         );
     }
-    let mut tight = [0u16; 65280];
+    let mut tight = [0u8; 65280];
     write_with(
         task,
         bases,
@@ -645,5 +685,7 @@ pub fn write_plan(
         node,
         &mut tight,
         plan,
+        edges,
+        stops,
     )
 }

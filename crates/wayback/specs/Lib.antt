@@ -2,9 +2,9 @@ pub mod Steps
 pub mod Lowest
 pub mod Sources
 pub mod Tight
-pub mod Joined
+pub mod Woven
 pub mod Rows
 pub mod On
-pub mod First
+pub mod Least
 pub mod Walked
 pub mod Ready

@@ -1,50 +1,53 @@
--- The walk back by a table that holds the tight edges: what it may rest on, and that its way is the one by the lent tables. Assumes nothing.
+-- The walk back along listed tight edges: what it may rest on, and where nothing is walked. Assumes nothing.
 use mathlib.Core.Path.{_≡_, refl, _∙_}
 use mathlib.Core.Bool.{cond, _&&_}
 use mathlib.Core.List.{List}
-use Prim.Native.Nat.{ℕ, _*_, _≤_, _<_}
+use Prim.Native.Nat.{ℕ, zero, suc, _≤_}
 use native.Mathlib.Omega.{arith}
 use lib.Dec.{ltb, eqb}
 use lib.ListN.{length, getD}
 use Rattle.leaf.specs.Price.{mark}
-use Rattle.leaf.specs.Settle.Walks.{Ranged}
-use Rattle.leaf.specs.Lent.{costBy, moveBy}
 use Rattle.search.specs.Node.Laws.{list-entry}
 use Rattle.search.specs.Plan.Depths.{depth0}
 use Rattle.search.specs.Plan.Laid.{laid}
-use Rattle.wayback.specs.Steps.{tightBy, rowsOf, depthsBy, backBy, wayBy, tableDepths, tableBack, Walkable, Tabled}
-use Rattle.wayback.specs.Sources.{Sourced, depths-length, depths-below, depths-bound, depths-ext, depths-sourced, back-ext}
-use Rattle.wayback.specs.Tight.{tight-le}
-use Rattle.wayback.specs.First.{Passable}
+use Rattle.wayback.specs.Steps.{tightBy, depthsBy, backBy, wayBy, tableDepths, tableBack, Walkable}
+use Rattle.wayback.specs.Sources.{Sourced, depths-length, depths-below, depths-bound, depths-sourced}
+use Rattle.wayback.specs.Tight.{tight-ranged}
+use Rattle.wayback.specs.Woven.{Backed}
+use Rattle.wayback.specs.Least.{AllMet, Guided, kept-first}
 use Rattle.wayback.specs.Walked.{Walked}
 
--- ---- by a table
+-- ---- along listed edges
 
-module _ (table acts : List ℕ) (m : ℕ) (B P : List ℕ) (y : ℕ) (w : Tabled table acts m B P y) where
-  -- its entries stay in range
-  ranged : Ranged (length P) m (rowsOf (length P) table)
-  ranged j x z h k e = omega (arith, w .stay j x h k)
+module _ (moves : List ℕ) (row at : ℕ) (acts index tight stops B P : List ℕ) (y : ℕ) (w : Backed moves row at acts index tight stops B P y)
+    (D : List ℕ) (made : D ≡ depthsBy (w .woven .edges) (w .woven .count) B P) where
+  -- there is a depth for each state
+  pub backed-length : length D ≡ length P
+  backed-length = rw made (depths-length (w .woven .edges) (w .woven .count) B P)
 
-  module _ (D : List ℕ) (made : D ≡ depthsBy (rowsOf (length P) table) m B P) where
-    -- there is a depth for each state, and each state of another depth than 0 has a source
-    pub table-length : length D ≡ length P
-    table-length = rw made (depths-length (rowsOf (length P) table) m B P)
+  -- there are few steps to walk
+  pub backed-few : getD D y mark ≤ 256
+  backed-few = rw made (omega (arith, depths-bound (w .woven .edges) (w .woven .count) B P y (w .deep), w .woven .few-states))
 
-    pub table-sourced : Sourced (length D) m (rowsOf (length D) table) D
-    table-sourced = rw (table-length, made) (depths-sourced (rowsOf (length P) table) m B P ranged)
+  -- each state keeps its first source
+  pub backed-sourced : Sourced (length D) (w .woven .count) (w .woven .edges) D
+  backed-sourced = rw (backed-length, made) (depths-sourced (w .woven .edges) (w .woven .count) B P (w .woven .ranged))
 
-    -- one pass can go over it
-    pub table-passable : Passable table m (length D)
-    table-passable = rw table-length (record { few-actions = w .few-actions; few-states = w .few-states; long = w .long; stay = w .stay })
+  abbrev pub backed-guided : (S : List ℕ) → AllMet moves row at index tight stops D (length D) S → Guided acts D S
+  backed-guided S met =
+      record {
+        count = w .woven .count;
+        edges = w .woven .edges;
+        acts-long = w .woven .acts-long;
+        few-states = rw backed-length (w .woven .few-states);
+        sourced = backed-sourced;
+        kept = λ k y h d l. kept-first moves row at acts index tight stops D (rw backed-length (w .woven)) S met k y h d (backed-sourced k y d l);
+      }
 
-    -- there are few steps to walk
-    pub table-few : getD D y mark ≤ 256
-    table-few = rw made (omega (arith, depths-bound (rowsOf (length P) table) m B P y (w .deep), w .few-states))
-
-    -- and the walk goes by these depths
-    pub table-way : backBy (rowsOf (length D) table) acts m (length D) D (getD D y mark) y ≡ wayBy (rowsOf (length P) table) acts m B P y
-    unfolding wayBy
-    table-way = rw (table-length, made)
+  -- and the walk goes by these depths
+  pub backed-way : backBy (w .woven .edges) acts (w .woven .count) (length D) D (getD D y mark) y ≡ wayBy (w .woven .edges) acts (w .woven .count) B P y
+  unfolding wayBy
+  backed-way = rw (backed-length, made)
 
 -- ---- by the tables that settling is lent
 
@@ -58,28 +61,14 @@ module _ (moves : List ℕ) (row at : ℕ) (costs acts : List ℕ) (m : ℕ) (B 
       let none : getD (tableDepths moves row at costs acts m B P) y mark ≡ 0 = omega (arith, depths-below (tightBy moves row at costs acts P) m B P y) in
       rw (none, backBy) (record { state = refl; place = omega arith; plan = refl })
 
-  module _ (table : List ℕ) (same : (j x : ℕ) → j < m → x < length P → rowsOf (length P) table j x ≡ tightBy moves row at costs acts P j x) where
-    -- a table of the tight edges will do
-    pub edges-tabled : m * length P ≤ length table → Tabled table acts m B P y
-    edges-tabled l =
-        record {
-          acts-long = w .lent .acts-long;
-          few-actions = w .few-actions;
-          few-states = w .few-states;
-          same = w .same;
-          inside = w .inside;
-          long = l;
-          stay = λ j x h k. omega (arith, same j x h k, tight-le P x (costBy costs acts j) (moveBy moves row at acts j x), w .lent .moves-in j x h k);
-          deep = rw (depths-ext _ m B P (tightBy moves row at costs acts P) same) (w .deep);
-        }
-
-    -- its way is the one by the lent tables
-    pub edges-way : m * length P ≤ length table → wayBy (rowsOf (length P) table) acts m B P y ≡ tableBack moves row at costs acts m B P y
-    unfolding wayBy
-    edges-way l =
-        let R = rowsOf (length P) table in
-        let T = tightBy moves row at costs acts P in
-        let t = edges-tabled l in
-        let D = depthsBy R m B P in
-        back-ext (length P) m R D T same (depths-sourced R m B P (ranged table acts m B P y t)) acts (getD D y mark) y refl (t .deep)
-        ∙ rw (depths-ext R m B P T same)
+  -- without an action, too
+  pub back-none : m ≡ 0 → (total p : ℕ) (plan : List ℕ) → Walked (tableBack moves row at costs acts m B P y) total p plan (record { state = y; place = p }) plan
+  unfolding wayBy backBy laid
+  back-none z total p plan = go (getD (tableDepths moves row at costs acts m B P) y mark) refl
+    where
+      go : (k : ℕ) → getD (tableDepths moves row at costs acts m B P) y mark ≡ k
+          → Walked (tableBack moves row at costs acts m B P y) total p plan (record { state = y; place = p }) plan
+      go zero e = rw (e, backBy) (record { state = refl; place = omega arith; plan = refl })
+      go (suc k) e =
+          let s = depths-sourced (tightBy moves row at costs acts P) m B P (tight-ranged moves row at costs acts m P (w .lent)) k y e (omega (arith, w .deep)) in
+          absurd (omega (arith, s .leads .below))

@@ -3,7 +3,7 @@
 use mathlib.Core.Path.{_≡_}
 use mathlib.Core.Bool.{Bool, cond, _&&_}
 use mathlib.Core.List.{List, [], _∷_, _++_}
-use Prim.Native.Nat.{ℕ, zero, suc, _+_, _*_, _≤_, _<_}
+use Prim.Native.Nat.{ℕ, zero, suc, _+_, _≤_, _<_}
 use lib.Dec.{eqb}
 use lib.ListN.{length, getD}
 use Rattle.loops.specs.Count.{any}
@@ -21,10 +21,6 @@ tightAt P x c (suc y) = cond (eqb (getD P x mark + c) (getD P y mark)) (suc y) 0
 -- the edges of the actions of a list, by the tables that settling is lent
 abbrev pub tightBy : List ℕ → ℕ → ℕ → List ℕ → List ℕ → List ℕ → ℕ → ℕ → ℕ
 tightBy moves row at costs acts P j x = tightAt P x (costBy costs acts j) (moveBy moves row at acts j x)
-
--- the edges of a table with n entries for each action
-abbrev pub rowsOf : ℕ → List ℕ → ℕ → ℕ → ℕ
-rowsOf n table j x = getD table (j * n + x) 0
 
 -- the depths by the edges of m actions, in a layer that began with prices B and has prices P
 unfoldable pub depthsBy : (ℕ → ℕ → ℕ) → ℕ → List ℕ → List ℕ → List ℕ
@@ -71,14 +67,3 @@ pub record Walkable (moves : List ℕ) (row at : ℕ) (costs acts : List ℕ) (m
   pub same : length B ≡ length P
   pub inside : y < length P
   pub deep : getD (tableDepths moves row at costs acts m B P) y mark < mark
-
--- what it needs of a table of the edges
-pub record Tabled (table acts : List ℕ) (m : ℕ) (B P : List ℕ) (y : ℕ) : Type 0 where
-  pub acts-long : m ≤ length acts
-  pub few-actions : m ≤ 255
-  pub few-states : length P ≤ 256
-  pub same : length B ≡ length P
-  pub inside : y < length P
-  pub long : m * length P ≤ length table
-  pub stay : (j x : ℕ) → j < m → x < length P → rowsOf (length P) table j x ≤ length P
-  pub deep : getD (depthsBy (rowsOf (length P) table) m B P) y mark < mark

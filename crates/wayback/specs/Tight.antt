@@ -48,6 +48,16 @@ module _ (P : List ℕ) (x c : ℕ) where
       go true = omega arith
       go false = omega arith
 
+-- a tight edge leads where the move leads
+pub tight-is : (P : List ℕ) (x c k y : ℕ) → tightAt P x c k ≡ suc y → k ≡ suc y
+unfolding tightAt
+tight-is P x c zero y e = omega arith
+tight-is P x c (suc z) y e = go (eqb (getD P x mark + c) (getD P z mark)) e
+  where
+    go : (b : Bool) → cond b (suc z) 0 ≡ suc y → suc z ≡ suc y
+    go true e = e
+    go false e = omega arith
+
 -- edges by lent tables stay in range
 pub tight-ranged : (moves : List ℕ) (row at : ℕ) (costs acts : List ℕ) (m : ℕ) (P : List ℕ) → Lent moves row at costs acts m (length P)
     → Ranged (length P) m (tightBy moves row at costs acts P)

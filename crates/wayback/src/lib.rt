@@ -1,22 +1,21 @@
 // The walk back of one leaf inside one layer: from a state to one that has kept the price that the layer began with, by actions at the right
 // price, each written into the plan as it is met.
+use edges::settle_along;
 use leaf::MARK;
-use leaf::settle;
 ghost use mathlib.Core.Path.{_≡_};
+ghost use mathlib.Core.Logic.{_⊎_};
 ghost use mathlib.Core.Bool.{cond, _&&_};
 ghost use Prim.Native.Nat.{ℕ, suc, _+_, _*_, _<_, _≤_};
 ghost use lib.Dec.{ltb, eqb};
-ghost use lib.ListN.{length, getD, replicate};
-ghost use Rattle.loops.specs.Count.{list};
+ghost use lib.ListN.{length, getD, drop, replicate};
 ghost use Rattle.leaf.specs.Price.{mark};
-ghost use Rattle.leaf.specs.Lent.{Lent};
+ghost use Rattle.edges.specs.Edges.{edgesAt, Ways, Meant, Aims};
 ghost use Rattle.search.specs.Plan.{lowest};
 ghost use Rattle.search.specs.Plan.Laid.{put};
 ghost use Rattle.search.specs.Plan.Depths.{depth0};
-ghost use Rattle.wayback.specs.Steps.{tightAt, tightBy, rowsOf, depthsBy, backBy, wayBy, tableBack, Walkable, Tabled};
-ghost use Rattle.wayback.specs.Sources.{Sourced};
-ghost use Rattle.wayback.specs.Joined.{Added, RowJoined, Joined};
-ghost use Rattle.wayback.specs.First.{keep, EdgeMet, RowMet, RowsMet, Passable};
+ghost use Rattle.wayback.specs.Steps.{tightAt, depthsBy, wayBy, backBy, tableBack, Walkable};
+ghost use Rattle.wayback.specs.Woven.{Indexed, Legible, edgeAt, Picked, Listed, Spread, Covers, Leading, Backed};
+ghost use Rattle.wayback.specs.Least.{EdgeMet, StateMet, AllMet, Guided};
 ghost use Rattle.wayback.specs.Walked.{Walked};
 
 // Where a walk back ends: the state, and the place of the next action.
@@ -44,94 +43,111 @@ fn tight_move(prices: &[u64], x: usize, cost: u64, to: u16) -> u16
     to
 }
 
-// An edge from state x to the state before `to` goes into the first row that has none from x. How many rows there are; 17 where 16 are too few.
-fn add_edge(joined: &mut [u16], degrees: &mut [u8], rows: usize, x: usize, to: u16) -> usize
-    requires { ⌜ (x < 256) × (4096 ≤ length (now joined)) × (x < length (now degrees)) ⌝ }
-    ensures { λ r. ⌜ Added (now (joined .entry)) (now (degrees .entry)) rows x to (now (joined .exit)) (now (degrees .exit)) r ⌝ }
+// Where each of the first `count` actions of a list stands there first, counted from 1; 0 for any other action.
+fn index_of(acts: &[u8], count: usize) -> [u8; 256]
+    requires { ⌜ (count ≤ length (now acts)) × (count ≤ 255) ⌝ }
+    ensures { λ r. ⌜ (length r ≡ 256) × Indexed (now (acts .entry)) count r ⌝ }
 {
-    if to == 0 {
-        return rows;
+    let mut index = [0u8; 256];
+    let mut j = count;
+    while j > 0 {
+        index[acts[j - 1] as usize] = j as u8;
+        j -= 1;
     }
-    let d = degrees[x] as usize;
-    if d >= 16 {
-        return 17;
-    }
-    joined[d * 256 + x] = to;
-    degrees[x] = (d + 1) as u8;
-    if rows > d {
-        return rows;
-    }
-    d + 1
+    index
 }
 
-// The edges of one action, whose moves begin at `from`. They go into the joined rows too: how many there are then.
-fn tight_row(
-    prices: &[u64],
-    moves: &[u16],
-    from: usize,
-    cost: u64,
-    out: &mut [u16],
-    joined: &mut [u16],
-    degrees: &mut [u8],
-    rows: usize,
-) -> usize
-    requires { ⌜ (length (now out) ≡ length (now prices)) × (from + length (now prices) ≤ length (now moves))
-        × ((x : ℕ) → x < length (now prices) → getD (now moves) (from + x) 0 ≤ length (now prices)) ⌝ }
-    requires { ⌜ (length (now prices) ≤ 256) × (4096 ≤ length (now joined)) × (length (now prices) ≤ length (now degrees)) ⌝ }
-    ensures { λ _. ⌜ now (out .exit)
-        ≡ list (length (now (prices .entry))) (λ x. tightAt (now (prices .entry)) x cost (getD (now (moves .entry)) (from + x) 0)) ⌝ }
-    ensures { λ r. ⌜ RowJoined (length (now (prices .entry))) (λ x. tightAt (now (prices .entry)) x cost (getD (now (moves .entry)) (from + x) 0))
-        (length (now (prices .entry))) (now (joined .entry)) (now (degrees .entry)) rows (now (joined .exit)) (now (degrees .exit)) r ⌝ }
-{
-    let mut r = rows;
-    for x in 0..prices.len() {
-        let to = tight_move(prices, x, cost, moves[from + x]);
-        out[x] = to;
-        r = add_edge(joined, degrees, r, x, to);
-    }
-    r
-}
-
-// The edges of the first `count` actions of a list, one row for each, at the front of `tight`, and all in few joined rows, where 16 are enough:
-// how many there are.
-fn tight_table(
+// The edge of an action from state x: where its move leads, if the action is in the list and the price there is right; else 0.
+fn edge_to(
     prices: &[u64],
     moves: &[u16],
     row: usize,
     at: usize,
     costs: &[u16],
-    acts: &[u8],
-    count: usize,
-    tight: &mut [u16],
-    joined: &mut [u16],
-) -> usize
-    requires { ⌜ Lent (now moves) row at (now costs) (now acts) count (length (now prices)) × (0 < length (now prices))
-        × (count * length (now prices) ≤ length (now tight)) ⌝ }
-    requires { ⌜ (length (now prices) ≤ 256) × (now joined ≡ replicate 4096 0) ⌝ }
-    ensures { λ _. ⌜ ((j x : ℕ) → j < count → x < length (now (prices .entry)) → rowsOf (length (now (prices .entry))) (now (tight .exit)) j x
-        ≡ tightBy (now (moves .entry)) row at (now (costs .entry)) (now (acts .entry)) (now (prices .entry)) j x) ⌝ }
-    ensures { λ r. ⌜ (r ≤ 16 → Joined (length (now (prices .entry))) count
-        (tightBy (now (moves .entry)) row at (now (costs .entry)) (now (acts .entry)) (now (prices .entry))) (now (joined .exit)) r) ⌝ }
+    index: &[u8],
+    action: usize,
+    x: usize,
+) -> u16
+    requires { ⌜ (x < length (now prices)) × (action < length (now index))
+        × Legible (now moves) row at (now costs) (now index) (length (now prices)) ⌝ }
+    ensures { λ r. ⌜ r ≡ edgeAt (now (moves .entry)) row at (now (costs .entry)) (now (index .entry)) (now (prices .entry)) action x ⌝ }
 {
-    let n = prices.len();
-    let mut degrees = [0u8; 256];
-    let mut rows = 0;
-    for j in 0..count {
-        let a = acts[j] as usize;
-        let cost = costs[a] as u64;
-        let from = j * n;
-        rows = tight_row(
+    if index[action] == 0 {
+        return 0;
+    }
+    tight_move(
+        prices,
+        x,
+        costs[action] as u64,
+        moves[action * row + (at + x)],
+    )
+}
+
+// The tight edges of state x, of these actions, go behind the first `from` entries of `tight`. How many entries there are then.
+fn tight_state(
+    prices: &[u64],
+    moves: &[u16],
+    row: usize,
+    at: usize,
+    costs: &[u16],
+    index: &[u8],
+    acts: &[u8],
+    x: usize,
+    tight: &mut [u8],
+    from: usize,
+) -> usize
+    requires { ⌜ (x < length (now prices)) × (length (now index) ≡ 256) × (from + length (now acts) ≤ length (now tight))
+        × Legible (now moves) row at (now costs) (now index) (length (now prices)) ⌝ }
+    ensures { λ r. ⌜ Picked (λ a. edgeAt (now (moves .entry)) row at (now (costs .entry)) (now (index .entry)) (now (prices .entry)) a x)
+        (now (acts .entry)) (length (now (acts .entry))) from (now (tight .entry)) r (now (tight .exit)) ⌝ }
+{
+    let mut end = from;
+    for k in 0..acts.len() {
+        let a = acts[k];
+        if edge_to(prices, moves, row, at, costs, index, a as usize, x) != 0 {
+            tight[end] = a;
+            end += 1;
+        }
+    }
+    end
+}
+
+// The tight edges of all states: those of state x stand from `stops[x]` to `stops[x + 1]`.
+fn tight_edges(
+    prices: &[u64],
+    moves: &[u16],
+    row: usize,
+    at: usize,
+    costs: &[u16],
+    index: &[u8],
+    edges: &[u8],
+    ends: &[usize],
+    tight: &mut [u8],
+    stops: &mut [usize],
+)
+    requires { ⌜ (length (now index) ≡ 256) × (length (now prices) < length (now stops)) × (getD (now stops) 0 0 ≡ 0)
+        × Legible (now moves) row at (now costs) (now index) (length (now prices))
+        × Spread (now edges) (now ends) at (length (now prices)) (length (now tight)) ⌝ }
+    ensures { λ _. ⌜ (getD (now (stops .exit)) (length (now (prices .entry))) 0 ≤ length (now (tight .entry)))
+        × Listed (edgeAt (now (moves .entry)) row at (now (costs .entry)) (now (index .entry)) (now (prices .entry)))
+        (λ x. edgesAt (now (edges .entry)) (now (ends .entry)) (at + x)) (length (now (prices .entry))) (now (tight .exit)) (now (stops .exit)) ⌝ }
+{
+    for x in 0..prices.len() {
+        let from = ends[at + x];
+        let to = ends[at + x + 1];
+        stops[x + 1] = tight_state(
             prices,
             moves,
-            a * row + at,
-            cost,
-            &mut tight[from..from + n],
-            joined,
-            &mut degrees,
-            rows,
+            row,
+            at,
+            costs,
+            index,
+            &edges[from..to],
+            x,
+            tight,
+            stops[x],
         );
     }
-    rows
 }
 
 // The depth of state x where depths begin: 0 where it has kept its price, else the mark.
@@ -160,42 +176,29 @@ fn first_depths(begins: &[u64], prices: &[u64], depths: &mut [u64])
     }
 }
 
-// The numbers from 0 on.
-fn numbers() -> [u8; 256]
-    ensures { λ r. ⌜ r ≡ list 256 (λ j. j) ⌝ }
-{
-    let mut all = [0u8; 256];
-    for j in 0..256usize {
-        all[j] = j as u8;
-    }
-    all
-}
-
-// The depths of all states, by the edges of `count` actions: along the joined rows where 16 are enough, else along all rows.
+// The depths of all states, along the tight edges.
 fn depths_of(
     begins: &[u64],
     prices: &[u64],
-    tight: &[u16],
-    count: usize,
-    joined: &[u16],
-    rows: usize,
+    moves: &[u16],
+    row: usize,
+    at: usize,
+    index: &[u8],
+    tight: &[u8],
+    stops: &[usize],
     depths: &mut [u64],
 )
     requires { ⌜ (length (now begins) ≡ length (now prices)) × (length (now depths) ≡ length (now prices)) × (length (now prices) ≤ 256)
-        × (count ≤ 255) × (count * length (now prices) ≤ length (now tight))
-        × ((j x : ℕ) → j < count → x < length (now prices) → rowsOf (length (now prices)) (now tight) j x ≤ length (now prices)) ⌝ }
-    requires { ⌜ (rows ≤ 16 → Joined (length (now prices)) count (rowsOf (length (now prices)) (now tight)) (now joined) rows) ⌝ }
-    ensures { λ _. ⌜ now (depths .exit)
-        ≡ depthsBy (rowsOf (length (now (prices .entry))) (now (tight .entry))) count (now (begins .entry)) (now (prices .entry)) ⌝ }
+        × (at ≤ length (now moves)) ⌝ }
+    requires { ⌜ Ways (drop at (now moves)) row 0 (replicate 256 1) (now index) (now tight) (now stops) (length (now prices))
+        × Aims (drop at (now moves)) row 0 (replicate 256 1) (now index) (now tight) (now stops) (length (now prices)) ⌝ }
+    ensures { λ _. ⌜ ((m : ℕ) (to : ℕ → ℕ → ℕ)
+        → Meant (drop at (now (moves .entry))) row 0 (replicate 256 1) (now (index .entry)) (now (tight .entry)) (now (stops .entry))
+        (length (now (prices .entry))) m (λ j. 1) to → now (depths .exit) ≡ depthsBy to m (now (begins .entry)) (now (prices .entry))) ⌝ }
 {
     first_depths(begins, prices, depths);
     let ones = [1u16; 256];
-    let acts = numbers();
-    if rows <= 16 {
-        settle(depths, joined, 256, 0, &ones, &acts, rows);
-        return;
-    }
-    settle(depths, tight, prices.len(), 0, &ones, &acts, count);
+    settle_along(depths, &moves[at..], row, 0, &ones, index, tight, stops);
 }
 
 // Whether a move leads to the state before `next` from a state of price p (or depth p).
@@ -223,24 +226,23 @@ fn lowest_source(row: &[u16], depths: &[u64], k: u64, y: usize) -> usize
     depths.len()
 }
 
-// What a state of depth q keeps of its sources: `kept`, or else `place` where that is met from a state of depth p, one less.
-fn keep_first(kept: u16, p: u64, q: u64, place: u16) -> u16
-    ensures { λ r. ⌜ r ≡ keep kept (eqb (suc p) q) place ⌝ }
+// What a state of depth q keeps of its sources: the lower of `kept` and `place`, where that is met from a state of depth p, one less.
+fn keep_lower(kept: u16, p: u64, q: u64, place: u16) -> u16
+    ensures { λ r. ⌜ (suc p ≡ q → (r ≤ kept) × (r ≤ place) × ((r ≡ kept) ⊎ (r ≡ place))) × ((suc p ≡ q → ⊥) → r ≡ kept) ⌝ }
 {
-    if kept != 0 {
+    if q == 0 {
         return kept;
     }
-    if q == 0 {
-        return 0;
+    if q - 1 != p {
+        return kept;
     }
-    let less = q - 1;
-    if less != p {
-        return 0;
+    if kept < place {
+        return kept;
     }
     place
 }
 
-// An edge to the state before `to`, from a state of depth p, is met: that state keeps it where it is its first from depth one less.
+// An edge to the state before `to`, from a state of depth p, is met: that state keeps it where it is its lowest from depth one less.
 fn meet(to: u16, p: u64, place: u16, depths: &[u64], sources: &mut [u16])
     requires { ⌜ (to ≤ length (now depths)) × (length (now depths) ≤ length (now sources)) ⌝ }
     ensures { λ _. ⌜ EdgeMet to p place (now (depths .entry)) (now (sources .entry)) (now (sources .exit)) ⌝ }
@@ -249,31 +251,63 @@ fn meet(to: u16, p: u64, place: u16, depths: &[u64], sources: &mut [u16])
         return;
     }
     let y = to as usize - 1;
-    sources[y] = keep_first(sources[y], p, depths[y], place);
+    sources[y] = keep_lower(sources[y], p, depths[y], place);
 }
 
-// The edges of one row, which begins at place `from`, are met.
-fn sources_row(row: &[u16], from: usize, depths: &[u64], sources: &mut [u16])
-    requires { ⌜ (length (now row) ≡ length (now depths)) × (length (now depths) ≤ length (now sources)) × (from + length (now depths) ≤ 65280)
-        × ((x : ℕ) → x < length (now depths) → getD (now row) x 0 ≤ length (now depths)) ⌝ }
-    ensures { λ _. ⌜ RowMet (now (row .entry)) (now (depths .entry)) from (now (sources .entry)) (length (now (depths .entry))) (now (sources .exit)) ⌝ }
+// The edges of state x, of these actions, are met.
+fn sources_state(
+    moves: &[u16],
+    row: usize,
+    at: usize,
+    index: &[u8],
+    acts: &[u8],
+    x: usize,
+    depths: &[u64],
+    sources: &mut [u16],
+)
+    requires { ⌜ (x < length (now depths)) × (length (now depths) ≤ 256) × (length (now depths) ≤ length (now sources))
+        × Leading (now moves) row at (now index) (now acts) x (length (now depths)) ⌝ }
+    ensures { λ _. ⌜ StateMet (now (moves .entry)) row at (now (index .entry)) (now (acts .entry)) (now (depths .entry)) x (length (now (acts .entry)))
+        (now (sources .entry)) (now (sources .exit)) ⌝ }
 {
-    for x in 0..depths.len() {
-        let place = (from + x + 1) as u16;
-        meet(row[x], depths[x], place, depths, sources);
+    let p = depths[x];
+    for k in 0..acts.len() {
+        let a = acts[k] as usize;
+        let place = (index[a] as usize - 1) * 256 + x;
+        meet(moves[a * row + (at + x)], p, place as u16, depths, sources);
     }
 }
 
-// The first source of each state by a table of the edges of `count` actions: one more than its place there, 0 where there is none.
-fn sources_table(tight: &[u16], depths: &[u64], count: usize) -> [u16; 256]
-    requires { ⌜ Passable (now tight) count (length (now depths)) ⌝ }
-    ensures { λ r. ⌜ RowsMet (now (tight .entry)) (now (depths .entry)) count r ⌝ }
+// The lowest source of each state: 256 times the place of its action in the list, and the state that it leads from; 65,535 where there is none.
+fn sources_of(
+    moves: &[u16],
+    row: usize,
+    at: usize,
+    index: &[u8],
+    tight: &[u8],
+    stops: &[usize],
+    depths: &[u64],
+) -> [u16; 256]
+    requires { ⌜ (length (now depths) ≤ 256) × (length (now depths) < length (now stops))
+        × ((x : ℕ) → x < length (now depths) → (getD (now stops) x 0 ≤ getD (now stops) (x + 1) 0) × (getD (now stops) (x + 1) 0 ≤ length (now tight))
+        × Leading (now moves) row at (now index) (edgesAt (now tight) (now stops) x) x (length (now depths))) ⌝ }
+    ensures { λ r. ⌜ (length r ≡ 256) × AllMet (now (moves .entry)) row at (now (index .entry)) (now (tight .entry)) (now (stops .entry)) (now (depths .entry))
+        (length (now (depths .entry))) r ⌝ }
 {
-    let n = depths.len();
-    let mut sources = [0u16; 256];
-    for j in 0..count {
-        let from = j * n;
-        sources_row(&tight[from..from + n], from, depths, &mut sources);
+    let mut sources = [65535u16; 256];
+    for x in 0..depths.len() {
+        let from = stops[x];
+        let to = stops[x + 1];
+        sources_state(
+            moves,
+            row,
+            at,
+            index,
+            &tight[from..to],
+            x,
+            depths,
+            &mut sources,
+        );
     }
     sources
 }
@@ -289,63 +323,62 @@ pub fn put(plan: &mut [u8], total: usize, place: usize, action: u8)
     plan[total - (place + 1)] = action;
 }
 
-// From a state back to one of depth 0: at each step the first action with a source, its lowest source, and the action into the plan. One pass over
-// the table finds them for all states.
+// From a state back to one of depth 0: at each step the first action with a source, its lowest source, and the action into the plan.
 fn walk(
-    tight: &[u16],
+    sources: &[u16],
     acts: &[u8],
-    count: usize,
     depths: &[u64],
     state: usize,
     plan: &mut [u8],
     total: usize,
     place: usize,
 ) -> Ended
-    requires { ⌜ (state < length (now depths)) × (count ≤ length (now acts)) × Passable (now tight) count (length (now depths))
-        × Sourced (length (now depths)) count (rowsOf (length (now depths)) (now tight)) (now depths)
+    requires { ⌜ (state < length (now depths)) × Guided (now acts) (now depths) (now sources) × (length (now depths) ≤ length (now sources))
         × (getD (now depths) state mark ≤ 256) × (total ≤ length (now plan)) × (place + 256 ≤ mark) ⌝ }
-    ensures { λ r. ⌜ Walked (backBy (rowsOf (length (now (depths .entry))) (now (tight .entry))) (now (acts .entry)) count (length (now (depths .entry)))
-        (now (depths .entry)) (getD (now (depths .entry)) state mark) state) total place (now (plan .entry)) r (now (plan .exit)) ⌝ }
+    ensures { λ r. ⌜ ((g : Guided (now (acts .entry)) (now (depths .entry)) (now (sources .entry)))
+        → Walked (backBy (g .edges) (now (acts .entry)) (g .count) (length (now (depths .entry))) (now (depths .entry))
+        (getD (now (depths .entry)) state mark) state) total place (now (plan .entry)) r (now (plan .exit))) ⌝ }
 {
-    let n = depths.len();
-    let sources = sources_table(tight, depths, count);
     let mut y = state;
     let mut k = depths[state];
     let mut p = place;
     while k > 0 {
         k -= 1;
-        let e = sources[y] as usize - 1;
-        y = e % n;
-        put(plan, total, p, acts[e / n]);
+        let e = sources[y] as usize;
+        y = e % 256;
+        put(plan, total, p, acts[e / 256]);
         p += 1;
     }
     Ended { state: y, place: p }
 }
 
-// From a state back to one of depth 0, by a table of the edges and the rows that they are joined in; the depths are written over what is lent for
-// them.
-fn table_back(
+// From a state back to one of depth 0, along the tight edges; the depths are written over what is lent for them.
+fn tight_back(
+    moves: &[u16],
+    row: usize,
+    at: usize,
+    acts: &[u8],
+    index: &[u8],
+    tight: &[u8],
+    stops: &[usize],
     begins: &[u64],
     prices: &[u64],
-    tight: &[u16],
-    acts: &[u8],
-    count: usize,
-    joined: &[u16],
-    rows: usize,
     state: usize,
     depths: &mut [u64],
     plan: &mut [u8],
     total: usize,
     place: usize,
 ) -> Ended
-    requires { ⌜ Tabled (now tight) (now acts) count (now begins) (now prices) state × (length (now depths) ≡ length (now prices))
-        × (total ≤ length (now plan)) × (place + 256 ≤ mark) ⌝ }
-    requires { ⌜ (rows ≤ 16 → Joined (length (now prices)) count (rowsOf (length (now prices)) (now tight)) (now joined) rows) ⌝ }
-    ensures { λ r. ⌜ Walked (wayBy (rowsOf (length (now (prices .entry))) (now (tight .entry))) (now (acts .entry)) count (now (begins .entry))
-        (now (prices .entry)) state) total place (now (plan .entry)) r (now (plan .exit)) ⌝ }
+    requires { ⌜ Backed (now moves) row at (now acts) (now index) (now tight) (now stops) (now begins) (now prices) state
+        × (length (now depths) ≡ length (now prices)) × (at ≤ length (now moves)) × (total ≤ length (now plan)) × (place + 256 ≤ mark) ⌝ }
+    ensures { λ r. ⌜ ((w : Backed (now (moves .entry)) row at (now (acts .entry)) (now (index .entry)) (now (tight .entry)) (now (stops .entry))
+        (now (begins .entry)) (now (prices .entry)) state)
+        → Walked (wayBy (w .woven .edges) (now (acts .entry)) (w .woven .count) (now (begins .entry)) (now (prices .entry)) state)
+        total place (now (plan .entry)) r (now (plan .exit))) ⌝ }
 {
-    depths_of(begins, prices, tight, count, joined, rows, depths);
-    walk(tight, acts, count, &depths[..], state, plan, total, place)
+    depths_of(begins, prices, moves, row, at, index, tight, stops, depths);
+    let sources = sources_of(moves, row, at, index, tight, stops, &depths[..]);
+    walk(&sources, acts, &depths[..], state, plan, total, place)
 }
 
 // From a state of a settled layer back to one that has kept the price that the layer began with. `tight` is only lent to work in.
@@ -356,44 +389,52 @@ pub fn leaf_back(
     costs: &[u16],
     acts: &[u8],
     count: usize,
+    edges: &[u8],
+    ends: &[usize],
     begins: &[u64],
     prices: &[u64],
     state: usize,
-    tight: &mut [u16],
+    tight: &mut [u8],
     plan: &mut [u8],
     total: usize,
     place: usize,
 ) -> Ended
     requires { ⌜ Walkable (now moves) row at (now costs) (now acts) count (now begins) (now prices) state
-        × (count * length (now prices) ≤ length (now tight)) × (total ≤ length (now plan)) × (place + 256 ≤ mark) ⌝ }
+        × (total ≤ length (now plan)) × (place + 256 ≤ mark) ⌝ }
+    requires { ⌜ Covers (now edges) (now ends) (now moves) row at (now acts) count (length (now prices))
+        × Spread (now edges) (now ends) at (length (now prices)) (length (now tight)) ⌝ }
     ensures { λ r. ⌜ Walked (tableBack (now (moves .entry)) row at (now (costs .entry)) (now (acts .entry)) count (now (begins .entry))
         (now (prices .entry)) state) total place (now (plan .entry)) r (now (plan .exit)) ⌝ }
 {
-    if first_depth(begins, prices, state) == 0 {
+    if count == 0 {
         return Ended { state, place };
     }
-    let mut joined = [0u16; 4096];
-    let rows = tight_table(
+    let index = index_of(acts, count);
+    let mut stops: [usize; 257] = [0; 257];
+    tight_edges(
         prices,
         moves,
         row,
         at,
         costs,
-        acts,
-        count,
+        &index,
+        edges,
+        ends,
         tight,
-        &mut joined,
+        &mut stops,
     );
     let mut depths = [0u64; 256];
     let n = prices.len();
-    table_back(
+    tight_back(
+        moves,
+        row,
+        at,
+        acts,
+        &index,
+        &tight[..],
+        &stops,
         begins,
         prices,
-        &tight[..],
-        acts,
-        count,
-        &joined,
-        rows,
         state,
         &mut depths[..n],
         plan,

@@ -1,6 +1,5 @@
--- `edges::settle_leaf` meets its contract. The invariant: for any actions that lead where the leaf's edges do, no price is above its start price,
--- each is what a walk costs, and no action leads from a clean state to one at less than its price. The enabled actions are such actions. The sum of
--- the prices falls with each turn. Where no edge has its flag set, the enabled actions lead nowhere. Assumes nothing.
+-- `edges::settle_leaf` meets its contract. The enabled actions lead where the leaf's edges do; where no edge has its flag set they lead nowhere.
+-- Assumes nothing.
 use mathlib.Core.Path.{_≡_, refl, _∙_}
 use mathlib.Core.Bool.{true≢false}
 use mathlib.Core.List.{List}
@@ -12,7 +11,6 @@ use borrow.Author.Needs.{needs}
 use borrow.Author.Tests.{not-true}
 use Rattle.leaf.specs.Price.{mark}
 use Rattle.leaf.specs.Settle.Turns.{at-most}
-use Rattle.leaf.specs.Settle.Sweeps.{total, Sweeping, sweeping-start, sweeping-end}
 use Rattle.leaf.specs.Lent.{costBy, moveBy}
 use Rattle.layer.specs.Board.{Board, rowOn, baseOn, enabledOn}
 use Rattle.layer.specs.Board.Turns.{base-in, leaf-settled}
@@ -23,47 +21,35 @@ use Rattle.edges.specs.Edges.Still.{leaf-part, leaf-unmet, still-settled
 use Rattle.edges.proofs.settle_leaf.Statement.{statement}
 use Rattle.edges.proofs.settle_leaf.Tie as tie
 
-abbrev Inv-loop : tie.InvT-loop
-Inv-loop leaves actions bases moves costs kinds conditions mets edges ends i prices₀ row at from to dirty₀ prices dirty =
-    (length prices ≡ length prices₀) × (length dirty ≡ 256)
-    × ((m : ℕ) (cost : ℕ → ℕ) (to : ℕ → ℕ → ℕ) → Meant moves row at costs mets edges ends (length prices₀) m cost to
-    → Sweeping mark (length prices₀) m cost to prices₀ prices dirty)
-
-abbrev μ-loop : tie.MeasureT-loop
-μ-loop leaves actions bases moves costs kinds conditions mets edges ends i prices₀ row at from to dirty₀ prices dirty = total prices
-
-mul-row : tie.Need-mul-row Inv-loop μ-loop
+mul-row : tie.Need-mul-row
 mul-row c = search needs
 
-shared-slice-read-row : tie.Need-shared-slice-read-row Inv-loop μ-loop
+shared-slice-read-row : tie.Need-shared-slice-read-row
 shared-slice-read-row c = search needs
 
-mul-at : tie.Need-mul-at Inv-loop μ-loop
+mul-at : tie.Need-mul-at
 mul-at c = search needs
 
-shared-slice-read-at : tie.Need-shared-slice-read-at Inv-loop μ-loop
+shared-slice-read-at : tie.Need-shared-slice-read-at
 shared-slice-read-at c = search needs
 
--- where the function starts, from where its slices are known and from the first turn; the Board that is lent; the enabled actions of the leaf
-abbrev entry : tie.After-slice-known Inv-loop μ-loop → tie.Start Inv-loop μ-loop
+-- where the function starts, from where its slices are known; the Board that is lent; the enabled actions of the leaf
+abbrev entry : tie.After-slice-known → tie.Start
 entry t = t .before .before .before .before .before .before .before .before .before
 
-abbrev known : tie.After-shared-slice-known13 Inv-loop μ-loop → tie.After-slice-known Inv-loop μ-loop
+abbrev known : tie.After-shared-slice-known13 → tie.After-slice-known
 known t = t .before .before .before .before .before
 
-abbrev opened : tie.At-loop Inv-loop μ-loop → tie.After-slice-known Inv-loop μ-loop
-opened t = known (t .before .before .before .before)
-
-abbrev board : tie.Start Inv-loop μ-loop → Board
+abbrev board : tie.Start → Board
 board s =
     let a = s .args in
     boardOf (a .leaves) (a .actions) (a .bases .now) (a .moves .now) (a .costs .now) (a .kinds .now) (a .factors) (a .conditions .now)
 
-abbrev acts : tie.Start Inv-loop μ-loop → List ℕ
+abbrev acts : tie.Start → List ℕ
 acts s = enabledOn (board s) (s .args .i) (s .args .centre) (s .args .actions)
 
 -- the enabled actions lead where the leaf's edges do
-meant : (s : tie.Start Inv-loop μ-loop) →
+meant : (s : tie.Start) →
     let a = s .args in
     let b = board s in
     Meant (a .moves .now) (rowOn b) (baseOn b (a .i)) (a .costs .now) (a .mets .now) (a .edges .now) (a .ends .now) (length (a .prices .now))
@@ -73,7 +59,7 @@ meant s =
     rw (s .pre .4) (leaf-meant (board s) (s .pre .0) (a .edges .now) (a .ends .now) (s .pre .2) (a .i) (s .pre .3) (a .centre) (a .mets .now) (s .pre .1))
 
 -- the leaf's edges lie within the table
-part : (s : tie.Start Inv-loop μ-loop) →
+part : (s : tie.Start) →
     let a = s .args in
     let b = board s in
     (baseOn b (a .i + 1) < length (a .ends .now)) × (getD (a .ends .now) (baseOn b (a .i)) 0 ≤ getD (a .ends .now) (baseOn b (a .i + 1)) 0)
@@ -81,47 +67,47 @@ part : (s : tie.Start Inv-loop μ-loop) →
 part s = leaf-part (board s) (s .pre .0) (s .args .edges .now) (s .args .ends .now) (s .pre .2) (s .args .i) (s .pre .3)
 
 -- the leaf's states begin and end among the few states that there are
-early : (s : tie.Start Inv-loop μ-loop) →
+early : (s : tie.Start) →
     let b = board s in
     (baseOn b (s .args .i) ≤ baseOn b (s .args .i + 1)) × (baseOn b (s .args .i + 1) ≤ 1024)
 early s =
     let sound = s .pre .0 in
     (sound .bases-rise (s .args .i) (s .pre .3), le-trans (base-in (board s) sound (s .args .i) (s .pre .3)) (sound .few-all))
 
-mul-from : tie.Need-mul-from Inv-loop μ-loop
+mul-from : tie.Need-mul-from
 mul-from c = omega (arith, early (entry (c .before .before)))
 
-shared-slice-read-from : tie.Need-shared-slice-read-from Inv-loop μ-loop
+shared-slice-read-from : tie.Need-shared-slice-read-from
 shared-slice-read-from c = let s = entry (c .before .before .before) in omega (arith, part s .0, early s)
 
-add-to : tie.Need-add-to Inv-loop μ-loop
+add-to : tie.Need-add-to
 add-to c = search needs
 
-mul-to : tie.Need-mul-to Inv-loop μ-loop
+mul-to : tie.Need-mul-to
 mul-to c = search needs
 
-shared-slice-read-to : tie.Need-shared-slice-read-to Inv-loop μ-loop
+shared-slice-read-to : tie.Need-shared-slice-read-to
 shared-slice-read-to c = search needs
 
-mul-to-2 : tie.Need-mul-to-2 Inv-loop μ-loop
+mul-to-2 : tie.Need-mul-to-2
 mul-to-2 c = omega (arith, early (entry (c .before .before .before .before)))
 
-shared-slice-read-to-2 : tie.Need-shared-slice-read-to-2 Inv-loop μ-loop
+shared-slice-read-to-2 : tie.Need-shared-slice-read-to-2
 shared-slice-read-to-2 c = part (entry (known c)) .0
 
-sub-some-met : tie.Need-sub-some-met Inv-loop μ-loop
+sub-some-met : tie.Need-sub-some-met
 sub-some-met c = part (entry (known c)) .1
 
-part-some-met-start : tie.Need-part-some-met-start Inv-loop μ-loop
+part-some-met-start : tie.Need-part-some-met-start
 part-some-met-start c = part (entry (known c)) .1
 
-part-some-met-end : tie.Need-part-some-met-end Inv-loop μ-loop
+part-some-met-end : tie.Need-part-some-met-end
 part-some-met-end c = part (entry (known c)) .2
 
-some-met-requires : tie.Need-some-met-requires Inv-loop μ-loop
+some-met-requires : tie.Need-some-met-requires
 some-met-requires c κs = omega (arith, entry (known (c .before)) .pre .1 .long)
 
-returns : tie.Need-returns Inv-loop μ-loop
+returns : tie.Need-returns
 returns c =
     let t = known (c .before .before .before) in
     let s = entry t in
@@ -133,82 +119,26 @@ returns c =
     (at-most mark P (λ i. omega (arith, t .slice-known .given i))) in
     (still ∙ leaf-settled (board s) (a .i) (a .centre) (acts s) _ refl refl P, λ _. refl)
 
-loop-holds : tie.Need-loop-holds Inv-loop μ-loop
-loop-holds c =
-    let t = known (c .before .before .before) in
-    let s = entry t in
-    let P = s .args .prices .now in (
-      refl,
-      refl,
-      λ m cost to _. sweeping-start mark _ _ _ _ P 256 refl (omega (arith, s .pre .4, s .pre .0 .few-states (s .args .i) (s .pre .3)))
-          (at-most mark P (λ i. omega (arith, t .slice-known .given i))),
-    )
-
-slice-aggregate-sweep : tie.Need-slice-aggregate-sweep Inv-loop μ-loop
-slice-aggregate-sweep c = omega (arith, c .before .before .loop .inv .1)
-
-sweep-requires : tie.Need-sweep-requires Inv-loop μ-loop
-sweep-requires c κs =
-    let l = c .before .before .loop in
-    let s = entry (opened (c .before .before)) in
+-- the edges can be followed
+settle-along-requires : tie.Need-settle-along-requires
+settle-along-requires c κs =
+    let s = entry (known (c .before .before .before .before)) in
     let a = s .args in
     let ways = leaf-ways (board s) (s .pre .0) (a .edges .now) (a .ends .now) (s .pre .2) (a .i) (s .pre .3) (a .mets .now) (s .pre .1 .long) in
-    (omega (arith, l .inv .0, l .inv .1, s .pre .4, s .pre .0 .few-states (a .i) (s .pre .3)), rw (l .inv .0, s .pre .4) ways)
+    (omega (arith, s .pre .4, s .pre .0 .few-states (a .i) (s .pre .3)), rw (s .pre .4) ways, record { count = _; cost = _; to = _; meant = meant s })
 
-loop-less : tie.Need-loop-less Inv-loop μ-loop
-loop-less c =
-    let called = c .before .before .before .before in
-    let t = called .before .before .before in
-    (rw (t .loop .inv .0) at (called .sweep .ensures)) _ _ _ (meant (entry (opened t))) .falls (c .if2 .taken)
+same-length : tie.Need-same-length
+same-length c = search needs
 
-loop-again : tie.Need-loop-again Inv-loop μ-loop
-loop-again c =
-    let called = c .before .before .before .before in
-    let l = called .before .before .before .loop in
-    let told = rw (l .inv .0) at (called .sweep .ensures) in (
-      called .sweep .kept .0 ∙ l .inv .0,
-      called .sweep .kept .1 .0 ∙ l .inv .1,
-      λ m cost to h. told m cost to h .keeps _ (l .inv .2 m cost to h),
-    )
-
-same-length : tie.Need-same-length Inv-loop μ-loop
-same-length c =
-    let called = c .before .before .before .before in
-    called .sweep .kept .0 ∙ called .before .before .before .loop .inv .0
-
-returns-2 : tie.Need-returns-2 Inv-loop μ-loop
+returns-2 : tie.Need-returns-2
 returns-2 c =
-    let called = c .before .before .before .before in
-    let t = called .before .before .before in
-    let k = opened t in
-    let s = entry k in
-    let P = s .args .prices .now in
-    let told = rw (t .loop .inv .0) at (called .sweep .ensures) in
-    let end = sweeping-end
-    mark
-    _
-    _
-    _
-    _
-    (meant s .ranged)
-    P
-    _
-    _
-    _
-    _
-    refl
-    (at-most mark P (λ i. omega (arith, k .slice-known .given i)))
-    (t .loop .inv .2 _ _ _ (meant s))
-    (told _ _ _ (meant s))
-    (c .if2 .left) in
-    (end ∙ leaf-settled (board s) (s .args .i) (s .args .centre) (acts s) _ refl refl P, λ e. absurd (true≢false e))
+    let s = entry (known (c .before .before .before .before .before .before .before)) in
+    (c .before .before .settle-along .ensures _ _ _ (meant s) ∙ leaf-settled (board s) (s .args .i) (s .args .centre) (acts s) _ refl refl (s .args .prices .now), λ e. absurd (true≢false e))
 
 pub settle-leaf-spec : {M : Type 1} → statement M
 settle-leaf-spec =
     tie.close
     (tie.spec
-    Inv-loop
-    μ-loop
     mul-row
     shared-slice-read-row
     mul-at
@@ -225,10 +155,6 @@ settle-leaf-spec =
     part-some-met-end
     some-met-requires
     returns
-    loop-holds
-    slice-aggregate-sweep
-    sweep-requires
-    loop-less
-    loop-again
+    settle-along-requires
     same-length
     returns-2)

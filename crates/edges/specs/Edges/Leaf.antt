@@ -82,7 +82,7 @@ module _ (b : Board) (sound : Sound b) (edges ends : List ℕ) (table : Edges b 
             };
       }
 
-  module _ (c : Centre) (mets : List ℕ) (flags : Mets b c mets) where
+  module _ (c : Centre) where
     abbrev E : List ℕ
     E = enabledOn b i c (b .actions)
 
@@ -94,33 +94,42 @@ module _ (b : Board) (sound : Sound b) (edges ends : List ℕ) (table : Edges b 
     enabled-has : (a : ℕ) → a < b .actions → (eqb (getD (b .kinds) a 0) (i + 1) && metOn b c a) ≡ true → Placed E a
     enabled-has a k e = rw (enabled-those b i c (b .actions)) (those-has _ (b .actions) a k e)
 
-    -- an enabled action is an edge of each state that it moves
-    out : (x : ℕ) → x < statesOn b i →
-        let acts = edgesAt edges ends (baseOn b i + x) in
-        Covered (length E) (costBy (b .costs) E) (moveBy (b .moves) (rowOn b) (baseOn b i) E)
-        (length acts) (costBy (b .costs) acts) (moveMet (b .moves) (rowOn b) (baseOn b i) mets acts) x
-    out x h j y k e =
+    -- an enabled action is among the edges of each state that it moves
+    pub leaf-placed : (x j y : ℕ) → x < statesOn b i → j < length E → moveBy (b .moves) (rowOn b) (baseOn b i) E j x ≡ suc y
+        → Placed (edgesAt edges ends (baseOn b i + x)) (getD E j 0)
+    leaf-placed x j y h k e =
         let t = enabled-at j k in
         let s = and-out (eqb (getD (b .kinds) (getD E j 0) 0) (i + 1)) (metOn b c (getD E j 0)) (t .1) in
-        let set : getD mets (getD E j 0) 0 ≡ 0 → ⊥ = λ z. true≢false (sym (s .1) ∙ flags .unmet _ (t .0) z) in
-        let p = edge-has x (getD E j 0) h (t .0) (and-in (s .0) (moved _ y e)) in
+        edge-has x (getD E j 0) h (t .0) (and-in (s .0) (moved _ y e))
+
+  module _ (c : Centre) (mets : List ℕ) (flags : Mets b c mets) where
+    -- so each of its edges is one of the state's
+    out : (x : ℕ) → x < statesOn b i →
+        let acts = edgesAt edges ends (baseOn b i + x) in
+        Covered (length (E c)) (costBy (b .costs) (E c)) (moveBy (b .moves) (rowOn b) (baseOn b i) (E c))
+        (length acts) (costBy (b .costs) acts) (moveMet (b .moves) (rowOn b) (baseOn b i) mets acts) x
+    out x h j y k e =
+        let t = enabled-at c j k in
+        let s = and-out (eqb (getD (b .kinds) (getD (E c) j 0) 0) (i + 1)) (metOn b c (getD (E c) j 0)) (t .1) in
+        let set : getD mets (getD (E c) j 0) 0 ≡ 0 → ⊥ = λ z. true≢false (sym (s .1) ∙ flags .unmet _ (t .0) z) in
+        let p = leaf-placed c x j y h k e in
         record { act = p .at; below = p .inside; leads = rw (p .is) (gated-open _ _ set ∙ e); price = rw (p .is) refl }
 
     -- an edge whose flag is set is an enabled action
     back : (x : ℕ) → x < statesOn b i →
         let acts = edgesAt edges ends (baseOn b i + x) in
         Covered (length acts) (costBy (b .costs) acts) (moveMet (b .moves) (rowOn b) (baseOn b i) mets acts)
-        (length E) (costBy (b .costs) E) (moveBy (b .moves) (rowOn b) (baseOn b i) E) x
+        (length (E c)) (costBy (b .costs) (E c)) (moveBy (b .moves) (rowOn b) (baseOn b i) (E c)) x
     back x h j y k e =
         let t = edge-at x j h k in
         let g = gated-out _ _ y e in
         let a = getD (edgesAt edges ends (baseOn b i + x)) j 0 in
         let kind : eqb (getD (b .kinds) a 0) (i + 1) ≡ true = and-out _ _ (t .1) .0 in
-        let p = enabled-has a (t .0) (and-in kind (flags .met a (t .0) (g .0))) in
+        let p = enabled-has c a (t .0) (and-in kind (flags .met a (t .0) (g .0))) in
         record { act = p .at; below = p .inside; leads = rw (p .is) (g .1); price = rw (p .is) refl }
 
     -- the enabled actions lead where the leaf's edges do
-    pub leaf-meant : Meant (b .moves) (rowOn b) (baseOn b i) (b .costs) mets edges ends (statesOn b i) (length E) (costBy (b .costs) E)
-        (moveBy (b .moves) (rowOn b) (baseOn b i) E)
+    pub leaf-meant : Meant (b .moves) (rowOn b) (baseOn b i) (b .costs) mets edges ends (statesOn b i) (length (E c)) (costBy (b .costs) (E c))
+        (moveBy (b .moves) (rowOn b) (baseOn b i) (E c))
     leaf-meant =
-        record { ranged = λ j x y k h e. omega (arith, sound .moves-in i (getD E j 0) x l (enabled-at j k .0) h); out = out; back = back }
+        record { ranged = λ j x y k h e. omega (arith, sound .moves-in i (getD (E c) j 0) x l (enabled-at c j k .0) h); out = out; back = back }

@@ -26,7 +26,7 @@ part-in xs d e f g j h k l m =
 
 module _ (b : Board) (sound : Sound b) (edges ends : List ℕ) (table : Edges b edges ends) where
   -- the edges of a later state begin later
-  ends-up : (s t : ℕ) → s ≤ t → t ≤ rowOn b → getD ends s 0 ≤ getD ends t 0
+  pub ends-up : (s t : ℕ) → s ≤ t → t ≤ rowOn b → getD ends s 0 ≤ getD ends t 0
   ends-up s zero h l = let e : s ≡ 0 = omega arith in rw e (omega arith)
   ends-up s (suc t) h l = go (ℕ-discrete s (suc t)) (λ k. ends-up s t k (omega arith))
     where

@@ -23,7 +23,7 @@ use Rattle.explore.proofs.explore.Statement.{statement}
 use Rattle.explore.proofs.explore.Tie as tie
 
 abbrev Inv-loop : tie.InvT-loop
-Inv-loop bases moves costs kinds starts goals nodes budget edges table₀ scan₀ leaves actions factors goal conditions effects still stills firsts run₀ ends known₀ flags₀ mets₀ old₀ next₀ table scan run known flags mets old next =
+Inv-loop bases moves costs kinds starts goals nodes budget edges ends table₀ scan₀ leaves actions factors goal conditions effects still stills firsts run₀ known₀ flags₀ mets₀ old₀ next₀ table scan run known flags mets old next =
     (length table ≡ length table₀) × (length scan ≡ 57616)
     × AheadBy (boardOf leaves actions bases moves costs kinds factors conditions) effects goals goal nodes budget table₀ scan₀ run₀ table scan run
     × (length old ≡ 1024) × (length next ≡ 1024)
@@ -31,7 +31,7 @@ Inv-loop bases moves costs kinds starts goals nodes budget edges table₀ scan�
     × (length flags ≡ 256) × (length mets ≡ 256)
 
 abbrev μ-loop : tie.MeasureT-loop
-μ-loop bases moves costs kinds starts goals nodes budget edges table₀ scan₀ leaves actions factors goal conditions effects still stills firsts run₀ ends known₀ flags₀ mets₀ old₀ next₀ table scan run known flags mets old next =
+μ-loop bases moves costs kinds starts goals nodes budget edges ends table₀ scan₀ leaves actions factors goal conditions effects still stills firsts run₀ known₀ flags₀ mets₀ old₀ next₀ table scan run known flags mets old next =
     suc nodes - run .begun
 
 -- the Board of the task
@@ -53,14 +53,14 @@ fit s =
 
 -- the start, seen from the loop
 abbrev first : tie.At-loop Inv-loop μ-loop → tie.Start Inv-loop μ-loop
-first l = l .before .before .before .before .before .before .before .before .before .before .before .before .before .before .before .before .before .before .before .before .before .before .before .before .before .before .before .before .before .before .before .before .before .before
+first l = l .before .before .before .before .before .before .before .before .before .before .before .before .before .before .before .before .before .before .before .before .before .before .before .before .before .before .before .before
 
 -- before each round the rest of the task's search is ahead
 ahead : (l : tie.At-loop Inv-loop μ-loop) → let a = first l .args in
     Ahead (a .task) (a .nodes) (a .budget) (allStates (a .task)) (l .loop .table) (l .loop .scan) (l .loop .run)
 ahead l =
     let s = first l in
-    let f = l .before .before .before .before .before .before .before .before .before .before .before .before .start in
+    let f = l .before .before .before .before .before .start in
     l .loop .inv .2 (s .args .task) (fit s .0)
     (ahead-start (s .args .task) (s .args .nodes) (s .args .budget) (allStates (s .args .task)) (f .last .1 .1 .1 .1 .1 .1 .1 .0) (f .last .1 .1 .1 .1 .1 .1 .1 .1 .0) (f .result)
     (s .pre .1 .1 .1 .0) (f .ensures .0) (f .ensures .1) (f .ensures .2))
@@ -68,7 +68,7 @@ ahead l =
 -- the table is as long as it was
 long : (l : tie.At-loop Inv-loop μ-loop) → length (l .loop .table) ≡ length (now (first l .args .table))
 long l =
-    let kept : length (l .before .before .before .before .before .before .before .before .before .before .before .before .start .last .1 .1 .1 .1 .1 .1 .1 .0) ≡ length (now (first l .args .table)) = l .before .before .before .before .before .before .before .before .before .before .before .before .start .kept .1 .1 .1 .1 .1 .1 .1 .0 in
+    let kept : length (l .before .before .before .before .before .start .last .1 .1 .1 .1 .1 .1 .1 .0) ≡ length (now (first l .args .table)) = l .before .before .before .before .before .start .kept .1 .1 .1 .1 .1 .1 .1 .0 in
     l .loop .inv .0 ∙ kept
 
 -- there is room for the nodes
@@ -107,83 +107,67 @@ lent s =
     (cut {n = 1024} sound (sound .few-all), sound .few-actions, sound .moves-long)
 
 still-actions-requires : tie.Need-still-actions-requires Inv-loop μ-loop
-still-actions-requires c κs = lent (c .before .before .before .before .before .before .before .before .before .before .before .before .before .before .before)
+still-actions-requires c κs = lent (c .before .before .before .before .before .before .before .before .before .before .before .before .before .before .before .before)
 
 still-leaves-requires : tie.Need-still-leaves-requires Inv-loop μ-loop
-still-leaves-requires c κs = lent (c .before .before .before .before .before .before .before .before .before .before .before .before .before .before .before .before)
+still-leaves-requires c κs = lent (c .before .before .before .before .before .before .before .before .before .before .before .before .before .before .before .before .before)
 
 slice-aggregate-first-conditions : tie.Need-slice-aggregate-first-conditions Inv-loop μ-loop
-slice-aggregate-first-conditions c = sym (lists (c .before .before .before .before .before .before .before .before .before .before .before .before .before .before .before .before .before .before) .1)
+slice-aggregate-first-conditions c = sym (lists (c .before .before .before .before .before .before .before .before .before .before .before .before .before .before .before .before .before .before .before) .1)
 
 first-conditions-requires : tie.Need-first-conditions-requires Inv-loop μ-loop
-first-conditions-requires c κs = (fit (c .before .before .before .before .before .before .before .before .before .before .before .before .before .before .before .before .before .before) .1 .few-actions, lists (c .before .before .before .before .before .before .before .before .before .before .before .before .before .before .before .before .before .before) .1)
+first-conditions-requires c κs = (fit (c .before .before .before .before .before .before .before .before .before .before .before .before .before .before .before .before .before .before .before) .1 .few-actions, lists (c .before .before .before .before .before .before .before .before .before .before .before .before .before .before .before .before .before .before .before) .1)
 
 start-requires : tie.Need-start-requires Inv-loop μ-loop
 start-requires c κs =
-    let s = c .before .before .before .before .before .before .before .before .before .before .before .before .before .before .before .before .before .before .before .before .before in
+    let s = c .before .before .before .before .before .before .before .before .before .before .before .before .before .before .before .before .before .before .before .before .before .before in
     let row = mul-le-mul-right {m = 1} {n = s .args .nodes + 1} (40 + allStates (s .args .task)) (omega arith) in
     (s .pre .0, (s .pre .1 .0, (omega (arith, row, s .pre .1 .1 .1 .2), s .pre .1 .1 .1 .3, s .pre .1 .1 .1 .4)))
 
-slice-aggregate-fill-edges : tie.Need-slice-aggregate-fill-edges Inv-loop μ-loop
-slice-aggregate-fill-edges c = sym (lists (c .before .before .before .before .before .before .before .before .before .before .before .before .before .before .before .before .before .before .before .before .before .before .before .before .before .before .before) .1)
-
-slice-aggregate-fill-edges-2 : tie.Need-slice-aggregate-fill-edges-2 Inv-loop μ-loop
-slice-aggregate-fill-edges-2 c = search needs
-
-fill-edges-requires : tie.Need-fill-edges-requires Inv-loop μ-loop
-fill-edges-requires c κs =
-    let s = c .before .before .before .before .before .before .before .before .before .before .before .before .before .before .before .before .before .before .before .before .before .before .before .before .before .before .before .before .before in
-    let w = fit s in
-    let row = row-on (s .args .task) (board s) (w .0 .fits) in
-    (w .1, rw row (s .pre .1 .1 .0), omega (arith, w .1 .few-all))
-
 loop-holds : tie.Need-loop-holds Inv-loop μ-loop
 loop-holds c =
-    let s = c .before .before .before .before .before .before .before .before .before .before .before .before .before .before .before .before .before .before .before .before .before .before .before .before .before .before .before .before .before .before .before .before .before in
-    let f = c .before .before .before .before .before .before .before .before .before .before .before .start in
+    let s = c .before .before .before .before .before .before .before .before .before .before .before .before .before .before .before .before .before .before .before .before .before .before .before .before .before .before .before in
+    let f = c .before .before .before .before .start in
     (refl, f .kept .1 .1 .1 .1 .1 .1 .1 .1 .0 ∙ s .pre .1 .1 .1 .3, (λ t f a. a), search needs, search needs, known-none (board s), search needs, search needs)
 
 slice-aggregate-next-round : tie.Need-slice-aggregate-next-round Inv-loop μ-loop
 slice-aggregate-next-round c = sym (lists (first (c .before)) .1)
 
 slice-aggregate-next-round-2 : tie.Need-slice-aggregate-next-round-2 Inv-loop μ-loop
-slice-aggregate-next-round-2 c = sym (c .before .before .before .before .before .before .before .before .before .before .before .before .before .before .before .before .before .before .before .before .still-actions .ensures .long)
+slice-aggregate-next-round-2 c = sym (c .before .before .before .before .before .before .before .before .before .before .before .before .before .still-actions .ensures .long)
 
 slice-aggregate-next-round-3 : tie.Need-slice-aggregate-next-round-3 Inv-loop μ-loop
-slice-aggregate-next-round-3 c = sym (c .before .before .before .before .before .before .before .before .before .before .before .before .before .before .before .before .before .before .before .before .still-leaves .ensures .long)
+slice-aggregate-next-round-3 c = sym (c .before .before .before .before .before .before .before .before .before .before .before .before .before .still-leaves .ensures .long)
 
 slice-aggregate-next-round-4 : tie.Need-slice-aggregate-next-round-4 Inv-loop μ-loop
-slice-aggregate-next-round-4 c = sym (c .before .before .before .before .before .before .before .before .before .before .before .before .before .before .before .before .before .before .before .first-conditions .ensures .long)
+slice-aggregate-next-round-4 c = sym (c .before .before .before .before .before .before .before .before .before .before .before .before .first-conditions .ensures .long)
 
 slice-aggregate-next-round-5 : tie.Need-slice-aggregate-next-round-5 Inv-loop μ-loop
-slice-aggregate-next-round-5 c = search needs
+slice-aggregate-next-round-5 c = sym (lists (first (c .before .before .before .before .before)) .2)
 
 slice-aggregate-next-round-6 : tie.Need-slice-aggregate-next-round-6 Inv-loop μ-loop
-slice-aggregate-next-round-6 c = sym (lists (first (c .before .before .before .before .before .before .before)) .2)
+slice-aggregate-next-round-6 c = sym (c .before .before .before .before .before .before .before .before .loop .inv .5 .long)
 
 slice-aggregate-next-round-7 : tie.Need-slice-aggregate-next-round-7 Inv-loop μ-loop
-slice-aggregate-next-round-7 c = sym (c .before .before .before .before .before .before .before .before .before .before .loop .inv .5 .long)
+slice-aggregate-next-round-7 c = sym (c .before .before .before .before .before .before .before .before .before .loop .inv .6)
 
 slice-aggregate-next-round-8 : tie.Need-slice-aggregate-next-round-8 Inv-loop μ-loop
-slice-aggregate-next-round-8 c = sym (c .before .before .before .before .before .before .before .before .before .before .before .loop .inv .6)
+slice-aggregate-next-round-8 c = sym (c .before .before .before .before .before .before .before .before .before .before .loop .inv .7)
 
 slice-aggregate-next-round-9 : tie.Need-slice-aggregate-next-round-9 Inv-loop μ-loop
-slice-aggregate-next-round-9 c = sym (c .before .before .before .before .before .before .before .before .before .before .before .before .loop .inv .7)
+slice-aggregate-next-round-9 c = sym (c .before .before .before .before .before .before .before .before .before .before .before .loop .inv .3)
 
 slice-aggregate-next-round-10 : tie.Need-slice-aggregate-next-round-10 Inv-loop μ-loop
-slice-aggregate-next-round-10 c = sym (c .before .before .before .before .before .before .before .before .before .before .before .before .before .loop .inv .3)
-
-slice-aggregate-next-round-11 : tie.Need-slice-aggregate-next-round-11 Inv-loop μ-loop
-slice-aggregate-next-round-11 c = sym (c .before .before .before .before .before .before .before .before .before .before .before .before .before .before .loop .inv .4)
+slice-aggregate-next-round-10 c = sym (c .before .before .before .before .before .before .before .before .before .before .before .before .loop .inv .4)
 
 next-round-requires : tie.Need-next-round-requires Inv-loop μ-loop
 next-round-requires c κs =
-    let l = c .before .before .before .before .before .before .before .before .before .before .before .before .before .before in
+    let l = c .before .before .before .before .before .before .before .before .before .before .before .before in
     let s = first l in
-    let asked = firsts-part (board s) (c .before .before .before .before .before .before .before .before .before .before .before .before .before .before .before .before .before .before .before .before .before .before .before .before .before .before .before .before .before .first-conditions .result) (c .before .before .before .before .before .before .before .before .before .before .before .before .before .before .before .before .before .before .before .before .before .before .before .before .before .before .before .before .before .first-conditions .ensures) in (
+    let asked = firsts-part (board s) (c .before .before .before .before .before .before .before .before .before .before .before .before .before .before .before .before .before .before .before .before .first-conditions .result) (c .before .before .before .before .before .before .before .before .before .before .before .before .before .before .before .before .before .before .before .before .first-conditions .ensures) in (
       fit s .1,
       (
-        (c .before .before .before .before .before .before .before .before .before .before .before .before .before .before .before .before .before .before .before .before .before .before .before .before .before .before .before .before .before .before .before .before .still-actions .ensures, asked, c .before .before .before .before .before .before .before .before .before .before .before .before .before .before .before .before .before .before .fill-edges .ensures, l .loop .inv .5, l .loop .inv .6, l .loop .inv .7, c .before .before .before .before .before .before .before .before .before .before .before .before .before .before .before .before .before .before .before .before .before .before .before .before .before .before .before .before .before .before .before .still-leaves .ensures),
+        (c .before .before .before .before .before .before .before .before .before .before .before .before .before .before .before .before .before .before .before .before .before .before .before .still-actions .ensures, asked, s .pre .1 .1 .0, l .loop .inv .5, l .loop .inv .6, l .loop .inv .7, c .before .before .before .before .before .before .before .before .before .before .before .before .before .before .before .before .before .before .before .before .before .before .still-leaves .ensures),
         ((lists s .2, s .pre .1 .0 .1 .long, omega (arith, few l, s .pre .1 .1 .1 .1)), (room l, (l .loop .inv .3, l .loop .inv .4))),
       ),
     )
@@ -192,17 +176,14 @@ enum-known-round : tie.Need-enum-known-round Inv-loop μ-loop
 enum-known-round c = search needs
 
 same-length : tie.Need-same-length Inv-loop μ-loop
-same-length c = c .before .before .before .before .before .before .before .before .before .before .before .before .before .before .before .before .before .before .before .before .before .before .before .before .before .before .before .before .before .before .before .fill-edges .kept .1 .1 .1 .1 .1 .1 .1 .1 .0
+same-length c = c .before .before .before .before .before .before .before .before .before .before .before .before .next-round .kept .1 .1 .1 .1 .1 .1 .1 .1 .1 .1 .1 .1 .1 .1 .1 .1 .1 .1 .0 ∙ long (c .before .before .before .before .before .before .before .before .before .before .before .before .before .before .before .before .before .before .before .before .before .before .before .before .before)
 
 same-length-2 : tie.Need-same-length-2 Inv-loop μ-loop
-same-length-2 c = c .before .before .before .before .before .before .before .before .before .before .before .before .next-round .kept .1 .1 .1 .1 .1 .1 .1 .1 .1 .1 .1 .1 .1 .1 .1 .1 .1 .1 .0 ∙ long (c .before .before .before .before .before .before .before .before .before .before .before .before .before .before .before .before .before .before .before .before .before .before .before .before .before .before .before)
-
-same-length-3 : tie.Need-same-length-3 Inv-loop μ-loop
-same-length-3 c = c .before .before .before .before .before .before .before .before .before .before .before .before .next-round .kept .1 .1 .1 .1 .1 .1 .1 .1 .1 .1 .1 .1 .1 .1 .1 .1 .1 .1 .1 .0 ∙ c .before .before .before .before .before .before .before .before .before .before .before .before .before .before .before .before .before .before .before .before .before .before .before .before .before .before .before .loop .inv .1 ∙ sym (c .before .before .before .before .before .before .before .before .before .before .before .before .before .before .before .before .before .before .before .before .before .before .before .before .before .before .before .before .before .before .before .before .before .before .before .before .before .before .before .before .before .before .before .before .before .before .before .before .before .before .before .before .before .before .before .before .before .before .before .before .before .pre .1 .1 .1 .3)
+same-length-2 c = c .before .before .before .before .before .before .before .before .before .before .before .before .next-round .kept .1 .1 .1 .1 .1 .1 .1 .1 .1 .1 .1 .1 .1 .1 .1 .1 .1 .1 .1 .0 ∙ c .before .before .before .before .before .before .before .before .before .before .before .before .before .before .before .before .before .before .before .before .before .before .before .before .before .loop .inv .1 ∙ sym (c .before .before .before .before .before .before .before .before .before .before .before .before .before .before .before .before .before .before .before .before .before .before .before .before .before .before .before .before .before .before .before .before .before .before .before .before .before .before .before .before .before .before .before .before .before .before .before .before .before .before .before .before .before .pre .1 .1 .1 .3)
 
 returns : tie.Need-returns Inv-loop μ-loop
 returns c =
-    let l = c .before .before .before .before .before .before .before .before .before .before .before .before .before .before .before .before .before .before .before .before .before .before .before .before .before .before .before in
+    let l = c .before .before .before .before .before .before .before .before .before .before .before .before .before .before .before .before .before .before .before .before .before .before .before .before .before in
     let s = first l in
     rw (c .before .round .given .1) at (c .before .before .before .before .before .before .before .before .before .before .before .before .next-round .ensures .0 (s .args .task) (fit s .0) (ahead l))
 
@@ -211,7 +192,7 @@ enum-known-round-2 c = search needs
 
 loop-less : tie.Need-loop-less Inv-loop μ-loop
 loop-less c =
-    let l = c .before .before .before .before .before .before .before .before .before .before .before .before .before .before .before .before .before .before .before .before .before .before .before .before .before .before .before in
+    let l = c .before .before .before .before .before .before .before .before .before .before .before .before .before .before .before .before .before .before .before .before .before .before .before .before .before in
     let s = first l in
     let n = c .before .before .before .before .before .before .before .before .before .before .before .before .next-round in
     let told : Rounded (s .args .task) (s .args .nodes) (s .args .budget) (l .loop .run .begun) (allStates (s .args .task)) (n .last .1 .1 .1 .1 .1 .1 .1 .1 .1 .1 .1 .1 .1 .1 .1 .1 .1 .1 .0) (n .last .1 .1 .1 .1 .1 .1 .1 .1 .1 .1 .1 .1 .1 .1 .1 .1 .1 .1 .1 .0) (Goes (c .before .round2 .given .0 .0)) =
@@ -220,7 +201,7 @@ loop-less c =
 
 loop-again : tie.Need-loop-again Inv-loop μ-loop
 loop-again c =
-    let l = c .before .before .before .before .before .before .before .before .before .before .before .before .before .before .before .before .before .before .before .before .before .before .before .before .before .before .before .loop in
+    let l = c .before .before .before .before .before .before .before .before .before .before .before .before .before .before .before .before .before .before .before .before .before .before .before .before .before .loop in
     let n = c .before .before .before .before .before .before .before .before .before .before .before .before .next-round in
     (n .kept .1 .1 .1 .1 .1 .1 .1 .1 .1 .1 .1 .1 .1 .1 .1 .1 .1 .1 .0 ∙ l .inv .0, n .kept .1 .1 .1 .1 .1 .1 .1 .1 .1 .1 .1 .1 .1 .1 .1 .1 .1 .1 .1 .0 ∙ l .inv .1, (λ t f a. (rw (c .before .round2 .given .1) at (n .ensures .0 t f (l .inv .2 t f a))) .0), n .kept .1 .1 .1 .1 .1 .1 .1 .1 .1 .1 .1 .1 .1 .1 .1 .1 .1 .1 .1 .1 .1 .1 .1 .0 ∙ l .inv .3, n .kept .1 .1 .1 .1 .1 .1 .1 .1 .1 .1 .1 .1 .1 .1 .1 .1 .1 .1 .1 .1 .1 .1 .1 .1 .0 ∙ l .inv .4, n .ensures .1, n .kept .1 .1 .1 .1 .1 .1 .1 .1 .1 .1 .1 .1 .1 .1 .1 .1 .1 .1 .1 .1 .1 .0 ∙ l .inv .6, n .kept .1 .1 .1 .1 .1 .1 .1 .1 .1 .1 .1 .1 .1 .1 .1 .1 .1 .1 .1 .1 .1 .1 .0 ∙ l .inv .7)
 
@@ -237,9 +218,6 @@ explore-spec =
     slice-aggregate-first-conditions
     first-conditions-requires
     start-requires
-    slice-aggregate-fill-edges
-    slice-aggregate-fill-edges-2
-    fill-edges-requires
     loop-holds
     slice-aggregate-next-round
     slice-aggregate-next-round-2
@@ -251,12 +229,10 @@ explore-spec =
     slice-aggregate-next-round-8
     slice-aggregate-next-round-9
     slice-aggregate-next-round-10
-    slice-aggregate-next-round-11
     next-round-requires
     enum-known-round
     same-length
     same-length-2
-    same-length-3
     returns
     enum-known-round-2
     loop-less

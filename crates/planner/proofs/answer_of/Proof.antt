@@ -20,12 +20,12 @@ finish-requires c κs = search needs
 
 returns : tie.Need-returns
 returns c =
-    let s = c .before .before .before .before .before .before .before .before .before .before .before in
+    let s = c .before .before .before .before .before .before .before .before .before .before .before .before .before in
     stop-full (s .args .task) (now (s .args .table)) (s .args .stop) (now (s .args .plan)) (c .enum-told .given .1)
 
 returns-2 : tie.Need-returns-2
 returns-2 c =
-    let s = c .before .before .before .before .before .before .before .before .before .before .before in
+    let s = c .before .before .before .before .before .before .before .before .before .before .before .before .before in
     stop-spent (s .args .task) (now (s .args .table)) (s .args .stop) (now (s .args .plan)) (c .enum-told2 .given .1)
 
 same-length : tie.Need-same-length
@@ -33,7 +33,7 @@ same-length c = search needs
 
 returns-3 : tie.Need-returns-3
 returns-3 c =
-    let s = c .before .before .before .before .before .before .before .before .before .before .before .before .before .before .before in
+    let s = c .before .before .before .before .before .before .before .before .before .before .before .before .before .before .before .before .before in
     c .before .before .finish .ensures ∙ stop-finished (s .args .task) (now (s .args .table)) (s .args .stop) (now (s .args .plan)) (c .before .before .before .before .enum-told3 .given .1)
 
 pub answer-of-spec : {M : Type 1} → statement M

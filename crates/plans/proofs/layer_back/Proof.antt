@@ -14,13 +14,13 @@ use Rattle.plans.proofs.layer_back.Statement.{statement}
 use Rattle.plans.proofs.layer_back.Tie as tie
 
 abbrev Inv-loop : tie.InvT-loop
-Inv-loop leaves actions bases moves costs kinds factors conditions starts table node ends₀ tight₀ plan₀ total place p₀ i₀ ends tight plan p i =
+Inv-loop leaves actions bases moves costs kinds factors conditions starts table node ends₀ tight₀ plan₀ total place edges stops p₀ i₀ ends tight plan p i =
     let b = boardOf leaves actions bases moves costs kinds factors conditions in
     (i ≤ leaves) × (length ends ≡ length ends₀) × (length tight ≡ length tight₀) × (length plan ≡ length plan₀)
     × LayerLeft leaves (λ j y. backOn b starts table j node y) total place ends₀ plan₀ i p ends plan
 
 abbrev μ-loop : tie.MeasureT-loop
-μ-loop leaves actions bases moves costs kinds factors conditions starts table node ends₀ tight₀ plan₀ total place p₀ i₀ ends tight plan p i =
+μ-loop leaves actions bases moves costs kinds factors conditions starts table node ends₀ tight₀ plan₀ total place edges stops p₀ i₀ ends tight plan p i =
     i
 
 loop-holds : tie.Need-loop-holds Inv-loop μ-loop
@@ -34,7 +34,7 @@ board s =
 
 -- where the function starts, seen from a turn of the loop
 abbrev start : tie.In-loop Inv-loop μ-loop → tie.Start Inv-loop μ-loop
-start c = c .before .before .before .before .before .before .before .before .before .before .before .before
+start c = c .before .before .before .before .before .before .before .before .before .before .before .before .before .before
 
 -- there is a state for each leaf
 room : (c : tie.In-loop Inv-loop μ-loop) → let l = c .before .loop in (l .i - 1 < length (l .ends)) × (l .i ≤ length (l .ends)) × (l .i ≤ 8)
@@ -71,7 +71,7 @@ leaf-step-requires c κs =
     let l = t .before .loop in
     let place : l .p + 256 ≤ mark = omega (arith, s .pre .1 .1 .3, l .inv .4 .room, l .inv .0, s .pre .0 .sound .few-leaves, t .loop-test .taken) in (
       (s .pre .0, omega (arith, l .inv .0)),
-      (walks t, (omega (arith, s .pre .1 .1 .1 (l .i - 1) (omega (arith, l .inv .0, t .loop-test .taken)), l .inv .2), omega (arith, s .pre .1 .1 .2, l .inv .3), place)),
+      (walks t, (omega (arith, s .pre .1 .1 .1 (l .i - 1) (omega (arith, l .inv .0, t .loop-test .taken)), l .inv .2), omega (arith, s .pre .1 .1 .2, l .inv .3), place, s .pre .1 .1 .4)),
     )
 
 mul-ends : tie.Need-mul-ends Inv-loop μ-loop

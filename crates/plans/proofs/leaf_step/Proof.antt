@@ -41,23 +41,23 @@ few : (s : tie.Start) → (baseOn (board s) (s .args .i) ≤ baseOn (board s) (s
 few s = (s .pre .0 .0 .sound .bases-rise (s .args .i) (s .pre .0 .1), s .pre .0 .0 .sound .few-states (s .args .i) (s .pre .0 .1))
 
 sub-many : tie.Need-sub-many
-sub-many c = omega (arith, few (c .before .before .before .before .before .before .before .before .before .before .before))
+sub-many c = omega (arith, few (c .before .before .before .before .before .before .before .before .before .before .before .before .before))
 
 array-borrow-prefix-begins : tie.Need-array-borrow-prefix-begins
-array-borrow-prefix-begins c = omega (arith, few (c .before .before .before .before .before .before .before .before .before .before .before))
+array-borrow-prefix-begins c = omega (arith, few (c .before .before .before .before .before .before .before .before .before .before .before .before .before))
 
 slice-aggregate-layer-begin : tie.Need-slice-aggregate-layer-begin
 slice-aggregate-layer-begin c =
-    sym (length-take-le _ (replicate 256 mark) (few (c .before .before .before .before .before .before .before .before .before .before .before .before) .1))
+    sym (length-take-le _ (replicate 256 mark) (few (c .before .before .before .before .before .before .before .before .before .before .before .before .before .before) .1))
 
 layer-begin-requires : tie.Need-layer-begin-requires
 layer-begin-requires c κs =
-    let s = c .before .before .before .before .before .before .before .before .before .before .before .before in
+    let s = c .before .before .before .before .before .before .before .before .before .before .before .before .before .before in
     (s .pre .0 .0, s .pre .0 .1, take-replicate _ 256 mark (few s .1))
 
 -- where the function starts, seen from behind what the layer began with
 abbrev start : tie.After-layer-begin → tie.Start
-start c = c .before .before .before .before .before .before .before .before .before .before .before .before .before
+start c = c .before .before .before .before .before .before .before .before .before .before .before .before .before .before .before
 
 -- there is a price for each state of the leaf
 long : (c : tie.After-layer-begin) →

@@ -9,8 +9,9 @@ use Rattle.task.specs.declared.Centre.{Centre}
 use Rattle.layer.specs.Board.{Board, baseOn, rowOn, statesOn, enabledOn}
 use Rattle.layer.specs.Board.Turns.{base-in, enabled-part, front-these, front-many}
 use Rattle.layer.specs.Lent.{boardOf}
+use Rattle.wayback.specs.Woven.Leaf.{leaf-spread, leaf-covers}
 use Rattle.plans.specs.Walk.{pricesOn, actsOn}
-use Rattle.plans.specs.Walk.Laws.{spot-at, slice-is, slice-length, kept-here, walkable-here, walked-here, room-here}
+use Rattle.plans.specs.Walk.Laws.{spot-at, slice-is, slice-length, kept-here, walkable-here, walked-here}
 use Rattle.plans.proofs.leaf_walk.Statement.{statement}
 use Rattle.plans.proofs.leaf_walk.Tie as tie
 
@@ -64,8 +65,8 @@ lent s =
     ∙ slice-is b (s .pre .0 .0) (s .args .table .now) (s .args .i) (s .args .node) (s .pre .0 .1)
 
 -- where the function starts, seen from before its test
-abbrev entry : tie.After-shared-slice-known9 → tie.Start
-entry c = c .before .before .before .before .before .before .before .before .before .before .before
+abbrev entry : tie.After-shared-slice-known11 → tie.Start
+entry c = c .before .before .before .before .before .before .before .before .before .before .before .before .before
 
 add-from : tie.Need-add-from
 add-from c = omega (arith, room (entry c))
@@ -127,7 +128,7 @@ enabled-requires c κs = search needs
 
 -- where the function starts, seen from behind the enabled actions
 abbrev start : tie.After-enabled → tie.Start
-start c = c .before .before .before .before .before .before .before .before .before .before .before .before .before .before .before .before .before .before
+start c = c .before .before .before .before .before .before .before .before .before .before .before .before .before .before .before .before .before .before .before .before
 
 -- the actions at the front of the list are the enabled ones
 front : (c : tie.After-enabled) → let s = start c in
@@ -166,12 +167,18 @@ leaf-back-requires : tie.Need-leaf-back-requires
 leaf-back-requires c κs =
     let e = c .before .before .before .before .before in
     let s = start e in
-    let a = s .args in (
-      walkable-here (board s) (a .table .now) (a .i) (a .node) (a .begins .now) _ _ _ (a .state) (front e) (counted e) (lent s) (s .pre .1 .0),
-      room-here (board s) (a .table .now) (a .i) (a .node) _ _ _ _ (front e) (counted e) (lent s) (sym (s .pre .1 .0 .same) ∙ room s .2)
-          (s .pre .1 .1 .0),
-      s .pre .1 .1 .1,
-      s .pre .1 .1 .2,
+    let a = s .args in
+    let b = board s in
+    let many = ap length (lent s) ∙ sym (s .pre .1 .0 .same) ∙ room s .2 in (
+      (
+        walkable-here b (a .table .now) (a .i) (a .node) (a .begins .now) _ _ _ (a .state) (front e) (counted e) (lent s) (s .pre .1 .0),
+        s .pre .1 .1 .1,
+        s .pre .1 .1 .2,
+      ),
+      (
+        leaf-covers b (s .pre .0 .0) (a .edges .now) (a .stops .now) (s .pre .1 .1 .3) (a .i) (s .pre .0 .1) _ _ _ _ (front e) (counted e) many,
+        rw many (leaf-spread b (s .pre .0 .0) (a .edges .now) (a .stops .now) (s .pre .1 .1 .3) (a .i) (s .pre .0 .1) _ (s .pre .1 .1 .0)),
+      ),
     )
 
 same-length : tie.Need-same-length

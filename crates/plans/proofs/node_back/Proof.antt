@@ -19,15 +19,15 @@ board s =
 
 layer-back-requires : tie.Need-layer-back-requires
 layer-back-requires c κs =
-    let s = c .before .before .before .before .before .before .before .before .before .before .before .before .before in
-    (s .pre .0 .0, (s .pre .1 .0, (s .pre .1 .1 .1 .0, s .pre .1 .1 .1 .1, s .pre .1 .1 .1 .2, omega (arith, s .pre .1 .1 .1 .3))))
-
-mul-action-of : tie.Need-mul-action-of
-mul-action-of c = search needs
+    let s = c .before .before .before .before .before .before .before .before .before .before .before .before .before .before .before in
+    (s .pre .0 .0, (s .pre .1 .0, (s .pre .1 .1 .1 .0, s .pre .1 .1 .1 .1, s .pre .1 .1 .1 .2, omega (arith, s .pre .1 .1 .1 .3), s .pre .1 .1 .1 .4)))
 
 -- where the function starts, seen from behind the layer
 abbrev start : tie.After-layer-back → tie.Start
-start c = c .before .before .before .before .before .before .before .before .before .before .before .before .before .before
+start c = c .before .before .before .before .before .before .before .before .before .before .before .before .before .before .before .before
+
+mul-action-of : tie.Need-mul-action-of
+mul-action-of c = omega (arith, start (c .before .before .before .before .before .before) .pre .0 .0 .sound .few-leaves)
 
 -- the place behind the layer, and one more
 room : (c : tie.After-layer-back) → c .layer-back .result + 1 ≤ 18446744073709551615
@@ -43,7 +43,7 @@ shared-slice-read-action-of c =
     omega (arith, s .pre .0 .0 .sound .bases-long, s .pre .0 .0 .sound .few-leaves)
 
 action-of-requires : tie.Need-action-of-requires
-action-of-requires c κs = search needs
+action-of-requires c κs = start (c .before .before .before .before .before .before .before) .pre .0 .0 .here
 
 cast-put : tie.Need-cast-put
 cast-put c =

@@ -3,7 +3,7 @@ use mathlib.Core.Path.{_≡_, refl, sym, subst, _∙_}
 use Prim.Native.Nat.{ℕ, _+_, _*_, _≤_, _<_}
 use native.Mathlib.Omega.{arith}
 use lib.ListN.{length, getD, length-replicate}
-use borrow.Author.Needs.{needs}
+use borrow.Author.Needs.{needs, length-unmapped}
 use Rattle.task.specs.declared.Task.{Task}
 use Rattle.task.specs.Factors.{allStates}
 use Rattle.leaf.specs.Price.{mark}
@@ -20,14 +20,14 @@ use Rattle.plans.proofs.walk_back.Statement.{statement}
 use Rattle.plans.proofs.walk_back.Tie as tie
 
 abbrev Inv-loop : tie.InvT-loop
-Inv-loop bases moves costs kinds starts table count node tight₀ plan₀ total leaves actions factors conditions states₀ u₀ place₀ tight plan states u place =
+Inv-loop bases moves costs kinds starts table count node tight₀ plan₀ total edges stops leaves actions factors conditions states₀ u₀ place₀ tight plan states u place =
     let b = boardOf leaves actions bases moves costs kinds factors conditions in
     (u < count) × (length states ≡ 8) × (length tight ≡ length tight₀) × (length plan ≡ length plan₀) × (place + u * 2049 ≤ node * 2049)
     × ((t : Task) → Grounds t b starts table count → Priced t (searchOn b table count) node (λ i. getD states₀ i 0)
     → Along t (searchOn b table count) node states₀ total plan₀ u states place plan)
 
 abbrev μ-loop : tie.MeasureT-loop
-μ-loop bases moves costs kinds starts table count node tight₀ plan₀ total leaves actions factors conditions states₀ u₀ place₀ tight plan states u place =
+μ-loop bases moves costs kinds starts table count node tight₀ plan₀ total edges stops leaves actions factors conditions states₀ u₀ place₀ tight plan states u place =
     u
 
 -- the Board of the task
@@ -39,7 +39,7 @@ board s =
 -- the lengths of the task's lists, and of the states
 lists : (s : tie.Start Inv-loop μ-loop) → let t = s .args .task in
     (length (t .factors) ≡ 32) × (length (t .conditions) ≡ 8192) × (length (s .args .ends) ≡ 8)
-lists s = (search needs, search needs, search needs)
+lists s = (search needs, length-unmapped ℕ (s .args .task .conditions) 8192 (s .good .0 .1 .1 .1 .1 .1 .1 .1 .1 .1 .1 .1 .0 .1 .0 .1), search needs)
 
 -- the tables are those of the task
 grounds : (s : tie.Start Inv-loop μ-loop) → Grounds (s .args .task) (board s) (s .args .starts .now) (s .args .table .now) (s .args .count)
@@ -54,7 +54,7 @@ row s = row-on (s .args .task) (board s) (grounds s .fits)
 
 -- where the function starts, seen from the loop
 abbrev start : tie.At-loop Inv-loop μ-loop → tie.Start Inv-loop μ-loop
-start c = c .before .before .before .before .before .before .before .before .before .before .before .before .before
+start c = c .before .before .before .before .before .before .before .before .before .before .before .before .before .before .before
 
 -- where the walk is
 along : (c : tie.At-loop Inv-loop μ-loop) → let a = start c .args in
@@ -95,7 +95,7 @@ cast-actions c = search needs
 
 loop-holds : tie.Need-loop-holds Inv-loop μ-loop
 loop-holds c =
-    let s = c .before .before .before .before .before .before .before .before .before .before .before .before in
+    let s = c .before .before .before .before .before .before .before .before .before .before .before .before .before .before in
     (s .pre .1 .1 .0, lists s .2, refl, refl, omega arith, λ t g q. along-none t _ _ _ _ _ q)
 
 slice-aggregate-node-back : tie.Need-slice-aggregate-node-back Inv-loop μ-loop
@@ -119,7 +119,7 @@ node-back-requires c κs =
         walks (a .task) b (a .starts .now) T (a .count) (grounds s) u states (l .loop .inv .0) (at .priced),
         (
           lands (a .task) b (a .starts .now) T (a .count) (grounds s) u states (l .loop .inv .0) (at .priced),
-          room l,
+          (room l .0, room l .1, room l .2, room l .3, s .pre .1 .1 .5),
         ),
       ),
     )
@@ -179,7 +179,7 @@ layer-back-requires c κs =
       standing l,
       (
         walks (a .task) (board s) (a .starts .now) (a .table .now) (a .count) (grounds s) (l .loop .u) states (l .loop .inv .0) (along l .priced),
-        (room l .0, room l .1, room l .2, omega (arith, room l .3)),
+        (room l .0, room l .1, room l .2, omega (arith, room l .3), s .pre .1 .1 .5),
       ),
     )
 

@@ -42,7 +42,7 @@ sound s =
 
 mul-if1-2 : tie.Need-mul-if1-2
 mul-if1-2 c =
-    let s = c .before .before .before .before .before .before .before .before .before .before .before in
+    let s = c .before .before .before .before .before .before .before .before .before .before .before .before .before in
     omega (arith, mul-le-mul (sound s .few-actions) (sound s .few-all))
 
 slice-aggregate-write-with : tie.Need-slice-aggregate-write-with
@@ -50,8 +50,8 @@ slice-aggregate-write-with c = search needs
 
 write-with-requires : tie.Need-write-with-requires
 write-with-requires c κs =
-    let s = c .before .before .before .before .before .before .before .before .before .before .before .before .before .before in
-    (s .pre .0, (s .pre .1 .0, (s .pre .1 .1 .0, s .pre .1 .1 .1, s .pre .1 .1 .2, roomy-small (board s) (sound s) 4096 (c .before .before .if1 .taken))))
+    let s = c .before .before .before .before .before .before .before .before .before .before .before .before .before .before .before .before in
+    (s .pre .0, (s .pre .1 .0, (s .pre .1 .1 .0, s .pre .1 .1 .1, s .pre .1 .1 .2, roomy-small (board s) (sound s) 4096 (c .before .before .if1 .taken), s .pre .1 .1 .3)))
 
 same-length : tie.Need-same-length
 same-length c = search needs
@@ -64,8 +64,8 @@ slice-aggregate-write-with-2 c = search needs
 
 write-with-requires-2 : tie.Need-write-with-requires-2
 write-with-requires-2 c κs =
-    let s = c .before .before .before .before .before .before .before .before .before .before .before .before .before .before in
-    (s .pre .0, (s .pre .1 .0, (s .pre .1 .1 .0, s .pre .1 .1 .1, s .pre .1 .1 .2, roomy-large (board s) (sound s))))
+    let s = c .before .before .before .before .before .before .before .before .before .before .before .before .before .before .before .before in
+    (s .pre .0, (s .pre .1 .0, (s .pre .1 .1 .0, s .pre .1 .1 .1, s .pre .1 .1 .2, roomy-large (board s) (sound s), s .pre .1 .1 .3)))
 
 same-length-2 : tie.Need-same-length-2
 same-length-2 c = search needs

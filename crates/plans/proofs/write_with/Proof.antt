@@ -6,7 +6,7 @@ use native.Mathlib.Nat.{suc-mul, mul-le-mul-right}
 use native.Mathlib.Omega.{arith}
 use lib.ListN.{length, getD, take, drop, length-drop}
 use lib.Seq.{length-take-le}
-use borrow.Author.Needs.{needs}
+use borrow.Author.Needs.{needs, length-unmapped}
 use Rattle.task.specs.Factors.{allStates}
 use Rattle.leaf.specs.Price.{mark}
 use Rattle.layer.specs.Board.{Board, rowOn}
@@ -44,7 +44,7 @@ held s = heldIn (allStates (s .args .task)) (s .args .table .now) (s .args .coun
 
 -- the lengths of the task's lists
 lists : (s : tie.Start) → let t = s .args .task in (length (t .factors) ≡ 32) × (length (t .conditions) ≡ 8192)
-lists s = (search needs, search needs)
+lists s = (search needs, length-unmapped ℕ (s .args .task .conditions) 8192 (s .good .0 .1 .1 .1 .1 .1 .1 .1 .1 .1 .1 .1 .0 .1 .0 .1))
 
 -- the tables are those of the task
 grounds : (s : tie.Start) → Grounds (s .args .task) (board s) (s .args .starts .now) (s .args .table .now) (s .args .count)
@@ -68,19 +68,19 @@ room s =
     (here, grounds s .sound .few-all, s .good .1 .1 .1 .1 .1 .1 .1 .0 .1)
 
 add-from : tie.Need-add-from
-add-from c = omega (arith, room (c .before .before .before .before .before .before .before .before .before .before .before))
+add-from c = omega (arith, room (c .before .before .before .before .before .before .before .before .before .before .before .before .before))
 
 mul-from : tie.Need-mul-from
-mul-from c = omega (arith, room (c .before .before .before .before .before .before .before .before .before .before .before))
+mul-from c = omega (arith, room (c .before .before .before .before .before .before .before .before .before .before .before .before .before))
 
 add-from-2 : tie.Need-add-from-2
-add-from-2 c = omega (arith, room (c .before .before .before .before .before .before .before .before .before .before .before))
+add-from-2 c = omega (arith, room (c .before .before .before .before .before .before .before .before .before .before .before .before .before))
 
 add-goal-ends : tie.Need-add-goal-ends
-add-goal-ends c = omega (arith, room (c .before .before .before .before .before .before .before .before .before .before .before))
+add-goal-ends c = omega (arith, room (c .before .before .before .before .before .before .before .before .before .before .before .before .before))
 
 mul-goal-ends : tie.Need-mul-goal-ends
-mul-goal-ends c = omega (arith, room (c .before .before .before .before .before .before .before .before .before .before .before))
+mul-goal-ends c = omega (arith, room (c .before .before .before .before .before .before .before .before .before .before .before .before .before))
 
 sub-goal-ends : tie.Need-sub-goal-ends
 sub-goal-ends c = search needs
@@ -89,7 +89,7 @@ part-goal-ends-start : tie.Need-part-goal-ends-start
 part-goal-ends-start c = search needs
 
 part-goal-ends-end : tie.Need-part-goal-ends-end
-part-goal-ends-end c = omega (arith, room (c .before .before .before .before .before .before .before .before .before .before .before))
+part-goal-ends-end c = omega (arith, room (c .before .before .before .before .before .before .before .before .before .before .before .before .before))
 
 -- the node's prices, as they are lent
 abbrev lent : tie.Start → List ℕ
@@ -110,7 +110,7 @@ lent-length s =
 
 goal-ends-requires : tie.Need-goal-ends-requires
 goal-ends-requires c κs =
-    let s = c .before .before .before .before .before .before .before .before .before .before .before .before in
+    let s = c .before .before .before .before .before .before .before .before .before .before .before .before .before .before in
     let b = s .pre .0 .1 .is-bases in
     let sound = grounds s .sound in (
       record { few = sound .few-leaves; long = sound .bases-long; rise = sound .bases-rise; fits = rw (lent-length s) (omega arith) },
@@ -119,7 +119,7 @@ goal-ends-requires c κs =
 
 -- where the function starts, seen from behind the goal states
 abbrev start : tie.After-goal-ends → tie.Start
-start c = c .before .before .before .before .before .before .before .before .before .before .before .before .before
+start c = c .before .before .before .before .before .before .before .before .before .before .before .before .before .before .before
 
 -- the states are the task's goal states
 ends-are : (c : tie.After-goal-ends) → let s = start c in (i : ℕ) → i < s .args .task .leaves
@@ -143,7 +143,7 @@ priced c i m =
 walk-back-requires : tie.Need-walk-back-requires
 walk-back-requires c κs =
     let s = start (c .before .before) in
-    ((s .pre .0 .0, s .pre .0 .1), ((s .pre .1 .0 .0, priced (c .before .before)), (s .pre .1 .1 .0, s .pre .1 .1 .1, s .pre .1 .1 .2, omega arith, s .pre .1 .1 .3)))
+    ((s .pre .0 .0, s .pre .0 .1), ((s .pre .1 .0 .0, priced (c .before .before)), (s .pre .1 .1 .0, s .pre .1 .1 .1, s .pre .1 .1 .2, omega arith, s .pre .1 .1 .3, s .pre .1 .1 .4)))
 
 same-length : tie.Need-same-length
 same-length c = search needs
@@ -165,7 +165,7 @@ walk-back-requires-2 c κs =
     let s = start e in
     let kept = c .before .before .before .before .before .before .before .walk-back .kept .1 .1 .1 .1 .1 .1 .1 .1 .1 .1 .0 in (
       (s .pre .0 .0, s .pre .0 .1),
-      ((s .pre .1 .0 .0, priced e), (s .pre .1 .1 .0, s .pre .1 .1 .1, s .pre .1 .1 .2, c .before .before .if1 .left, λ i l. omega (arith, kept, s .pre .1 .1 .3 i l))),
+      ((s .pre .1 .0 .0, priced e), (s .pre .1 .1 .0, s .pre .1 .1 .1, s .pre .1 .1 .2, c .before .before .if1 .left, λ i l. omega (arith, kept, s .pre .1 .1 .3 i l), s .pre .1 .1 .4)),
     )
 
 same-length-3 : tie.Need-same-length-3

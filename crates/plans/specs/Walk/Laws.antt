@@ -1,19 +1,18 @@
 -- Laws of rows and goal states by tables, as the code reads them. Assumes nothing.
 use mathlib.Core.Path.{_≡_, refl, sym, ap, _∙_}
-use mathlib.Core.Bool.{Bool, true, false, cond, _&&_}
-use mathlib.Core.List.{List, [], _∷_, _++_}
+use mathlib.Core.Bool.{cond, _&&_}
+use mathlib.Core.List.{List}
 use Prim.Native.Nat.{ℕ, zero, suc, _+_, _*_, _≤_, _<_}
-use native.Mathlib.Nat.{not-suc-le-zero, mul-le-mul, mul-le-mul-left, mul-le-mul-right}
+use native.Mathlib.Nat.{not-suc-le-zero, mul-le-mul, mul-le-mul-left}
 use native.Mathlib.Omega.{arith}
 use lib.Dec.{ltb, eqb}
-use lib.ListN.{length, getD, set, take, drop, replicate, length-drop, length-append}
+use lib.ListN.{length, getD, set, take, drop, replicate, length-drop}
 use lib.Seq.{length-take-le, drop-drop, getD-take, getD-drop}
-use Rattle.task.specs.declared.Centre.{Centre}
 use Rattle.leaf.specs.Price.{mark}
 use Rattle.leaf.specs.Settle.Turns.{at-any}
 use Rattle.leaf.specs.Pass.{pass}
 use Rattle.layer.specs.Layer.Front.{part-take}
-use Rattle.layer.specs.Board.{Board, Sound, baseOn, rowOn, statesOn, metOn, enabledOn, passOn}
+use Rattle.layer.specs.Board.{Board, Sound, baseOn, rowOn, statesOn, passOn}
 use Rattle.layer.specs.Board.Turns.{base-in, leaf-passed}
 use Rattle.search.specs.Node.Laws.{list-entry}
 use Rattle.search.specs.Plan.{lowest}
@@ -123,25 +122,6 @@ module _ (b : Board) (starts T : List ℕ) (i u : ℕ) (B : List ℕ) (y : ℕ) 
   begun-walked total p plan r after w = rw begun at w
 
 -- ---- room to work in
-
--- there are no more enabled actions than actions
-acts-few : (b : Board) (i : ℕ) (c : Centre) (n : ℕ) → length (enabledOn b i c n) ≤ n
-unfolding enabledOn
-acts-few b i c zero = omega arith
-acts-few b i c (suc a) = go (eqb (getD (b .kinds) a 0) (i + 1) && metOn b c a) (acts-few b i c a)
-  where
-    go : (t : Bool) → length (enabledOn b i c a) ≤ a → length (cond t (enabledOn b i c a ++ (a ∷ [])) (enabledOn b i c a)) ≤ suc a
-    go true h = simp length-append (omega arith)
-    go false h = omega arith
-
--- what has room for the edges of all actions has room for those of the enabled ones, by the actions and prices as they are lent
-pub room-here : (b : Board) (T : List ℕ) (i u : ℕ) (acts : List ℕ) (m : ℕ) (P : List ℕ) (k : ℕ) → acts ≡ actsOn b T i u → m ≡ length acts
-    → P ≡ pricesOn b T i u → length (pricesOn b T i u) ≡ statesOn b i → b .actions * statesOn b i ≤ k → m * length P ≤ k
-room-here b T i u acts m P k these many same long room =
-    rw (same, long) (omega (arith, mul-le-mul-right (statesOn b i) (few), room))
-  where
-    few : m ≤ b .actions
-    few = omega (arith, many, ap length these, acts-few b i (nodeOn b T u .spot) (b .actions))
 
 -- entries enough for all leaf states are enough for each leaf, and so are 255 times 256
 pub roomy-small : (b : Board) → Sound b → (k : ℕ) → b .actions * rowOn b ≤ k → Roomy (b .leaves) (b .actions) (b .bases) k

@@ -1,12 +1,12 @@
 -- `wayback::meet` meets its contract: no edge changes nothing, and the state that an edge leads to keeps what it should. Assumes nothing.
-use mathlib.Core.Path.{_≡_, _∙_}
+use mathlib.Core.Path.{_≡_}
 use Prim.Native.Nat.{_-_, _<_}
 use native.Mathlib.Omega.{arith}
 use lib.ListN.{length}
 use borrow.Author.Needs.{needs}
 use Rattle.leaf.specs.Price.{mark}
 use Rattle.leaf.specs.Settle.Turns.{at-any}
-use Rattle.wayback.specs.First.{edge-none, edge-met}
+use Rattle.wayback.specs.Least.{edge-none, edge-met}
 use Rattle.wayback.proofs.meet.Statement.{statement}
 use Rattle.wayback.proofs.meet.Tie as tie
 
@@ -18,20 +18,20 @@ returns c =
 sub-y : tie.Need-sub-y
 sub-y c = search needs
 
-mul-keep-first : tie.Need-mul-keep-first
-mul-keep-first c = search needs
+mul-keep-lower : tie.Need-mul-keep-lower
+mul-keep-lower c = search needs
 
-slice-read-keep-first : tie.Need-slice-read-keep-first
-slice-read-keep-first c = search needs
+slice-read-keep-lower : tie.Need-slice-read-keep-lower
+slice-read-keep-lower c = search needs
 
-mul-keep-first-2 : tie.Need-mul-keep-first-2
-mul-keep-first-2 c = search needs
+mul-keep-lower-2 : tie.Need-mul-keep-lower-2
+mul-keep-lower-2 c = search needs
 
-shared-slice-read-keep-first : tie.Need-shared-slice-read-keep-first
-shared-slice-read-keep-first c = search needs
+shared-slice-read-keep-lower : tie.Need-shared-slice-read-keep-lower
+shared-slice-read-keep-lower c = search needs
 
-keep-first-requires : tie.Need-keep-first-requires
-keep-first-requires c κs = search needs
+keep-lower-requires : tie.Need-keep-lower-requires
+keep-lower-requires c κs = search needs
 
 mul-sources : tie.Need-mul-sources
 mul-sources c = search needs
@@ -49,9 +49,9 @@ returns-2 c =
     let z = a .to - 1 in
     let some : a .to ≡ 0 → ⊥ = c .before .before .before .if1 .left in
     let here : z < length (a .depths .now) = omega (arith, s .pre .0) in
-    let own = at-any (a .depths .now) z mark 0 here in
-    edge-met (a .p) (a .place) (a .depths .now) (a .sources .now) (a .to) z (c .keep-first .result) (omega arith) (omega (arith, s .pre .1))
-    (c .keep-first .ensures ∙ rw own)
+    let told = rw (at-any (a .depths .now) z 0 mark here) at (c .keep-lower .ensures) in
+    edge-met (a .p) (a .place) (a .depths .now) (a .sources .now) (a .to) z (c .keep-lower .result) (omega arith) (omega (arith, s .pre .1))
+    (told .0) (told .1)
 
 pub meet-spec : {M : Type 1} → statement M
 meet-spec =
@@ -59,11 +59,11 @@ meet-spec =
     (tie.spec
     returns
     sub-y
-    mul-keep-first
-    slice-read-keep-first
-    mul-keep-first-2
-    shared-slice-read-keep-first
-    keep-first-requires
+    mul-keep-lower
+    slice-read-keep-lower
+    mul-keep-lower-2
+    shared-slice-read-keep-lower
+    keep-lower-requires
     mul-sources
     slice-write-sources
     same-length
