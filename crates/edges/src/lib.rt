@@ -10,7 +10,7 @@ ghost use Prim.Native.Nat.{ℕ, _+_, _*_, _-_, _<_, _≤_, min};
 ghost use lib.ListN.{length, getD, set, drop};
 ghost use Rattle.leaf.specs.Price.{mark};
 ghost use Rattle.leaf.specs.Settle.{lower, relax};
-ghost use Rattle.leaf.specs.Settle.Sweeps.{Fell, Visited, Swept};
+ghost use Rattle.leaf.specs.Settle.Sweeps.{Fell, Visited, Swept, Reach};
 ghost use Rattle.leaf.specs.Lent.{costBy};
 ghost use Rattle.layer.specs.Board.{Sound, settleOn, settledOn};
 ghost use Rattle.layer.specs.Lent.{Front, boardOf};
@@ -194,7 +194,47 @@ fn relax_along(
     fell
 }
 
-// State x, where it is dirty, is clean afterwards and has lowered the prices of what its edges lead to. Whether one fell.
+// State x, where it is reached, is clean afterwards and has lowered the prices of what its edges lead to. Whether one fell.
+fn set_out(
+    prices: &mut [u64],
+    dirty: &mut [u8],
+    moves: &[u16],
+    row: usize,
+    at: usize,
+    costs: &[u16],
+    mets: &[u8],
+    edges: &[u8],
+    ends: &[usize],
+    x: usize,
+) -> bool
+    requires { ⌜ (x < length (now prices)) × (length (now prices) ≤ length (now dirty))
+        × Ways (now moves) row at (now costs) (now mets) (now edges) (now ends) (length (now prices)) ⌝ }
+    ensures { λ r. ⌜ ((m : ℕ) (cost : ℕ → ℕ) (to : ℕ → ℕ → ℕ)
+        → Meant (now (moves .entry)) row at (now (costs .entry)) (now (mets .entry)) (now (edges .entry)) (now (ends .entry))
+        (length (now (prices .entry))) m cost to
+        → (j k : ℕ) → Reach j k x → Visited mark (length (now (prices .entry))) m cost to
+        j k x (now (prices .entry)) (now (dirty .entry)) r (now (prices .exit)) (now (dirty .exit))) ⌝ }
+{
+    if prices[x] >= MARK {
+        return false;
+    }
+    dirty[x] = 0;
+    let from = ends[at + x];
+    let to = ends[at + x + 1];
+    relax_along(
+        prices,
+        dirty,
+        moves,
+        row,
+        at,
+        costs,
+        mets,
+        &edges[from..to],
+        x,
+    )
+}
+
+// State x sets out where it is dirty. Whether a price fell.
 fn visit(
     prices: &mut [u64],
     dirty: &mut [u8],
@@ -212,29 +252,42 @@ fn visit(
     ensures { λ r. ⌜ ((m : ℕ) (cost : ℕ → ℕ) (to : ℕ → ℕ → ℕ)
         → Meant (now (moves .entry)) row at (now (costs .entry)) (now (mets .entry)) (now (edges .entry)) (now (ends .entry))
         (length (now (prices .entry))) m cost to
-        → Visited mark (length (now (prices .entry))) m cost to
-        x (now (prices .entry)) (now (dirty .entry)) r (now (prices .exit)) (now (dirty .exit))) ⌝ }
+        → Visited mark (length (now (prices .entry))) m cost to (length (now (prices .entry))) (length (now (prices .entry))) x
+        (now (prices .entry)) (now (dirty .entry)) r (now (prices .exit)) (now (dirty .exit))) ⌝ }
 {
     if dirty[x] == 0 {
         return false;
     }
-    dirty[x] = 0;
-    if prices[x] >= MARK {
-        return false;
+    set_out(prices, dirty, moves, row, at, costs, mets, edges, ends, x)
+}
+
+// Every state once, by rising number. Whether a price fell.
+fn first_sweep(
+    prices: &mut [u64],
+    dirty: &mut [u8],
+    moves: &[u16],
+    row: usize,
+    at: usize,
+    costs: &[u16],
+    mets: &[u8],
+    edges: &[u8],
+    ends: &[usize],
+) -> bool
+    requires { ⌜ (length (now prices) ≤ length (now dirty))
+        × Ways (now moves) row at (now costs) (now mets) (now edges) (now ends) (length (now prices)) ⌝ }
+    ensures { λ r. ⌜ ((m : ℕ) (cost : ℕ → ℕ) (to : ℕ → ℕ → ℕ)
+        → Meant (now (moves .entry)) row at (now (costs .entry)) (now (mets .entry)) (now (edges .entry)) (now (ends .entry))
+        (length (now (prices .entry))) m cost to
+        → Swept mark (length (now (prices .entry))) m cost to 0 (length (now (prices .entry))) (length (now (prices .entry)))
+        (now (prices .entry)) (now (dirty .entry)) r (now (prices .exit)) (now (dirty .exit))) ⌝ }
+{
+    let mut fell = false;
+    for x in 0..prices.len() {
+        if set_out(prices, dirty, moves, row, at, costs, mets, edges, ends, x) {
+            fell = true;
+        }
     }
-    let from = ends[at + x];
-    let to = ends[at + x + 1];
-    relax_along(
-        prices,
-        dirty,
-        moves,
-        row,
-        at,
-        costs,
-        mets,
-        &edges[from..to],
-        x,
-    )
+    fell
 }
 
 // Every dirty state once, by rising number. Whether a price fell.
@@ -254,8 +307,8 @@ fn sweep(
     ensures { λ r. ⌜ ((m : ℕ) (cost : ℕ → ℕ) (to : ℕ → ℕ → ℕ)
         → Meant (now (moves .entry)) row at (now (costs .entry)) (now (mets .entry)) (now (edges .entry)) (now (ends .entry))
         (length (now (prices .entry))) m cost to
-        → Swept mark (length (now (prices .entry))) m cost to
-        (length (now (prices .entry))) (now (prices .entry)) (now (dirty .entry)) r (now (prices .exit)) (now (dirty .exit))) ⌝ }
+        → Swept mark (length (now (prices .entry))) m cost to (length (now (prices .entry))) (length (now (prices .entry))) (length (now (prices .entry)))
+        (now (prices .entry)) (now (dirty .entry)) r (now (prices .exit)) (now (dirty .exit))) ⌝ }
 {
     let mut fell = false;
     for x in 0..prices.len() {
@@ -279,7 +332,7 @@ fn some_met(mets: &[u8], acts: &[u8]) -> bool
     false
 }
 
-// The prices of the leaf behind i leaves settle: every state is dirty at first, and sweeps go on as long as a price falls. Where no edge of the leaf
+// The prices of the leaf behind i leaves settle: every state sets out once, and then the dirty ones as long as a price falls. Where no edge of the leaf
 // has its flag set, the prices are settled as they are. Whether it was swept.
 fn settle_leaf(
     leaves: usize,
@@ -311,7 +364,10 @@ fn settle_leaf(
     if !some_met(mets, &edges[from..to]) {
         return false;
     }
-    let mut dirty = [1u8; 256];
+    let mut dirty = [0u8; 256];
+    if !first_sweep(prices, &mut dirty, moves, row, at, costs, mets, edges, ends) {
+        return true;
+    }
     while sweep(prices, &mut dirty, moves, row, at, costs, mets, edges, ends) {}
     true
 }

@@ -7,7 +7,7 @@ ghost use lib.ListN.{length, getD, replicate};
 ghost use Rattle.loops.specs.Count.{any};
 ghost use Rattle.leaf.specs.Price.{mark};
 ghost use Rattle.leaf.specs.Settle.{lower, relax, settled};
-ghost use Rattle.leaf.specs.Settle.Sweeps.{Fell, Visited, Swept};
+ghost use Rattle.leaf.specs.Settle.Sweeps.{Fell, Visited, Swept, Reach};
 ghost use Rattle.leaf.specs.Pass.{pass};
 ghost use Rattle.leaf.specs.Lent.{Lent, costBy, moveBy};
 
@@ -105,7 +105,32 @@ fn relax_from(
     fell
 }
 
-// State x, where it is dirty, is clean afterwards and has lowered the prices of what the actions make of it. Whether one fell.
+// State x, where it is reached, is clean afterwards and has lowered the prices of what the actions make of it. Whether one fell.
+fn set_out(
+    prices: &mut [u64],
+    dirty: &mut [u8],
+    moves: &[u16],
+    row: usize,
+    at: usize,
+    costs: &[u16],
+    acts: &[u8],
+    count: usize,
+    x: usize,
+) -> bool
+    requires { ⌜ (x < length (now prices)) × (length (now prices) ≤ length (now dirty))
+        × Lent (now moves) row at (now costs) (now acts) count (length (now prices)) ⌝ }
+    ensures { λ r. ⌜ ((j k : ℕ) → Reach j k x → Visited mark (length (now (prices .entry))) count
+        (costBy (now (costs .entry)) (now (acts .entry))) (moveBy (now (moves .entry)) row at (now (acts .entry)))
+        j k x (now (prices .entry)) (now (dirty .entry)) r (now (prices .exit)) (now (dirty .exit))) ⌝ }
+{
+    if prices[x] >= MARK {
+        return false;
+    }
+    dirty[x] = 0;
+    relax_from(prices, dirty, moves, row, at, costs, acts, count, x)
+}
+
+// State x sets out where it is dirty. Whether a price fell.
 fn visit(
     prices: &mut [u64],
     dirty: &mut [u8],
@@ -121,16 +146,38 @@ fn visit(
         × Lent (now moves) row at (now costs) (now acts) count (length (now prices)) ⌝ }
     ensures { λ r. ⌜ Visited mark (length (now (prices .entry))) count
         (costBy (now (costs .entry)) (now (acts .entry))) (moveBy (now (moves .entry)) row at (now (acts .entry)))
-        x (now (prices .entry)) (now (dirty .entry)) r (now (prices .exit)) (now (dirty .exit)) ⌝ }
+        (length (now (prices .entry))) (length (now (prices .entry))) x (now (prices .entry)) (now (dirty .entry)) r (now (prices .exit)) (now (dirty .exit)) ⌝ }
 {
     if dirty[x] == 0 {
         return false;
     }
-    dirty[x] = 0;
-    if prices[x] >= MARK {
-        return false;
+    set_out(prices, dirty, moves, row, at, costs, acts, count, x)
+}
+
+// Every state once, by rising number. Whether a price fell.
+fn first_sweep(
+    prices: &mut [u64],
+    dirty: &mut [u8],
+    moves: &[u16],
+    row: usize,
+    at: usize,
+    costs: &[u16],
+    acts: &[u8],
+    count: usize,
+) -> bool
+    requires { ⌜ (length (now prices) ≤ length (now dirty))
+        × Lent (now moves) row at (now costs) (now acts) count (length (now prices)) ⌝ }
+    ensures { λ r. ⌜ Swept mark (length (now (prices .entry))) count
+        (costBy (now (costs .entry)) (now (acts .entry))) (moveBy (now (moves .entry)) row at (now (acts .entry)))
+        0 (length (now (prices .entry))) (length (now (prices .entry))) (now (prices .entry)) (now (dirty .entry)) r (now (prices .exit)) (now (dirty .exit)) ⌝ }
+{
+    let mut fell = false;
+    for x in 0..prices.len() {
+        if set_out(prices, dirty, moves, row, at, costs, acts, count, x) {
+            fell = true;
+        }
     }
-    relax_from(prices, dirty, moves, row, at, costs, acts, count, x)
+    fell
 }
 
 // Every dirty state once, by rising number. Whether a price fell.
@@ -148,7 +195,8 @@ fn sweep(
         × Lent (now moves) row at (now costs) (now acts) count (length (now prices)) ⌝ }
     ensures { λ r. ⌜ Swept mark (length (now (prices .entry))) count
         (costBy (now (costs .entry)) (now (acts .entry))) (moveBy (now (moves .entry)) row at (now (acts .entry)))
-        (length (now (prices .entry))) (now (prices .entry)) (now (dirty .entry)) r (now (prices .exit)) (now (dirty .exit)) ⌝ }
+        (length (now (prices .entry))) (length (now (prices .entry))) (length (now (prices .entry)))
+        (now (prices .entry)) (now (dirty .entry)) r (now (prices .exit)) (now (dirty .exit)) ⌝ }
 {
     let mut fell = false;
     for x in 0..prices.len() {
@@ -159,7 +207,7 @@ fn sweep(
     fell
 }
 
-// The prices of a leaf settle: every state is dirty at first, and sweeps go on as long as a price falls. Without actions none does.
+// The prices of a leaf settle: every state sets out once, and then the dirty ones as long as a price falls. Without actions none does.
 pub fn settle(
     prices: &mut [u64],
     moves: &[u16],
@@ -177,7 +225,10 @@ pub fn settle(
     if count == 0 {
         return;
     }
-    let mut dirty = [1u8; 256];
+    let mut dirty = [0u8; 256];
+    if !first_sweep(prices, &mut dirty, moves, row, at, costs, acts, count) {
+        return;
+    }
     while sweep(prices, &mut dirty, moves, row, at, costs, acts, count) {}
 }
 

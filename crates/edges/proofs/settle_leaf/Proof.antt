@@ -1,6 +1,6 @@
--- `edges::settle_leaf` meets its contract. The invariant: for any actions that lead where the leaf's edges do, no price is above its start price,
--- each is what a walk costs, and no action leads from a clean state to one at less than its price. The enabled actions are such actions. The sum of
--- the prices falls with each turn. Where no edge has its flag set, the enabled actions lead nowhere. Assumes nothing.
+-- `edges::settle_leaf` meets its contract. After the first sweep, for any actions that lead where the leaf's edges do, no price is above its start
+-- price, each is what a walk costs, and no action leads from a clean state to one at less than its price; the invariant: that stays so. The enabled
+-- actions are such actions. The sum of the prices falls with each turn. Where no edge has its flag set, the enabled actions lead nowhere. Assumes nothing.
 use mathlib.Core.Path.{_≡_, refl, _∙_}
 use mathlib.Core.Bool.{true≢false}
 use mathlib.Core.List.{List}
@@ -12,12 +12,13 @@ use borrow.Author.Needs.{needs}
 use borrow.Author.Tests.{not-true}
 use Rattle.leaf.specs.Price.{mark}
 use Rattle.leaf.specs.Settle.Turns.{at-most}
+use Rattle.leaf.specs.Settle.Walks.{Capped}
 use Rattle.leaf.specs.Settle.Sweeps.{total, Sweeping, sweeping-start, sweeping-end}
 use Rattle.leaf.specs.Lent.{costBy, moveBy}
 use Rattle.layer.specs.Board.{Board, rowOn, baseOn, enabledOn}
 use Rattle.layer.specs.Board.Turns.{base-in, leaf-settled}
 use Rattle.layer.specs.Lent.{boardOf}
-use Rattle.edges.specs.Edges.{Meant}
+use Rattle.edges.specs.Edges.{Meant, Ways}
 use Rattle.edges.specs.Edges.Leaf.{leaf-ways, leaf-meant}
 use Rattle.edges.specs.Edges.Still.{leaf-part, leaf-unmet, still-settled}
 use Rattle.edges.proofs.settle_leaf.Statement.{statement}
@@ -27,7 +28,8 @@ abbrev Inv-loop : tie.InvT-loop
 Inv-loop leaves actions bases moves costs kinds conditions mets edges ends i prices₀ row at from to dirty₀ prices dirty =
     (length prices ≡ length prices₀) × (length dirty ≡ 256)
     × ((m : ℕ) (cost : ℕ → ℕ) (to : ℕ → ℕ → ℕ) → Meant moves row at costs mets edges ends (length prices₀) m cost to
-    → Sweeping mark (length prices₀) m cost to prices₀ prices dirty)
+    → (P : List ℕ) → Sweeping mark (length prices₀) m cost to (length prices₀) P prices₀ dirty₀
+    → Sweeping mark (length prices₀) m cost to (length prices₀) P prices dirty)
 
 abbrev μ-loop : tie.MeasureT-loop
 μ-loop leaves actions bases moves costs kinds conditions mets edges ends i prices₀ row at from to dirty₀ prices dirty = total prices
@@ -44,15 +46,15 @@ mul-at c = search needs
 shared-slice-read-at : tie.Need-shared-slice-read-at Inv-loop μ-loop
 shared-slice-read-at c = search needs
 
--- where the function starts, from where its slices are known and from the first turn; the Board that is lent; the enabled actions of the leaf
+-- where the function starts, from where its slices are known and from the first sweep; the Board that is lent; the enabled actions of the leaf
 abbrev entry : tie.After-slice-known Inv-loop μ-loop → tie.Start Inv-loop μ-loop
 entry t = t .before .before .before .before .before .before .before .before .before
 
 abbrev known : tie.After-shared-slice-known13 Inv-loop μ-loop → tie.After-slice-known Inv-loop μ-loop
 known t = t .before .before .before .before .before
 
-abbrev opened : tie.At-loop Inv-loop μ-loop → tie.After-slice-known Inv-loop μ-loop
-opened t = known (t .before .before .before .before)
+abbrev opened : tie.After-first-sweep Inv-loop μ-loop → tie.After-slice-known Inv-loop μ-loop
+opened t = known (t .before .before .before .before .before .before)
 
 abbrev board : tie.Start Inv-loop μ-loop → Board
 board s =
@@ -87,6 +89,10 @@ early : (s : tie.Start Inv-loop μ-loop) →
 early s =
     let sound = s .pre .0 in
     (sound .bases-rise (s .args .i) (s .pre .3), le-trans (base-in (board s) sound (s .args .i) (s .pre .3)) (sound .few-all))
+
+-- no price is above the mark
+few : (k : tie.After-slice-known Inv-loop μ-loop) → Capped mark (entry k .args .prices .now)
+few k = at-most mark (entry k .args .prices .now) (λ i. omega (arith, k .slice-known .given i))
 
 mul-from : tie.Need-mul-from Inv-loop μ-loop
 mul-from c = omega (arith, early (entry (c .before .before)))
@@ -129,20 +135,57 @@ returns c =
     let P = a .prices .now in
     let none = c .before .some-met .ensures (not-true _ (c .if1 .taken)) in
     let unmet = leaf-unmet (board s) (s .pre .0) (a .edges .now) (a .ends .now) (s .pre .2) (a .i) (s .pre .3) (a .mets .now) none in
-    let still = still-settled mark _ _ _ _ _ _ _ _ _ _ _ P (meant s) (rw (s .pre .4) unmet) refl
-    (at-most mark P (λ i. omega (arith, t .slice-known .given i))) in
+    let still = still-settled mark _ _ _ _ _ _ _ _ _ _ _ P (meant s) (rw (s .pre .4) unmet) refl (few t) in
     (still ∙ leaf-settled (board s) (a .i) (a .centre) (acts s) _ refl refl P, λ _. refl)
 
-loop-holds : tie.Need-loop-holds Inv-loop μ-loop
-loop-holds c =
-    let t = known (c .before .before .before) in
-    let s = entry t in
-    let P = s .args .prices .now in (
-      refl,
-      refl,
-      λ m cost to _. sweeping-start mark _ _ _ _ P 256 refl (omega (arith, s .pre .4, s .pre .0 .few-states (s .args .i) (s .pre .3)))
-          (at-most mark P (λ i. omega (arith, t .slice-known .given i))),
+slice-aggregate-first-sweep : tie.Need-slice-aggregate-first-sweep Inv-loop μ-loop
+slice-aggregate-first-sweep c = search needs
+
+-- the leaf's edges can be followed, and a flag stands for each state
+ways : (s : tie.Start Inv-loop μ-loop) →
+    let a = s .args in
+    (length (a .prices .now) ≤ 256)
+    × Ways (a .moves .now) (rowOn (board s)) (baseOn (board s) (a .i)) (a .costs .now) (a .mets .now) (a .edges .now) (a .ends .now) (length (a .prices .now))
+ways s =
+    let a = s .args in (
+      rw (s .pre .4) (s .pre .0 .few-states (a .i) (s .pre .3)),
+      rw (s .pre .4) (leaf-ways (board s) (s .pre .0) (a .edges .now) (a .ends .now) (s .pre .2) (a .i) (s .pre .3) (a .mets .now) (s .pre .1 .long)),
     )
+
+first-sweep-requires : tie.Need-first-sweep-requires Inv-loop μ-loop
+first-sweep-requires c κs = ways (entry (known (c .before .before .before .before .before)))
+
+same-length : tie.Need-same-length Inv-loop μ-loop
+same-length c = search needs
+
+returns-2 : tie.Need-returns-2 Inv-loop μ-loop
+returns-2 c =
+    let first = c .before .before .before .before in
+    let k = opened first in
+    let s = entry k in
+    let P = s .args .prices .now in
+    let end = sweeping-end
+    mark
+    _
+    _
+    _
+    _
+    (meant s .ranged)
+    0
+    P
+    P
+    _
+    _
+    _
+    refl
+    (few k)
+    (sweeping-start mark _ _ _ _ P _ refl (few k))
+    (first .first-sweep .ensures _ _ _ (meant s))
+    (not-true _ (c .if2 .taken)) in
+    (end ∙ leaf-settled (board s) (s .args .i) (s .args .centre) (acts s) _ refl refl P, λ e. absurd (true≢false e))
+
+loop-holds : tie.Need-loop-holds Inv-loop μ-loop
+loop-holds c = (refl, c .before .before .before .before .first-sweep .kept .1 .0, λ m cost to h P s. s)
 
 slice-aggregate-sweep : tie.Need-slice-aggregate-sweep Inv-loop μ-loop
 slice-aggregate-sweep c = omega (arith, c .before .before .loop .inv .1)
@@ -150,16 +193,20 @@ slice-aggregate-sweep c = omega (arith, c .before .before .loop .inv .1)
 sweep-requires : tie.Need-sweep-requires Inv-loop μ-loop
 sweep-requires c κs =
     let l = c .before .before .loop in
-    let s = entry (opened (c .before .before)) in
-    let a = s .args in
-    let ways = leaf-ways (board s) (s .pre .0) (a .edges .now) (a .ends .now) (s .pre .2) (a .i) (s .pre .3) (a .mets .now) (s .pre .1 .long) in
-    (omega (arith, l .inv .0, l .inv .1, s .pre .4, s .pre .0 .few-states (a .i) (s .pre .3)), rw (l .inv .0, s .pre .4) ways)
+    let first = c .before .before .before .before .before .before .before in
+    let s = entry (opened first) in
+    let long = l .inv .0 ∙ first .first-sweep .kept .0 in
+    (rw (long, l .inv .1) (ways s .0), rw long (ways s .1))
+
+-- there are as many prices as at the start
+turned : (t : tie.At-loop Inv-loop μ-loop) → length (t .loop .prices) ≡ length (entry (opened (t .before .before .before .before .before)) .args .prices .now)
+turned t = t .loop .inv .0 ∙ t .before .before .before .before .before .first-sweep .kept .0
 
 loop-less : tie.Need-loop-less Inv-loop μ-loop
 loop-less c =
     let called = c .before .before .before .before in
     let t = called .before .before .before in
-    (rw (t .loop .inv .0) at (called .sweep .ensures)) _ _ _ (meant (entry (opened t))) .falls (c .if2 .taken)
+    (rw (turned t) at (called .sweep .ensures)) _ _ _ (meant (entry (opened (t .before .before .before .before .before)))) .falls (c .if3 .taken)
 
 loop-again : tie.Need-loop-again Inv-loop μ-loop
 loop-again c =
@@ -168,22 +215,22 @@ loop-again c =
     let told = rw (l .inv .0) at (called .sweep .ensures) in (
       called .sweep .kept .0 ∙ l .inv .0,
       called .sweep .kept .1 .0 ∙ l .inv .1,
-      λ m cost to h. told m cost to h .keeps _ (l .inv .2 m cost to h),
+      λ m cost to h P s. told m cost to h .keeps P (l .inv .2 m cost to h P s),
     )
 
-same-length : tie.Need-same-length Inv-loop μ-loop
-same-length c =
+same-length-2 : tie.Need-same-length-2 Inv-loop μ-loop
+same-length-2 c =
     let called = c .before .before .before .before in
-    called .sweep .kept .0 ∙ called .before .before .before .loop .inv .0
+    called .sweep .kept .0 ∙ turned (called .before .before .before)
 
-returns-2 : tie.Need-returns-2 Inv-loop μ-loop
-returns-2 c =
+returns-3 : tie.Need-returns-3 Inv-loop μ-loop
+returns-3 c =
     let called = c .before .before .before .before in
     let t = called .before .before .before in
-    let k = opened t in
+    let first = t .before .before .before .before .before in
+    let k = opened first in
     let s = entry k in
     let P = s .args .prices .now in
-    let told = rw (t .loop .inv .0) at (called .sweep .ensures) in
     let end = sweeping-end
     mark
     _
@@ -191,16 +238,17 @@ returns-2 c =
     _
     _
     (meant s .ranged)
+    (length P)
     P
     _
     _
     _
     _
     refl
-    (at-most mark P (λ i. omega (arith, k .slice-known .given i)))
-    (t .loop .inv .2 _ _ _ (meant s))
-    (told _ _ _ (meant s))
-    (c .if2 .left) in
+    (few k)
+    ((rw (first .first-sweep .kept .0) at (t .loop .inv .2)) _ _ _ (meant s) P (first .first-sweep .ensures _ _ _ (meant s) .keeps P (sweeping-start mark _ _ _ _ P _ refl (few k))))
+    ((rw (turned t) at (called .sweep .ensures)) _ _ _ (meant s))
+    (c .if3 .left) in
     (end ∙ leaf-settled (board s) (s .args .i) (s .args .centre) (acts s) _ refl refl P, λ e. absurd (true≢false e))
 
 pub settle-leaf-spec : {M : Type 1} → statement M
@@ -225,10 +273,14 @@ settle-leaf-spec =
     part-some-met-end
     some-met-requires
     returns
+    slice-aggregate-first-sweep
+    first-sweep-requires
+    same-length
+    returns-2
     loop-holds
     slice-aggregate-sweep
     sweep-requires
     loop-less
     loop-again
-    same-length
-    returns-2)
+    same-length-2
+    returns-3)

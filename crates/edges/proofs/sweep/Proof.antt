@@ -16,13 +16,13 @@ abbrev Inv-loop : tie.InvT-loop
 Inv-loop prices₀ dirty₀ moves row at costs mets edges ends fell₀ x₀ x-end prices dirty fell x =
     (x-end ≡ length prices₀) × (x ≤ x-end) × (length prices ≡ length prices₀) × (length dirty ≡ length dirty₀)
     × ((m : ℕ) (cost : ℕ → ℕ) (to : ℕ → ℕ → ℕ) → Meant moves row at costs mets edges ends (length prices₀) m cost to
-    → Swept mark (length prices₀) m cost to x prices₀ dirty₀ fell prices dirty)
+    → Swept mark (length prices₀) m cost to (length prices₀) (length prices₀) x prices₀ dirty₀ fell prices dirty)
 
 abbrev μ-loop : tie.MeasureT-loop
 μ-loop prices₀ dirty₀ moves row at costs mets edges ends fell₀ x₀ x-end prices dirty fell x = x-end - x
 
 loop-holds : tie.Need-loop-holds Inv-loop μ-loop
-loop-holds c = (refl, omega arith, refl, refl, λ m cost to meant. swept-none mark _ _ _ _ _ _)
+loop-holds c = (refl, omega arith, refl, refl, λ m cost to meant. swept-none mark _ _ _ _ _ _ _)
 
 visit-requires : tie.Need-visit-requires Inv-loop μ-loop
 visit-requires c κs =
@@ -47,8 +47,8 @@ loop-again c =
       called .visit .kept .0 ∙ l .inv .2,
       called .visit .kept .1 .0 ∙ l .inv .3,
       λ m cost to meant. ⊎-elim
-          (λ w. rw (w .1) (swept-more mark _ _ _ _ (l .x) _ _ _ _ _ _ (l .inv .4 m cost to meant) (told m cost to meant) (w .0 .taken)))
-          (λ w. rw (w .1) (swept-same mark _ _ _ _ (l .x) _ _ _ _ _ _ (l .inv .4 m cost to meant) (told m cost to meant) (w .0 .left)))
+          (λ w. rw (w .1) (swept-more mark _ _ _ _ _ _ _ (l .x) _ _ _ _ _ _ (l .inv .4 m cost to meant) (told m cost to meant) (w .0 .taken)))
+          (λ w. rw (w .1) (swept-same mark _ _ _ _ _ _ _ (l .x) _ _ _ _ _ _ (l .inv .4 m cost to meant) (told m cost to meant) (w .0 .left)))
           (c .if1 .came),
     )
 

@@ -15,13 +15,13 @@ use Rattle.leaf.proofs.sweep.Tie as tie
 abbrev Inv-loop : tie.InvT-loop
 Inv-loop prices₀ dirty₀ moves row at costs acts count fell₀ x₀ x-end prices dirty fell x =
     (x-end ≡ length prices₀) × (x ≤ x-end) × (length prices ≡ length prices₀) × (length dirty ≡ length dirty₀)
-    × Swept mark (length prices₀) count (costBy costs acts) (moveBy moves row at acts) x prices₀ dirty₀ fell prices dirty
+    × Swept mark (length prices₀) count (costBy costs acts) (moveBy moves row at acts) (length prices₀) (length prices₀) x prices₀ dirty₀ fell prices dirty
 
 abbrev μ-loop : tie.MeasureT-loop
 μ-loop prices₀ dirty₀ moves row at costs acts count fell₀ x₀ x-end prices dirty fell x = x-end - x
 
 loop-holds : tie.Need-loop-holds Inv-loop μ-loop
-loop-holds c = (refl, omega arith, refl, refl, swept-none mark _ _ _ _ _ _)
+loop-holds c = (refl, omega arith, refl, refl, swept-none mark _ _ _ _ _ _ _)
 
 visit-requires : tie.Need-visit-requires Inv-loop μ-loop
 visit-requires c κs =
@@ -46,8 +46,8 @@ loop-again c =
       called .visit .kept .0 ∙ l .inv .2,
       called .visit .kept .1 .0 ∙ l .inv .3,
       ⊎-elim
-          (λ w. rw (w .1) (swept-more mark _ _ _ _ (l .x) _ _ _ _ _ _ (l .inv .4) told (w .0 .taken)))
-          (λ w. rw (w .1) (swept-same mark _ _ _ _ (l .x) _ _ _ _ _ _ (l .inv .4) told (w .0 .left)))
+          (λ w. rw (w .1) (swept-more mark _ _ _ _ _ _ _ (l .x) _ _ _ _ _ _ (l .inv .4) told (w .0 .taken)))
+          (λ w. rw (w .1) (swept-same mark _ _ _ _ _ _ _ (l .x) _ _ _ _ _ _ (l .inv .4) told (w .0 .left)))
           (c .if1 .came),
     )
 

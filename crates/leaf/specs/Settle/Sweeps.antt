@@ -1,5 +1,5 @@
--- Settling by sweeps: a flag marks each state as dirty (not 0) whose price fell since it last lowered others, and a sweep goes through the
--- dirty states. Where all are clean in the end, the prices are the settled ones. Assumes nothing.
+-- Settling by sweeps: the first goes through all states, and a flag marks each state as dirty (not 0) whose price fell since it last lowered others.
+-- Every other sweep goes through the dirty states. Where no price falls in a sweep, the prices are the settled ones. Assumes nothing.
 -- M, m, cost and to are as in settling; n is the count of states.
 use mathlib.Core.Path.{_≡_, refl, sym, ap, _∙_}
 use mathlib.Core.Logic.{_⊎_, inl, inr}
@@ -9,7 +9,7 @@ use Prim.Native.Nat.{ℕ, zero, suc, _+_, _≤_, _<_}
 use native.Mathlib.Nat.{not-suc-le-zero}
 use native.Mathlib.Decide.{ℕ-discrete}
 use native.Mathlib.Omega.{arith}
-use lib.ListN.{length, getD, set, replicate, getD-replicate}
+use lib.ListN.{length, getD, set}
 use lib.Seq.{getD-set-same, getD-set-other}
 use Rattle.loops.specs.Count.Laws.{test-cases, below-cases}
 use Rattle.leaf.specs.Settle.{relax, settled}
@@ -95,97 +95,114 @@ module _ (M : ℕ) where
 
 -- ---- what holds all along
 
+-- state u need not be visited again: it is clean, or it is not reached
+abbrev pub Idle : ℕ → ℕ → List ℕ → List ℕ → Type 0
+Idle M u Q E = (getD E u 0 ≡ 0) ⊎ (M ≤ getD Q u M)
+
+-- the states below k are those below j, and x
+abbrev pub Reach : ℕ → ℕ → ℕ → Type 0
+Reach j k x = (u : ℕ) → u < k → (u < j) ⊎ (u ≡ x)
+
+-- one state more
+pub reach-next : (x : ℕ) → Reach x (x + 1) x
+reach-next x u h = below-cases (omega arith)
+
 module _ (M n m : ℕ) (cost : ℕ → ℕ) (to : ℕ → ℕ → ℕ) where
-  -- prices Q and flags D on the way from the start prices P: no price is above its start price or M, each below M is what a walk costs, and no
-  -- action leads from a clean state to one at less than its price
-  pub record Sweeping (P Q D : List ℕ) : Type 0 where
+  -- prices Q and flags D on the way from the start prices P, with the states below k visited: no price is above its start price or M, each below M
+  -- is what a walk costs, and no action leads from a clean state that was visited to one at less than its price
+  pub record Sweeping (k : ℕ) (P Q D : List ℕ) : Type 0 where
     pub prices : length Q ≡ n
     pub cap : Capped M Q
     pub below : Below M Q P
     pub real : Real M m cost to P Q
-    pub clean : (x a y : ℕ) → getD D x 0 ≡ 0 → x < n → a < m → to a x ≡ suc y → getD Q y M ≤ getD Q x M + cost a
+    pub clean : (x a y : ℕ) → getD D x 0 ≡ 0 → x < k → x < n → a < m → to a x ≡ suc y → getD Q y M ≤ getD Q x M + cost a
 
-  -- state x was visited, and whether a price fell: then the sum fell, else the prices are as before, x is clean and so is what was clean
-  pub record Visited (x : ℕ) (P D : List ℕ) (r : Bool) (Q E : List ℕ) : Type 0 where
-    pub keeps : (R : List ℕ) → Sweeping R P D → Sweeping R Q E
+  -- state x was visited, where the states below j had been, and those below k have been now. Whether a price fell: then the sum fell, else the prices
+  -- are as before, x need not be visited again, and what was clean is clean
+  pub record Visited (j k x : ℕ) (P D : List ℕ) (r : Bool) (Q E : List ℕ) : Type 0 where
+    pub keeps : (R : List ℕ) → Sweeping j R P D → Sweeping k R Q E
     pub falls : r ≡ true → total Q < total P
     pub same : r ≡ false → Q ≡ P
-    pub clean : r ≡ false → getD E x 0 ≡ 0
+    pub idle : r ≡ false → Idle M x Q E
     pub others : r ≡ false → (u : ℕ) → getD D u 0 ≡ 0 → getD E u 0 ≡ 0
 
-  -- the states below i were visited, and whether a price fell: then the sum fell, else the prices are as before and those states are clean
-  pub record Swept (i : ℕ) (P D : List ℕ) (r : Bool) (Q E : List ℕ) : Type 0 where
-    pub keeps : (R : List ℕ) → Sweeping R P D → Sweeping R Q E
+  -- the states below i were visited, and whether a price fell: then the sum fell, else the prices are as before and those states need not be visited again
+  pub record Swept (j k i : ℕ) (P D : List ℕ) (r : Bool) (Q E : List ℕ) : Type 0 where
+    pub keeps : (R : List ℕ) → Sweeping j R P D → Sweeping k R Q E
     pub falls : r ≡ true → total Q < total P
     pub same : r ≡ false → Q ≡ P
-    pub clean : r ≡ false → (u : ℕ) → u < i → getD E u 0 ≡ 0
+    pub idle : r ≡ false → (u : ℕ) → u < i → Idle M u Q E
 
   -- ---- visits
 
-  -- the state is clean: nothing happens
-  pub visit-clean : (x : ℕ) (P D : List ℕ) → getD D x 0 ≡ 0 → Visited x P D false P D
-  visit-clean x P D e =
-      record { keeps = λ R s. s; falls = λ h. absurd (true≢false (sym h)); same = λ _. refl; clean = λ _. e; others = λ _ u h. h }
+  -- the state is clean and had been visited: nothing happens
+  pub visit-clean : (k x : ℕ) (P D : List ℕ) → getD D x 0 ≡ 0 → Visited k k x P D false P D
+  visit-clean k x P D e =
+      record { keeps = λ R s. s; falls = λ h. absurd (true≢false (sym h)); same = λ _. refl; idle = λ _. inl e; others = λ _ u h. h }
 
-  -- the state is not reached: it is clean, and no price changes
-  pub visit-far : (x : ℕ) (P D : List ℕ) → x < length D → M ≤ getD P x M → Visited x P D false P (set D x 0)
-  visit-far x P D h far =
+  -- the state is not reached: nothing happens
+  pub visit-far : (j k x : ℕ) (P D : List ℕ) → Reach j k x → M ≤ getD P x M → Visited j k x P D false P D
+  visit-far j k x P D reach far =
       record {
         keeps = keeps;
         falls = λ e. absurd (true≢false (sym e));
         same = λ _. refl;
-        clean = λ _. getD-set-same D x 0 0 h;
-        others = λ _. clean-set D x;
+        idle = λ _. inr far;
+        others = λ _ u h. h;
       }
     where
-      keeps : (R : List ℕ) → Sweeping R P D → Sweeping R P (set D x 0)
-      keeps R s = record { prices = s .prices; cap = s .cap; below = s .below; real = s .real; clean = λ u a y e. go u a y (set-clean D x u e) }
+      keeps : (R : List ℕ) → Sweeping j R P D → Sweeping k R P D
+      keeps R s = record { prices = s .prices; cap = s .cap; below = s .below; real = s .real; clean = λ u a y e h. go u a y e (reach u h) }
         where
-          go : (u a y : ℕ) → (u ≡ x) ⊎ (getD D u 0 ≡ 0) → u < n → a < m → to a u ≡ suc y → getD P y M ≤ getD P u M + cost a
-          go u a y (inl q) l g t = rw q (omega (arith, s .cap y))
-          go u a y (inr q) l g t = s .clean u a y q l g t
+          go : (u a y : ℕ) → getD D u 0 ≡ 0 → (u < j) ⊎ (u ≡ x) → u < n → a < m → to a u ≡ suc y → getD P y M ≤ getD P u M + cost a
+          go u a y e (inl h) l g t = s .clean u a y e h l g t
+          go u a y e (inr q) l g t = rw q (omega (arith, s .cap y))
 
   -- the state is reached: its actions lower prices
-  pub visit-near : Ranged n m to → (x : ℕ) (P D Q E : List ℕ) (r : Bool) → length P ≡ n → x < length D → getD P x M < M
-      → Q ≡ relax M cost to x (getD P x M) P m → Fell M P (set D x 0) r Q E → Visited x P D r Q E
-  visit-near ranged x P D Q E r l h near q f =
+  pub visit-near : Ranged n m to → (j k x : ℕ) (P D Q E : List ℕ) (r : Bool) → Reach j k x → length P ≡ n → x < length D → getD P x M < M
+      → Q ≡ relax M cost to x (getD P x M) P m → Fell M P (set D x 0) r Q E → Visited j k x P D r Q E
+  visit-near ranged j k x P D Q E r reach l h near q f =
       record {
         keeps = keeps;
         falls = f .falls;
         same = λ e. f .same e .0;
-        clean = λ e. rw (f .same e .1) (getD-set-same D x 0 0 h);
+        idle = λ e. inl (rw (f .same e .1) (getD-set-same D x 0 0 h));
         others = λ e u g. rw (f .same e .1) (clean-set D x u g);
       }
     where
       lower : (u : ℕ) → getD Q u M ≤ getD P u M
       lower u = rw q (relax-below M cost to x (getD P x M) P m u)
 
-      keeps : (R : List ℕ) → Sweeping R P D → Sweeping R Q E
+      keeps : (R : List ℕ) → Sweeping j R P D → Sweeping k R Q E
       keeps R s =
           record {
             prices = rw q (relax-length M cost to x (getD P x M) P m ∙ l);
             cap = λ u. omega (arith, lower u, s .cap u);
             below = λ u. omega (arith, lower u, s .below u);
             real = rw q (round-real M m cost to R P x (s .real) near);
-            clean = λ u a y e. let k = f .kept u e in go u a y (k .1) (set-clean D x u (k .0));
+            clean = λ u a y e i. let o = f .kept u e in go u a y (o .1) (reach u i) (set-clean D x u (o .0));
           }
         where
-          go : (u a y : ℕ) → getD Q u M ≡ getD P u M → (u ≡ x) ⊎ (getD D u 0 ≡ 0) → u < n → a < m → to a u ≡ suc y
-              → getD Q y M ≤ getD Q u M + cost a
-          go u a y k (inl z) b g t =
+          own : (u a y : ℕ) → getD Q u M ≡ getD P u M → u ≡ x → u < n → a < m → to a u ≡ suc y → getD Q y M ≤ getD Q u M + cost a
+          own u a y o z b g t =
               let hit = relax-hit M cost to x (getD P x M) P m a y (omega (arith, ranged a u y g b t)) g (ap (to a) (sym z) ∙ t) in
-              let own = ap (λ w. getD P w M) z in
+              let price = ap (λ w. getD P w M) z in
               let made : getD Q y M ≤ getD P x M + cost a = rw q hit in
               omega arith
-          go u a y k (inr z) b g t = omega (arith, lower y, s .clean u a y z b g t)
+
+          go : (u a y : ℕ) → getD Q u M ≡ getD P u M → (u < j) ⊎ (u ≡ x) → (u ≡ x) ⊎ (getD D u 0 ≡ 0) → u < n → a < m → to a u ≡ suc y
+              → getD Q y M ≤ getD Q u M + cost a
+          go u a y o (inr z) w b g t = own u a y o z b g t
+          go u a y o (inl i) (inl z) b g t = own u a y o z b g t
+          go u a y o (inl i) (inr z) b g t = omega (arith, lower y, s .clean u a y z i b g t)
 
   -- ---- sweeps
 
   -- before the first state
-  pub swept-none : (P D : List ℕ) → Swept 0 P D false P D
-  swept-none P D = record { keeps = λ R s. s; falls = λ e. absurd (true≢false (sym e)); same = λ _. refl; clean = λ _ u h. absurd (not-suc-le-zero h) }
+  pub swept-none : (j : ℕ) (P D : List ℕ) → Swept j j 0 P D false P D
+  swept-none j P D = record { keeps = λ R s. s; falls = λ e. absurd (true≢false (sym e)); same = λ _. refl; idle = λ _ u h. absurd (not-suc-le-zero h) }
 
-  module _ (i : ℕ) (P D Q E Q′ E′ : List ℕ) {a b : Bool} (w : Swept i P D a Q E) (v : Visited i Q E b Q′ E′) where
+  module _ (h j k i : ℕ) (P D Q E Q′ E′ : List ℕ) {a b : Bool} (w : Swept h j i P D a Q E) (v : Visited j k i Q E b Q′ E′) where
     -- the sum did not rise so far
     swept-low : total Q ≤ total P
     swept-low = go (test-cases a)
@@ -195,46 +212,56 @@ module _ (M n m : ℕ) (cost : ℕ → ℕ) (to : ℕ → ℕ → ℕ) where
         go (inr e) = rw (w .same e) (omega arith)
 
     -- a state at which a price fell
-    pub swept-more : b ≡ true → Swept (i + 1) P D true Q′ E′
+    pub swept-more : b ≡ true → Swept h k (i + 1) P D true Q′ E′
     swept-more e =
         record {
           keeps = λ R s. v .keeps R (w .keeps R s);
           falls = λ _. omega (arith, swept-low, v .falls e);
-          same = λ h. absurd (true≢false h);
-          clean = λ h. absurd (true≢false h);
+          same = λ f. absurd (true≢false f);
+          idle = λ f. absurd (true≢false f);
         }
 
     -- a state at which none fell
-    pub swept-same : b ≡ false → Swept (i + 1) P D a Q′ E′
+    pub swept-same : b ≡ false → Swept h k (i + 1) P D a Q′ E′
     swept-same e =
         record {
           keeps = λ R s. v .keeps R (w .keeps R s);
-          falls = λ h. rw (v .same e) (w .falls h);
-          same = λ h. v .same e ∙ w .same h;
-          clean = λ h u l. go h u (below-cases (omega arith));
+          falls = λ f. rw (v .same e) (w .falls f);
+          same = λ f. v .same e ∙ w .same f;
+          idle = λ f u l. go f u (below-cases (omega arith));
         }
       where
-        go : a ≡ false → (u : ℕ) → (u < i) ⊎ (u ≡ i) → getD E′ u 0 ≡ 0
-        go h u (inl l) = v .others e u (w .clean h u l)
-        go h u (inr q) = rw q (v .clean e)
+        still : (u : ℕ) → Idle M u Q E → Idle M u Q′ E′
+        still u (inl z) = inl (v .others e u z)
+        still u (inr far) = inr (rw (v .same e) far)
+
+        go : a ≡ false → (u : ℕ) → (u < i) ⊎ (u ≡ i) → Idle M u Q′ E′
+        go f u (inl l) = still u (w .idle f u l)
+        go f u (inr q) = rw q (v .idle e)
 
   -- ---- settling
 
-  -- at the start every state is dirty
-  pub sweeping-start : (P : List ℕ) (k : ℕ) → length P ≡ n → n ≤ k → Capped M P → Sweeping P P (replicate k 1)
-  sweeping-start P k l h c =
+  -- at the start no state was visited
+  pub sweeping-start : (P D : List ℕ) → length P ≡ n → Capped M P → Sweeping 0 P P D
+  sweeping-start P D l c =
       record {
         prices = l;
         cap = c;
         below = λ u. omega arith;
         real = λ u _. record { from = u; toll = 0; walk = stand; sum = omega arith };
-        clean = λ x a y e g. absurd (omega (arith, getD-replicate {A = ℕ} k x 1 0 (omega arith)));
+        clean = λ x a y e h. absurd (not-suc-le-zero h);
       }
 
-  -- a sweep at which no price fell: the prices are the settled ones
-  pub sweeping-end : Ranged n m to → (P Q D Q′ E : List ℕ) {r : Bool} → length P ≡ n → Capped M P → Sweeping P Q D → Swept n Q D r Q′ E → r ≡ false
+  -- a sweep over all states at which no price fell: the prices are the settled ones
+  pub sweeping-end : Ranged n m to → (j : ℕ) (P Q D Q′ E : List ℕ) {r : Bool} → length P ≡ n → Capped M P → Sweeping j P Q D → Swept j n n Q D r Q′ E → r ≡ false
       → Q′ ≡ settled M m cost to P
   unfolding Closed
-  sweeping-end ranged P Q D Q′ E l c s w e =
-      let z = w .keeps P s in
-      settled-unique M n m cost to ranged P Q′ l (z .prices) c (z .cap) (z .below) (λ x a y h g t. z .clean x a y (w .clean e x h) h g t) (z .real)
+  sweeping-end ranged j P Q D Q′ E l c s w e =
+      settled-unique M n m cost to ranged P Q′ l (z .prices) c (z .cap) (z .below) (λ x a y h g t. go x a y h g t (w .idle e x h)) (z .real)
+    where
+      z : Sweeping n P Q′ E
+      z = w .keeps P s
+
+      go : (x a y : ℕ) → x < n → a < m → to a x ≡ suc y → Idle M x Q′ E → getD Q′ y M ≤ getD Q′ x M + cost a
+      go x a y h g t (inl o) = z .clean x a y o h h g t
+      go x a y h g t (inr far) = omega (arith, z .cap y)
