@@ -4,13 +4,13 @@ use leaf::add_price;
 use leaf::lowered;
 use task::Centre;
 ghost use mathlib.Core.Path.{_≡_};
-ghost use mathlib.Core.Bool.{false};
+ghost use mathlib.Core.Bool.{true, false};
 ghost use mathlib.Core.List.{_++_};
 ghost use Prim.Native.Nat.{ℕ, _+_, _*_, _-_, _<_, _≤_, min};
 ghost use lib.ListN.{length, getD, set, drop};
 ghost use Rattle.leaf.specs.Price.{mark};
 ghost use Rattle.leaf.specs.Settle.{lower, relax};
-ghost use Rattle.leaf.specs.Settle.Sweeps.{Fell, Visited, Swept, Reach};
+ghost use Rattle.leaf.specs.Settle.Sweeps.{Fell, Swept, Reach};
 ghost use Rattle.leaf.specs.Lent.{costBy};
 ghost use Rattle.layer.specs.Board.{Sound, settleOn, settledOn};
 ghost use Rattle.layer.specs.Lent.{Front, boardOf};
@@ -139,7 +139,8 @@ pub fn fill_edges(
     }
 }
 
-// An action whose flag is set lowers the price of what it makes of a state with price d. Its move of the state stands at `place`. Whether it fell.
+// An action whose flag is set lowers the price of what it makes of state x, whose price is d. Its move of the state stands at `place`. Whether a price
+// fell that is not behind x.
 fn follow(
     prices: &mut [u64],
     dirty: &mut [u8],
@@ -148,23 +149,25 @@ fn follow(
     mets: &[u8],
     action: usize,
     place: usize,
+    x: usize,
     d: u64,
 ) -> bool
     requires { ⌜ (action < length (now costs)) × (action < length (now mets)) × (place < length (now moves))
         × (getD (now moves) place 0 ≤ length (now prices)) × (length (now prices) ≤ length (now dirty)) ⌝ }
     ensures { λ r. ⌜ (now (prices .exit) ≡ lower mark (now (prices .entry))
         (gated (getD (now (mets .entry)) action 0) (getD (now (moves .entry)) place 0)) (min (d + getD (now (costs .entry)) action 0) mark))
-        × Fell mark (now (prices .entry)) (now (dirty .entry)) r (now (prices .exit)) (now (dirty .exit)) ⌝ }
+        × Fell mark x (now (prices .entry)) (now (dirty .entry)) r (now (prices .exit)) (now (dirty .exit)) ⌝ }
 {
     if mets[action] == 0 {
         return false;
     }
     let k = moves[place] as usize;
     let v = add_price(d, costs[action] as u64);
-    lowered(prices, dirty, k, v)
+    lowered(prices, dirty, k, v, x)
 }
 
-// These actions, where their flags are set, lower the prices of what they make of state x, and a state whose price fell is dirty. Whether one fell.
+// These actions, where their flags are set, lower the prices of what they make of state x, and a state whose price fell is dirty. Whether one fell
+// that is not behind x.
 fn relax_along(
     prices: &mut [u64],
     dirty: &mut [u8],
@@ -181,20 +184,30 @@ fn relax_along(
     ensures { λ r. ⌜ (now (prices .exit)
         ≡ relax mark (costBy (now (costs .entry)) (now (acts .entry))) (moveMet (now (moves .entry)) row at (now (mets .entry)) (now (acts .entry)))
         x (getD (now (prices .entry)) x mark) (now (prices .entry)) (length (now (acts .entry))))
-        × Fell mark (now (prices .entry)) (now (dirty .entry)) r (now (prices .exit)) (now (dirty .exit)) ⌝ }
+        × Fell mark x (now (prices .entry)) (now (dirty .entry)) r (now (prices .exit)) (now (dirty .exit)) ⌝ }
 {
     let d = prices[x];
     let mut fell = false;
     for j in 0..acts.len() {
         let a = acts[j] as usize;
-        if follow(prices, dirty, moves, costs, mets, a, a * row + (at + x), d) {
-            fell = true;
-        }
+        let one = follow(
+            prices,
+            dirty,
+            moves,
+            costs,
+            mets,
+            a,
+            a * row + (at + x),
+            x,
+            d,
+        );
+        fell = fell | one;
     }
     fell
 }
 
-// State x, where it is reached, is clean afterwards and has lowered the prices of what its edges lead to. Whether one fell.
+// State x, where it is reached, is clean afterwards and has lowered the prices of what its edges lead to. Whether one fell that
+// is not behind x.
 fn set_out(
     prices: &mut [u64],
     dirty: &mut [u8],
@@ -212,8 +225,8 @@ fn set_out(
     ensures { λ r. ⌜ ((m : ℕ) (cost : ℕ → ℕ) (to : ℕ → ℕ → ℕ)
         → Meant (now (moves .entry)) row at (now (costs .entry)) (now (mets .entry)) (now (edges .entry)) (now (ends .entry))
         (length (now (prices .entry))) m cost to
-        → (j k : ℕ) → Reach j k x → Visited mark (length (now (prices .entry))) m cost to
-        j k x (now (prices .entry)) (now (dirty .entry)) r (now (prices .exit)) (now (dirty .exit))) ⌝ }
+        → (j k : ℕ) → Reach j k x (x + 1) → Swept mark (length (now (prices .entry))) m cost to
+        j k x (x + 1) (now (prices .entry)) (now (dirty .entry)) r (now (prices .exit)) (now (dirty .exit))) ⌝ }
 {
     if prices[x] >= MARK {
         return false;
@@ -234,7 +247,7 @@ fn set_out(
     )
 }
 
-// State x sets out where it is dirty. Whether a price fell.
+// State x sets out where it is dirty. Whether a price fell that is not behind x.
 fn visit(
     prices: &mut [u64],
     dirty: &mut [u8],
@@ -252,7 +265,7 @@ fn visit(
     ensures { λ r. ⌜ ((m : ℕ) (cost : ℕ → ℕ) (to : ℕ → ℕ → ℕ)
         → Meant (now (moves .entry)) row at (now (costs .entry)) (now (mets .entry)) (now (edges .entry)) (now (ends .entry))
         (length (now (prices .entry))) m cost to
-        → Visited mark (length (now (prices .entry))) m cost to (length (now (prices .entry))) (length (now (prices .entry))) x
+        → Swept mark (length (now (prices .entry))) m cost to (length (now (prices .entry))) (length (now (prices .entry))) x (x + 1)
         (now (prices .entry)) (now (dirty .entry)) r (now (prices .exit)) (now (dirty .exit))) ⌝ }
 {
     if dirty[x] == 0 {
@@ -261,7 +274,88 @@ fn visit(
     set_out(prices, dirty, moves, row, at, costs, mets, edges, ends, x)
 }
 
-// Every state once, by rising number. Whether a price fell.
+// Whether none of the four states from x on is reached.
+fn four_far(prices: &[u64], x: usize) -> bool
+    requires { ⌜ x + 4 ≤ length (now prices) ⌝ }
+    ensures { λ r. ⌜ (r ≡ true → (u : ℕ) → x ≤ u → u < x + 4 → mark ≤ getD (now (prices .entry)) u mark) ⌝ }
+{
+    let a = prices[x] >= MARK;
+    let b = prices[x + 1] >= MARK;
+    let c = prices[x + 2] >= MARK;
+    let d = prices[x + 3] >= MARK;
+    (a & b) & (c & d)
+}
+
+// The states from `from` to `end`, by rising number, set out. Whether a price fell of a state that had its turn.
+fn set_out_part(
+    prices: &mut [u64],
+    dirty: &mut [u8],
+    moves: &[u16],
+    row: usize,
+    at: usize,
+    costs: &[u16],
+    mets: &[u8],
+    edges: &[u8],
+    ends: &[usize],
+    from: usize,
+    end: usize,
+) -> bool
+    requires { ⌜ (from ≤ end) × (end ≤ length (now prices)) × (length (now prices) ≤ length (now dirty))
+        × Ways (now moves) row at (now costs) (now mets) (now edges) (now ends) (length (now prices)) ⌝ }
+    ensures { λ r. ⌜ ((m : ℕ) (cost : ℕ → ℕ) (to : ℕ → ℕ → ℕ)
+        → Meant (now (moves .entry)) row at (now (costs .entry)) (now (mets .entry)) (now (edges .entry)) (now (ends .entry))
+        (length (now (prices .entry))) m cost to
+        → Swept mark (length (now (prices .entry))) m cost to from end from end
+        (now (prices .entry)) (now (dirty .entry)) r (now (prices .exit)) (now (dirty .exit))) ⌝ }
+{
+    let mut fell = false;
+    for x in from..end {
+        let one = set_out(prices, dirty, moves, row, at, costs, mets, edges, ends, x);
+        fell = fell | one;
+    }
+    fell
+}
+
+// The four states from x on set out, where one of them is reached. Whether a price fell of a state that had its turn.
+fn set_out_four(
+    prices: &mut [u64],
+    dirty: &mut [u8],
+    moves: &[u16],
+    row: usize,
+    at: usize,
+    costs: &[u16],
+    mets: &[u8],
+    edges: &[u8],
+    ends: &[usize],
+    x: usize,
+) -> bool
+    requires { ⌜ (x + 4 ≤ length (now prices)) × (length (now prices) ≤ length (now dirty))
+        × Ways (now moves) row at (now costs) (now mets) (now edges) (now ends) (length (now prices)) ⌝ }
+    ensures { λ r. ⌜ ((m : ℕ) (cost : ℕ → ℕ) (to : ℕ → ℕ → ℕ)
+        → Meant (now (moves .entry)) row at (now (costs .entry)) (now (mets .entry)) (now (edges .entry)) (now (ends .entry))
+        (length (now (prices .entry))) m cost to
+        → Swept mark (length (now (prices .entry))) m cost to x (x + 4) x (x + 4)
+        (now (prices .entry)) (now (dirty .entry)) r (now (prices .exit)) (now (dirty .exit))) ⌝ }
+{
+    if four_far(prices, x) {
+        return false;
+    }
+    set_out_part(
+        prices,
+        dirty,
+        moves,
+        row,
+        at,
+        costs,
+        mets,
+        edges,
+        ends,
+        x,
+        x + 4,
+    )
+}
+
+// Every state once, by rising number: most are not reached, so four are looked at together. Whether a price fell of a state that had its turn.
 fn first_sweep(
     prices: &mut [u64],
     dirty: &mut [u8],
@@ -278,19 +372,34 @@ fn first_sweep(
     ensures { λ r. ⌜ ((m : ℕ) (cost : ℕ → ℕ) (to : ℕ → ℕ → ℕ)
         → Meant (now (moves .entry)) row at (now (costs .entry)) (now (mets .entry)) (now (edges .entry)) (now (ends .entry))
         (length (now (prices .entry))) m cost to
-        → Swept mark (length (now (prices .entry))) m cost to 0 (length (now (prices .entry))) (length (now (prices .entry)))
+        → Swept mark (length (now (prices .entry))) m cost to 0 (length (now (prices .entry))) 0 (length (now (prices .entry)))
         (now (prices .entry)) (now (dirty .entry)) r (now (prices .exit)) (now (dirty .exit))) ⌝ }
 {
     let mut fell = false;
-    for x in 0..prices.len() {
-        if set_out(prices, dirty, moves, row, at, costs, mets, edges, ends, x) {
-            fell = true;
-        }
+    let mut x = 0;
+    while prices.len() - x >= 4 {
+        let one = set_out_four(prices, dirty, moves, row, at, costs, mets, edges, ends, x);
+        fell = fell | one;
+        x += 4;
     }
-    fell
+    let last = prices.len();
+    let rest = set_out_part(
+        prices,
+        dirty,
+        moves,
+        row,
+        at,
+        costs,
+        mets,
+        edges,
+        ends,
+        x,
+        last,
+    );
+    fell | rest
 }
 
-// Every dirty state once, by rising number. Whether a price fell.
+// Every dirty state once, by rising number. Whether a price fell of a state that had its turn.
 fn sweep(
     prices: &mut [u64],
     dirty: &mut [u8],
@@ -307,14 +416,13 @@ fn sweep(
     ensures { λ r. ⌜ ((m : ℕ) (cost : ℕ → ℕ) (to : ℕ → ℕ → ℕ)
         → Meant (now (moves .entry)) row at (now (costs .entry)) (now (mets .entry)) (now (edges .entry)) (now (ends .entry))
         (length (now (prices .entry))) m cost to
-        → Swept mark (length (now (prices .entry))) m cost to (length (now (prices .entry))) (length (now (prices .entry))) (length (now (prices .entry)))
+        → Swept mark (length (now (prices .entry))) m cost to (length (now (prices .entry))) (length (now (prices .entry))) 0 (length (now (prices .entry)))
         (now (prices .entry)) (now (dirty .entry)) r (now (prices .exit)) (now (dirty .exit))) ⌝ }
 {
     let mut fell = false;
     for x in 0..prices.len() {
-        if visit(prices, dirty, moves, row, at, costs, mets, edges, ends, x) {
-            fell = true;
-        }
+        let one = visit(prices, dirty, moves, row, at, costs, mets, edges, ends, x);
+        fell = fell | one;
     }
     fell
 }
@@ -332,8 +440,8 @@ fn some_met(mets: &[u8], acts: &[u8]) -> bool
     false
 }
 
-// The prices of the leaf behind i leaves settle: every state sets out once, and then the dirty ones as long as a price falls. Where no edge of the leaf
-// has its flag set, the prices are settled as they are. Whether it was swept.
+// The prices of the leaf behind i leaves settle: every state sets out once, and then the dirty ones as long as a price falls of one that had
+// its turn. Where no edge of the leaf has its flag set, the prices are settled as they are. Whether it was swept.
 fn settle_leaf(
     leaves: usize,
     actions: usize,

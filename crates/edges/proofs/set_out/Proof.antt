@@ -1,5 +1,5 @@
 -- `edges::set_out` meets its contract. The state is not reached, or its edges lower prices, as any actions with the same edges do. Assumes nothing.
-use mathlib.Core.Path.{refl, _∙_}
+use mathlib.Core.Path.{_≡_, refl, _∙_}
 use Prim.Native.Nat.{_+_, _≤_}
 use native.Mathlib.Omega.{arith}
 use lib.ListN.{length, getD, length-set}
@@ -21,7 +21,7 @@ returns : tie.Need-returns
 returns c =
     let s = c .before .before .before .before .before .before .before .before .before in
     let own = at-any (s .args .prices .now) (s .args .x) 0 mark (s .pre .0) in
-    λ m cost to meant j k reach. visit-far mark _ _ _ _ j k _ _ _ reach (omega (arith, c .if1 .taken))
+    λ m cost to meant j k reach. visit-far mark _ _ _ _ j k _ _ _ _ reach (λ u h l. let q : u ≡ s .args .x = omega arith in rw q (omega (arith, c .if1 .taken)))
 
 slice-write-dirty : tie.Need-slice-write-dirty
 slice-write-dirty c = search needs
