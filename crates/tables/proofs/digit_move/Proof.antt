@@ -1,5 +1,5 @@
 -- `tables::digit_move` meets its contract: each return computes, with the tests that led there, and the number is small. Assumes nothing.
-use mathlib.Core.Path.{_≡_, refl}
+use mathlib.Core.Path.{_≡_}
 use Prim.Native.Nat.{_+_, _-_, _*_, _<_}
 use native.Mathlib.Omega.{arith}
 use borrow.Author.Needs.{needs}
