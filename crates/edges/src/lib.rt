@@ -4,13 +4,13 @@ use leaf::add_price;
 use leaf::lowered;
 use task::Centre;
 ghost use mathlib.Core.Path.{_≡_};
-ghost use mathlib.Core.Bool.{false};
+ghost use mathlib.Core.Bool.{true, false};
 ghost use mathlib.Core.List.{_++_};
 ghost use Prim.Native.Nat.{ℕ, _+_, _*_, _-_, _<_, _≤_, min};
 ghost use lib.ListN.{length, getD, set, drop};
 ghost use Rattle.leaf.specs.Price.{mark};
 ghost use Rattle.leaf.specs.Settle.{lower, relax, settled};
-ghost use Rattle.leaf.specs.Settle.Sweeps.{Fell, Visited, Swept};
+ghost use Rattle.leaf.specs.Settle.Sweeps.{Fell, Swept, Reach};
 ghost use Rattle.leaf.specs.Lent.{costBy};
 ghost use Rattle.layer.specs.Board.{Sound, settleOn, settledOn};
 ghost use Rattle.layer.specs.Lent.{Front, boardOf};
@@ -139,7 +139,8 @@ pub fn fill_edges(
     }
 }
 
-// An action whose flag is set lowers the price of what it makes of a state with price d. Its move of the state stands at `place`. Whether it fell.
+// An action whose flag is set lowers the price of what it makes of state x, whose price is d. Its move of the state stands at `place`. Whether a price
+// fell that is not behind x.
 fn follow(
     prices: &mut [u64],
     dirty: &mut [u8],
@@ -148,23 +149,25 @@ fn follow(
     mets: &[u8],
     action: usize,
     place: usize,
+    x: usize,
     d: u64,
 ) -> bool
     requires { ⌜ (action < length (now costs)) × (action < length (now mets)) × (place < length (now moves))
         × (getD (now moves) place 0 ≤ length (now prices)) × (length (now prices) ≤ length (now dirty)) ⌝ }
     ensures { λ r. ⌜ (now (prices .exit) ≡ lower mark (now (prices .entry))
         (gated (getD (now (mets .entry)) action 0) (getD (now (moves .entry)) place 0)) (min (d + getD (now (costs .entry)) action 0) mark))
-        × Fell mark (now (prices .entry)) (now (dirty .entry)) r (now (prices .exit)) (now (dirty .exit)) ⌝ }
+        × Fell mark x (now (prices .entry)) (now (dirty .entry)) r (now (prices .exit)) (now (dirty .exit)) ⌝ }
 {
     if mets[action] == 0 {
         return false;
     }
     let k = moves[place] as usize;
     let v = add_price(d, costs[action] as u64);
-    lowered(prices, dirty, k, v)
+    lowered(prices, dirty, k, v, x)
 }
 
-// These actions, where their flags are set, lower the prices of what they make of state x, and a state whose price fell is dirty. Whether one fell.
+// These actions, where their flags are set, lower the prices of what they make of state x, and a state whose price fell is dirty. Whether one fell
+// that is not behind x.
 fn relax_along(
     prices: &mut [u64],
     dirty: &mut [u8],
@@ -181,20 +184,70 @@ fn relax_along(
     ensures { λ r. ⌜ (now (prices .exit)
         ≡ relax mark (costBy (now (costs .entry)) (now (acts .entry))) (moveMet (now (moves .entry)) row at (now (mets .entry)) (now (acts .entry)))
         x (getD (now (prices .entry)) x mark) (now (prices .entry)) (length (now (acts .entry))))
-        × Fell mark (now (prices .entry)) (now (dirty .entry)) r (now (prices .exit)) (now (dirty .exit)) ⌝ }
+        × Fell mark x (now (prices .entry)) (now (dirty .entry)) r (now (prices .exit)) (now (dirty .exit)) ⌝ }
 {
     let d = prices[x];
     let mut fell = false;
     for j in 0..acts.len() {
         let a = acts[j] as usize;
-        if follow(prices, dirty, moves, costs, mets, a, a * row + (at + x), d) {
-            fell = true;
-        }
+        let one = follow(
+            prices,
+            dirty,
+            moves,
+            costs,
+            mets,
+            a,
+            a * row + (at + x),
+            x,
+            d,
+        );
+        fell = fell | one;
     }
     fell
 }
 
-// State x, where it is dirty, is clean afterwards and has lowered the prices of what its edges lead to. Whether one fell.
+// State x, where it is reached, is clean afterwards and has lowered the prices of what its edges lead to. Whether one fell that
+// is not behind x.
+fn set_out(
+    prices: &mut [u64],
+    dirty: &mut [u8],
+    moves: &[u16],
+    row: usize,
+    at: usize,
+    costs: &[u16],
+    mets: &[u8],
+    edges: &[u8],
+    ends: &[usize],
+    x: usize,
+) -> bool
+    requires { ⌜ (x < length (now prices)) × (length (now prices) ≤ length (now dirty))
+        × Ways (now moves) row at (now costs) (now mets) (now edges) (now ends) (length (now prices)) ⌝ }
+    ensures { λ r. ⌜ ((m : ℕ) (cost : ℕ → ℕ) (to : ℕ → ℕ → ℕ)
+        → Meant (now (moves .entry)) row at (now (costs .entry)) (now (mets .entry)) (now (edges .entry)) (now (ends .entry))
+        (length (now (prices .entry))) m cost to
+        → (j k : ℕ) → Reach j k x (x + 1) → Swept mark (length (now (prices .entry))) m cost to
+        j k x (x + 1) (now (prices .entry)) (now (dirty .entry)) r (now (prices .exit)) (now (dirty .exit))) ⌝ }
+{
+    if prices[x] >= MARK {
+        return false;
+    }
+    dirty[x] = 0;
+    let from = ends[at + x];
+    let to = ends[at + x + 1];
+    relax_along(
+        prices,
+        dirty,
+        moves,
+        row,
+        at,
+        costs,
+        mets,
+        &edges[from..to],
+        x,
+    )
+}
+
+// State x sets out where it is dirty. Whether a price fell that is not behind x.
 fn visit(
     prices: &mut [u64],
     dirty: &mut [u8],
@@ -212,19 +265,82 @@ fn visit(
     ensures { λ r. ⌜ ((m : ℕ) (cost : ℕ → ℕ) (to : ℕ → ℕ → ℕ)
         → Meant (now (moves .entry)) row at (now (costs .entry)) (now (mets .entry)) (now (edges .entry)) (now (ends .entry))
         (length (now (prices .entry))) m cost to
-        → Visited mark (length (now (prices .entry))) m cost to
-        x (now (prices .entry)) (now (dirty .entry)) r (now (prices .exit)) (now (dirty .exit))) ⌝ }
+        → Swept mark (length (now (prices .entry))) m cost to (length (now (prices .entry))) (length (now (prices .entry))) x (x + 1)
+        (now (prices .entry)) (now (dirty .entry)) r (now (prices .exit)) (now (dirty .exit))) ⌝ }
 {
     if dirty[x] == 0 {
         return false;
     }
-    dirty[x] = 0;
-    if prices[x] >= MARK {
+    set_out(prices, dirty, moves, row, at, costs, mets, edges, ends, x)
+}
+
+// Whether none of the four states from x on is reached.
+fn four_far(prices: &[u64], x: usize) -> bool
+    requires { ⌜ x + 4 ≤ length (now prices) ⌝ }
+    ensures { λ r. ⌜ (r ≡ true → (u : ℕ) → x ≤ u → u < x + 4 → mark ≤ getD (now (prices .entry)) u mark) ⌝ }
+{
+    let a = prices[x] >= MARK;
+    let b = prices[x + 1] >= MARK;
+    let c = prices[x + 2] >= MARK;
+    let d = prices[x + 3] >= MARK;
+    (a & b) & (c & d)
+}
+
+// The states from `from` to `end`, by rising number, set out. Whether a price fell of a state that had its turn.
+fn set_out_part(
+    prices: &mut [u64],
+    dirty: &mut [u8],
+    moves: &[u16],
+    row: usize,
+    at: usize,
+    costs: &[u16],
+    mets: &[u8],
+    edges: &[u8],
+    ends: &[usize],
+    from: usize,
+    end: usize,
+) -> bool
+    requires { ⌜ (from ≤ end) × (end ≤ length (now prices)) × (length (now prices) ≤ length (now dirty))
+        × Ways (now moves) row at (now costs) (now mets) (now edges) (now ends) (length (now prices)) ⌝ }
+    ensures { λ r. ⌜ ((m : ℕ) (cost : ℕ → ℕ) (to : ℕ → ℕ → ℕ)
+        → Meant (now (moves .entry)) row at (now (costs .entry)) (now (mets .entry)) (now (edges .entry)) (now (ends .entry))
+        (length (now (prices .entry))) m cost to
+        → Swept mark (length (now (prices .entry))) m cost to from end from end
+        (now (prices .entry)) (now (dirty .entry)) r (now (prices .exit)) (now (dirty .exit))) ⌝ }
+{
+    let mut fell = false;
+    for x in from..end {
+        let one = set_out(prices, dirty, moves, row, at, costs, mets, edges, ends, x);
+        fell = fell | one;
+    }
+    fell
+}
+
+// The four states from x on set out, where one of them is reached. Whether a price fell of a state that had its turn.
+fn set_out_four(
+    prices: &mut [u64],
+    dirty: &mut [u8],
+    moves: &[u16],
+    row: usize,
+    at: usize,
+    costs: &[u16],
+    mets: &[u8],
+    edges: &[u8],
+    ends: &[usize],
+    x: usize,
+) -> bool
+    requires { ⌜ (x + 4 ≤ length (now prices)) × (length (now prices) ≤ length (now dirty))
+        × Ways (now moves) row at (now costs) (now mets) (now edges) (now ends) (length (now prices)) ⌝ }
+    ensures { λ r. ⌜ ((m : ℕ) (cost : ℕ → ℕ) (to : ℕ → ℕ → ℕ)
+        → Meant (now (moves .entry)) row at (now (costs .entry)) (now (mets .entry)) (now (edges .entry)) (now (ends .entry))
+        (length (now (prices .entry))) m cost to
+        → Swept mark (length (now (prices .entry))) m cost to x (x + 4) x (x + 4)
+        (now (prices .entry)) (now (dirty .entry)) r (now (prices .exit)) (now (dirty .exit))) ⌝ }
+{
+    if four_far(prices, x) {
         return false;
     }
-    let from = ends[at + x];
-    let to = ends[at + x + 1];
-    relax_along(
+    set_out_part(
         prices,
         dirty,
         moves,
@@ -232,12 +348,58 @@ fn visit(
         at,
         costs,
         mets,
-        &edges[from..to],
+        edges,
+        ends,
         x,
+        x + 4,
     )
 }
 
-// Every dirty state once, by rising number. Whether a price fell.
+// Every state once, by rising number: most are not reached, so four are looked at together. Whether a price fell of a state that had its turn.
+fn first_sweep(
+    prices: &mut [u64],
+    dirty: &mut [u8],
+    moves: &[u16],
+    row: usize,
+    at: usize,
+    costs: &[u16],
+    mets: &[u8],
+    edges: &[u8],
+    ends: &[usize],
+) -> bool
+    requires { ⌜ (length (now prices) ≤ length (now dirty))
+        × Ways (now moves) row at (now costs) (now mets) (now edges) (now ends) (length (now prices)) ⌝ }
+    ensures { λ r. ⌜ ((m : ℕ) (cost : ℕ → ℕ) (to : ℕ → ℕ → ℕ)
+        → Meant (now (moves .entry)) row at (now (costs .entry)) (now (mets .entry)) (now (edges .entry)) (now (ends .entry))
+        (length (now (prices .entry))) m cost to
+        → Swept mark (length (now (prices .entry))) m cost to 0 (length (now (prices .entry))) 0 (length (now (prices .entry)))
+        (now (prices .entry)) (now (dirty .entry)) r (now (prices .exit)) (now (dirty .exit))) ⌝ }
+{
+    let mut fell = false;
+    let mut x = 0;
+    while prices.len() - x >= 4 {
+        let one = set_out_four(prices, dirty, moves, row, at, costs, mets, edges, ends, x);
+        fell = fell | one;
+        x += 4;
+    }
+    let last = prices.len();
+    let rest = set_out_part(
+        prices,
+        dirty,
+        moves,
+        row,
+        at,
+        costs,
+        mets,
+        edges,
+        ends,
+        x,
+        last,
+    );
+    fell | rest
+}
+
+// Every dirty state once, by rising number. Whether a price fell of a state that had its turn.
 fn sweep(
     prices: &mut [u64],
     dirty: &mut [u8],
@@ -254,14 +416,13 @@ fn sweep(
     ensures { λ r. ⌜ ((m : ℕ) (cost : ℕ → ℕ) (to : ℕ → ℕ → ℕ)
         → Meant (now (moves .entry)) row at (now (costs .entry)) (now (mets .entry)) (now (edges .entry)) (now (ends .entry))
         (length (now (prices .entry))) m cost to
-        → Swept mark (length (now (prices .entry))) m cost to
-        (length (now (prices .entry))) (now (prices .entry)) (now (dirty .entry)) r (now (prices .exit)) (now (dirty .exit))) ⌝ }
+        → Swept mark (length (now (prices .entry))) m cost to (length (now (prices .entry))) (length (now (prices .entry))) 0 (length (now (prices .entry)))
+        (now (prices .entry)) (now (dirty .entry)) r (now (prices .exit)) (now (dirty .exit))) ⌝ }
 {
     let mut fell = false;
     for x in 0..prices.len() {
-        if visit(prices, dirty, moves, row, at, costs, mets, edges, ends, x) {
-            fell = true;
-        }
+        let one = visit(prices, dirty, moves, row, at, costs, mets, edges, ends, x);
+        fell = fell | one;
     }
     fell
 }
@@ -279,7 +440,7 @@ fn some_met(mets: &[u8], acts: &[u8]) -> bool
     false
 }
 
-// Prices settle along the edges of their states: every state is dirty at first, and sweeps go on as long as a price falls.
+// Prices settle along the edges of their states: every state sets out once, and then the dirty ones as long as a price falls of one that had its turn.
 pub fn settle_along(
     prices: &mut [u64],
     moves: &[u16],
@@ -296,7 +457,10 @@ pub fn settle_along(
         → Meant (now (moves .entry)) row at (now (costs .entry)) (now (mets .entry)) (now (edges .entry)) (now (ends .entry))
         (length (now (prices .entry))) m cost to → now (prices .exit) ≡ settled mark m cost to (now (prices .entry))) ⌝ }
 {
-    let mut dirty = [1u8; 256];
+    let mut dirty = [0u8; 256];
+    if !first_sweep(prices, &mut dirty, moves, row, at, costs, mets, edges, ends) {
+        return;
+    }
     while sweep(prices, &mut dirty, moves, row, at, costs, mets, edges, ends) {}
 }
 

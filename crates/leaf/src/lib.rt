@@ -7,7 +7,7 @@ ghost use lib.ListN.{length, getD, replicate};
 ghost use Rattle.loops.specs.Count.{any};
 ghost use Rattle.leaf.specs.Price.{mark};
 ghost use Rattle.leaf.specs.Settle.{lower, relax, settled};
-ghost use Rattle.leaf.specs.Settle.Sweeps.{Fell, Visited, Swept};
+ghost use Rattle.leaf.specs.Settle.Sweeps.{Fell, Swept, Reach};
 ghost use Rattle.leaf.specs.Pass.{pass};
 ghost use Rattle.leaf.specs.Lent.{Lent, costBy, moveBy};
 
@@ -56,11 +56,12 @@ fn move_by(moves: &[u16], row: usize, at: usize, acts: &[u8], j: usize, x: usize
     moves[a * row + (at + x)] as usize
 }
 
-// The price of the state k - 1 is v where that is lower, and the state is then dirty; k is 0 for no state. Whether it fell.
-pub fn lowered(prices: &mut [u64], dirty: &mut [u8], k: usize, v: u64) -> bool
+// The price of the state k - 1 is v where that is lower, and the state is then dirty; k is 0 for no state. Whether it fell and
+// is not behind x: a state behind x has its turn later in a sweep.
+pub fn lowered(prices: &mut [u64], dirty: &mut [u8], k: usize, v: u64, x: usize) -> bool
     requires { ⌜ (k ≤ length (now prices)) × (length (now prices) ≤ length (now dirty)) ⌝ }
     ensures { λ r. ⌜ (now (prices .exit) ≡ lower mark (now (prices .entry)) k v)
-        × Fell mark (now (prices .entry)) (now (dirty .entry)) r (now (prices .exit)) (now (dirty .exit)) ⌝ }
+        × Fell mark x (now (prices .entry)) (now (dirty .entry)) r (now (prices .exit)) (now (dirty .exit)) ⌝ }
 {
     if k == 0 {
         return false;
@@ -71,10 +72,10 @@ pub fn lowered(prices: &mut [u64], dirty: &mut [u8], k: usize, v: u64) -> bool
     }
     prices[t] = v;
     dirty[t] = 1;
-    true
+    t <= x
 }
 
-// The first `count` actions lower the prices of what they make of state x, and a state whose price fell is dirty. Whether one fell.
+// The first `count` actions lower the prices of what they make of state x, and a state whose price fell is dirty. Whether one fell that is not behind x.
 fn relax_from(
     prices: &mut [u64],
     dirty: &mut [u8],
@@ -91,21 +92,46 @@ fn relax_from(
     ensures { λ r. ⌜ (now (prices .exit)
         ≡ relax mark (costBy (now (costs .entry)) (now (acts .entry))) (moveBy (now (moves .entry)) row at (now (acts .entry)))
         x (getD (now (prices .entry)) x mark) (now (prices .entry)) count)
-        × Fell mark (now (prices .entry)) (now (dirty .entry)) r (now (prices .exit)) (now (dirty .exit)) ⌝ }
+        × Fell mark x (now (prices .entry)) (now (dirty .entry)) r (now (prices .exit)) (now (dirty .exit)) ⌝ }
 {
     let d = prices[x];
     let mut fell = false;
     for j in 0..count {
         let k = move_by(moves, row, at, acts, j, x);
         let v = add_price(d, cost_by(costs, acts, j));
-        if lowered(prices, dirty, k, v) {
-            fell = true;
-        }
+        let one = lowered(prices, dirty, k, v, x);
+        fell = fell | one;
     }
     fell
 }
 
-// State x, where it is dirty, is clean afterwards and has lowered the prices of what the actions make of it. Whether one fell.
+// State x, where it is reached, is clean afterwards and has lowered the prices of what the actions make of it. Whether one fell
+// that is not behind x.
+fn set_out(
+    prices: &mut [u64],
+    dirty: &mut [u8],
+    moves: &[u16],
+    row: usize,
+    at: usize,
+    costs: &[u16],
+    acts: &[u8],
+    count: usize,
+    x: usize,
+) -> bool
+    requires { ⌜ (x < length (now prices)) × (length (now prices) ≤ length (now dirty))
+        × Lent (now moves) row at (now costs) (now acts) count (length (now prices)) ⌝ }
+    ensures { λ r. ⌜ ((j k : ℕ) → Reach j k x (x + 1) → Swept mark (length (now (prices .entry))) count
+        (costBy (now (costs .entry)) (now (acts .entry))) (moveBy (now (moves .entry)) row at (now (acts .entry)))
+        j k x (x + 1) (now (prices .entry)) (now (dirty .entry)) r (now (prices .exit)) (now (dirty .exit))) ⌝ }
+{
+    if prices[x] >= MARK {
+        return false;
+    }
+    dirty[x] = 0;
+    relax_from(prices, dirty, moves, row, at, costs, acts, count, x)
+}
+
+// State x sets out where it is dirty. Whether a price fell that is not behind x.
 fn visit(
     prices: &mut [u64],
     dirty: &mut [u8],
@@ -119,21 +145,42 @@ fn visit(
 ) -> bool
     requires { ⌜ (x < length (now prices)) × (length (now prices) ≤ length (now dirty))
         × Lent (now moves) row at (now costs) (now acts) count (length (now prices)) ⌝ }
-    ensures { λ r. ⌜ Visited mark (length (now (prices .entry))) count
+    ensures { λ r. ⌜ Swept mark (length (now (prices .entry))) count
         (costBy (now (costs .entry)) (now (acts .entry))) (moveBy (now (moves .entry)) row at (now (acts .entry)))
-        x (now (prices .entry)) (now (dirty .entry)) r (now (prices .exit)) (now (dirty .exit)) ⌝ }
+        (length (now (prices .entry))) (length (now (prices .entry))) x (x + 1) (now (prices .entry)) (now (dirty .entry)) r (now (prices .exit)) (now (dirty .exit)) ⌝ }
 {
     if dirty[x] == 0 {
         return false;
     }
-    dirty[x] = 0;
-    if prices[x] >= MARK {
-        return false;
-    }
-    relax_from(prices, dirty, moves, row, at, costs, acts, count, x)
+    set_out(prices, dirty, moves, row, at, costs, acts, count, x)
 }
 
-// Every dirty state once, by rising number. Whether a price fell.
+// Every state once, by rising number. Whether a price fell of a state that had its turn.
+fn first_sweep(
+    prices: &mut [u64],
+    dirty: &mut [u8],
+    moves: &[u16],
+    row: usize,
+    at: usize,
+    costs: &[u16],
+    acts: &[u8],
+    count: usize,
+) -> bool
+    requires { ⌜ (length (now prices) ≤ length (now dirty))
+        × Lent (now moves) row at (now costs) (now acts) count (length (now prices)) ⌝ }
+    ensures { λ r. ⌜ Swept mark (length (now (prices .entry))) count
+        (costBy (now (costs .entry)) (now (acts .entry))) (moveBy (now (moves .entry)) row at (now (acts .entry)))
+        0 (length (now (prices .entry))) 0 (length (now (prices .entry))) (now (prices .entry)) (now (dirty .entry)) r (now (prices .exit)) (now (dirty .exit)) ⌝ }
+{
+    let mut fell = false;
+    for x in 0..prices.len() {
+        let one = set_out(prices, dirty, moves, row, at, costs, acts, count, x);
+        fell = fell | one;
+    }
+    fell
+}
+
+// Every dirty state once, by rising number. Whether a price fell of a state that had its turn.
 fn sweep(
     prices: &mut [u64],
     dirty: &mut [u8],
@@ -148,18 +195,18 @@ fn sweep(
         × Lent (now moves) row at (now costs) (now acts) count (length (now prices)) ⌝ }
     ensures { λ r. ⌜ Swept mark (length (now (prices .entry))) count
         (costBy (now (costs .entry)) (now (acts .entry))) (moveBy (now (moves .entry)) row at (now (acts .entry)))
-        (length (now (prices .entry))) (now (prices .entry)) (now (dirty .entry)) r (now (prices .exit)) (now (dirty .exit)) ⌝ }
+        (length (now (prices .entry))) (length (now (prices .entry))) 0 (length (now (prices .entry)))
+        (now (prices .entry)) (now (dirty .entry)) r (now (prices .exit)) (now (dirty .exit)) ⌝ }
 {
     let mut fell = false;
     for x in 0..prices.len() {
-        if visit(prices, dirty, moves, row, at, costs, acts, count, x) {
-            fell = true;
-        }
+        let one = visit(prices, dirty, moves, row, at, costs, acts, count, x);
+        fell = fell | one;
     }
     fell
 }
 
-// The prices of a leaf settle: every state is dirty at first, and sweeps go on as long as a price falls. Without actions none does.
+// The prices of a leaf settle: every state sets out once, and then the dirty ones as long as a price falls of one that had its turn. Without actions none does.
 pub fn settle(
     prices: &mut [u64],
     moves: &[u16],
@@ -177,7 +224,10 @@ pub fn settle(
     if count == 0 {
         return;
     }
-    let mut dirty = [1u8; 256];
+    let mut dirty = [0u8; 256];
+    if !first_sweep(prices, &mut dirty, moves, row, at, costs, acts, count) {
+        return;
+    }
     while sweep(prices, &mut dirty, moves, row, at, costs, acts, count) {}
 }
 

@@ -8,9 +8,9 @@ ghost use lib.ListN.{length, getD};
 ghost use Rattle.drive.specs.Drive.{driveTime};
 ghost use Rattle.task.specs.Meaning.{met};
 ghost use Rattle.task.specs.Factors.{numberTo, starPairs, statesTo, allStates};
-ghost use Rattle.task.specs.Valid.{Valid};
-ghost use Rattle.tables.specs.Moves.{Small, Steps, toWith, stepped, valueAfter};
-ghost use Rattle.tables.specs.Tables.{entries, entriesFrom, Each, Filled, Placed, Same, KindIs, Row, Rows, Bases, Starts, Costs, Kinds, Moves, Goals, startOf};
+ghost use Rattle.task.specs.Valid.{Valid, PairIn};
+ghost use Rattle.tables.specs.Moves.{Small, toWith, valueAfter, digitMove};
+ghost use Rattle.tables.specs.Tables.{entries, entriesFrom, Each, Filled, Placed, Same, Spread, Partly, KindIs, Row, Rows, Bases, Starts, Costs, Kinds, Moves, Goals, startOf};
 
 // ---- where each leaf's states begin
 
@@ -195,47 +195,70 @@ pub fn action_kinds(task: Task) -> [u8; 256]
 
 // ---- what each action makes of each leaf state
 
-// What is left of a leaf state's number, the factor of the next digit, and the next state's number so far.
-struct Walk {
-    rest: u32,
-    stride: u32,
-    number: u32,
-}
-
 // Whether a condition, if there is one, holds of a value.
-fn holds(condition: u8, value: u32) -> bool
+fn holds(condition: u8, value: usize) -> bool
     ensures { λ r. ⌜ r ≡ met condition value ⌝ }
 {
     if condition == FREE {
         return true;
     }
-    condition as u32 == value
+    condition as usize == value
 }
 
 // The value behind an effect, if there is one.
-fn value_after(effect: u8, value: u32) -> u32
+fn value_after(effect: u8, value: usize) -> usize
     ensures { λ r. ⌜ r ≡ valueAfter effect value ⌝ }
 {
     if effect == FREE {
         return value;
     }
-    effect as u32
+    effect as usize
 }
 
-// The last digit goes from the state's number, and its next value into the next state's.
-fn step(walk: Walk, size: u32, value: u32) -> Walk
-    requires { ⌜ Steps walk size value ⌝ }
-    ensures { λ r. ⌜ r ≡ stepped walk size value ⌝ }
+// What an action makes of a state with one digit more, where it makes k of the state without: 0 where that is 0 or the digit's condition fails.
+fn digit_move(k: u16, size: usize, condition: u8, effect: u8, digit: usize) -> u16
+    requires { ⌜ (k * size ≤ 256) × (digit < size) × PairIn size effect ⌝ }
+    ensures { λ r. ⌜ r ≡ digitMove k size condition effect digit ⌝ }
 {
-    Walk {
-        rest: walk.rest / size,
-        stride: walk.stride * size,
-        number: walk.number + value * walk.stride,
+    if k == 0 {
+        return 0;
+    }
+    if !holds(condition, digit) {
+        return 0;
+    }
+    let before = (k - 1) as usize;
+    (before * size + value_after(effect, digit) + 1) as u16
+}
+
+// What the action makes of a state with each value of one digit more, in the entries from `from` on. It makes k of the state without.
+fn spread(k: u16, size: usize, condition: u8, effect: u8, from: usize, moves: &mut [u16])
+    requires { ⌜ (k * size ≤ 256) × PairIn size effect × (from + size ≤ length (now moves)) ⌝ }
+    ensures { λ _. ⌜ Placed from size (digitMove k size condition effect) (now (moves .exit)) ⌝ }
+    ensures { λ _. ⌜ Same from (from + size) (now (moves .entry)) (now (moves .exit)) ⌝ }
+{
+    for digit in 0..size {
+        moves[from + digit] = digit_move(k, size, condition, effect, digit);
     }
 }
 
-// What the action whose pairs begin at `at` makes of state x of the leaf: 0 where a condition fails, else one more than the next state's number.
-fn leaf_move(
+// What the action makes of so many states, in the entries from `from` on, becomes what it makes of them with one digit more. They go by falling number,
+// so that none is overwritten before its turn.
+fn grow(states: usize, size: usize, condition: u8, effect: u8, from: usize, moves: &mut [u16])
+    requires { ⌜ (states * size ≤ 256) × (1 ≤ size) × PairIn size effect × (from + states * size ≤ length (now moves)) ⌝ }
+    requires { ⌜ ((k : ℕ) → k < states → getD (now moves) (from + k) 0 ≤ states) ⌝ }
+    ensures { λ _. ⌜ Spread from 0 states size condition effect (now (moves .entry)) (now (moves .exit)) ⌝ }
+    ensures { λ _. ⌜ Same from (from + states * size) (now (moves .entry)) (now (moves .exit)) ⌝ }
+{
+    let mut x = states;
+    while x > 0 {
+        x -= 1;
+        let k = moves[from + x];
+        spread(k, size, condition, effect, from + x * size, moves);
+    }
+}
+
+// What the action makes of each state that the leaf has by its first v variables becomes what it makes of those by one variable more. How many there are.
+fn fill_variable(
     sizes: &[u8],
     factors: &[u8],
     conditions: &[u8],
@@ -243,35 +266,29 @@ fn leaf_move(
     variables: usize,
     at: usize,
     leaf: usize,
-    x: usize,
-) -> u16
-    requires { ⌜ (variables ≤ length (now sizes)) × (variables ≤ length (now factors)) × (x < 256) ⌝ }
+    v: usize,
+    states: usize,
+    from: usize,
+    moves: &mut [u16],
+) -> usize
+    requires { ⌜ (variables ≤ length (now sizes)) × (variables ≤ length (now factors)) × (v < variables) ⌝ }
     requires { ⌜ (at + variables ≤ length (now conditions)) × (at + variables ≤ length (now effects)) ⌝ }
+    requires { ⌜ from + statesTo (entries (now factors)) (entries (now sizes)) leaf variables ≤ length (now moves) ⌝ }
     requires { ⌜ Small variables (entries (now factors)) (entries (now sizes)) (entriesFrom at (now effects)) leaf ⌝ }
-    ensures { λ r. ⌜ r ≡ toWith variables (entries (now (factors .entry))) (entries (now (sizes .entry))) (entriesFrom at (now (conditions .entry))) (entriesFrom at (now (effects .entry))) leaf x ⌝ }
+    requires { ⌜ Partly (entries (now factors)) (entries (now sizes)) (entriesFrom at (now conditions)) (entriesFrom at (now effects)) leaf from v states (now moves) ⌝ }
+    ensures { λ r. ⌜ Partly (entries (now (factors .entry))) (entries (now (sizes .entry))) (entriesFrom at (now (conditions .entry))) (entriesFrom at (now (effects .entry))) leaf from (v + 1) r (now (moves .exit)) ⌝ }
+    ensures { λ _. ⌜ Same from (from + statesTo (entries (now (factors .entry))) (entries (now (sizes .entry))) leaf variables) (now (moves .entry)) (now (moves .exit)) ⌝ }
 {
-    let mut walk = Walk {
-        rest: x as u32,
-        stride: 1,
-        number: 0,
-    };
-    let mut v = variables;
-    while v > 0 {
-        v -= 1;
-        if whole::is_factor(factors[v], leaf) {
-            let size = sizes[v] as u32;
-            let digit = walk.rest % size;
-            let value = value_after(effects[at + v], digit);
-            if !holds(conditions[at + v], digit) {
-                return 0;
-            }
-            walk = step(walk, size, value);
-        }
+    if !whole::is_factor(factors[v], leaf) {
+        return states;
     }
-    walk.number as u16 + 1
+    let size = sizes[v] as usize;
+    let pair = at + v;
+    grow(states, size, conditions[pair], effects[pair], from, moves);
+    states * size
 }
 
-// What the action makes of each state of one leaf, in the entries from `from` on.
+// What the action makes of each state of one leaf, in the entries from `from` on: without variables there is one state, and it stays.
 fn fill_leaf(
     sizes: &[u8],
     factors: &[u8],
@@ -280,19 +297,32 @@ fn fill_leaf(
     variables: usize,
     at: usize,
     leaf: usize,
-    states: usize,
     from: usize,
     moves: &mut [u16],
 )
-    requires { ⌜ (variables ≤ length (now sizes)) × (variables ≤ length (now factors)) × (states ≤ 256) ⌝ }
+    requires { ⌜ (variables ≤ length (now sizes)) × (variables ≤ length (now factors)) ⌝ }
     requires { ⌜ (at + variables ≤ length (now conditions)) × (at + variables ≤ length (now effects)) ⌝ }
-    requires { ⌜ from + states ≤ length (now moves) ⌝ }
+    requires { ⌜ from + statesTo (entries (now factors)) (entries (now sizes)) leaf variables ≤ length (now moves) ⌝ }
     requires { ⌜ Small variables (entries (now factors)) (entries (now sizes)) (entriesFrom at (now effects)) leaf ⌝ }
-    ensures { λ _. ⌜ Placed from states (toWith variables (entries (now (factors .entry))) (entries (now (sizes .entry))) (entriesFrom at (now (conditions .entry))) (entriesFrom at (now (effects .entry))) leaf) (now (moves .exit)) ⌝ }
-    ensures { λ _. ⌜ Same from (from + states) (now (moves .entry)) (now (moves .exit)) ⌝ }
+    ensures { λ _. ⌜ Placed from (statesTo (entries (now (factors .entry))) (entries (now (sizes .entry))) leaf variables) (toWith variables (entries (now (factors .entry))) (entries (now (sizes .entry))) (entriesFrom at (now (conditions .entry))) (entriesFrom at (now (effects .entry))) leaf) (now (moves .exit)) ⌝ }
+    ensures { λ _. ⌜ Same from (from + statesTo (entries (now (factors .entry))) (entries (now (sizes .entry))) leaf variables) (now (moves .entry)) (now (moves .exit)) ⌝ }
 {
-    for x in 0..states {
-        moves[from + x] = leaf_move(sizes, factors, conditions, effects, variables, at, leaf, x);
+    moves[from] = 1;
+    let mut states: usize = 1;
+    for v in 0..variables {
+        states = fill_variable(
+            sizes,
+            factors,
+            conditions,
+            effects,
+            variables,
+            at,
+            leaf,
+            v,
+            states,
+            from,
+            moves,
+        );
     }
 }
 
@@ -319,7 +349,6 @@ fn fill_action(
 {
     for i in 0..leaves {
         let base = bases[i];
-        let states = bases[i + 1] - base;
         fill_leaf(
             sizes,
             factors,
@@ -328,7 +357,6 @@ fn fill_action(
             variables,
             at,
             i + 1,
-            states,
             from + base,
             moves,
         );

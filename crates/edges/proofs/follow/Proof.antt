@@ -13,7 +13,7 @@ shared-slice-read-if1 : tie.Need-shared-slice-read-if1
 shared-slice-read-if1 c = search needs
 
 returns : tie.Need-returns
-returns c = (sym (lower-none _ _ _ _ (gated-shut _ _ (c .if1 .taken))), fell-none mark _ _)
+returns c = (sym (lower-none _ _ _ _ (gated-shut _ _ (c .if1 .taken))), fell-none mark _ _ _)
 
 mul-k : tie.Need-mul-k
 mul-k c = search needs

@@ -1,7 +1,6 @@
 -- `edges::relax_along` meets its contract. The invariant: the first j actions have lowered the prices, and what fell is told. No price is
 -- above the mark, so a sum capped at the mark lowers as the sum itself does. Assumes nothing.
 use mathlib.Core.Path.{_≡_, refl, _∙_}
-use mathlib.Core.Logic.{⊎-elim}
 use Prim.Native.Nat.{ℕ, _+_, _-_, _*_, _≤_, _<_, min}
 use native.Mathlib.Nat.{le-antisymm}
 use native.Mathlib.Omega.{arith}
@@ -10,7 +9,7 @@ use borrow.Author.Needs.{needs}
 use Rattle.leaf.specs.Price.{mark}
 use Rattle.leaf.specs.Settle.{relax}
 use Rattle.leaf.specs.Settle.Turns.{at-any, relax-more}
-use Rattle.leaf.specs.Settle.Sweeps.{Fell, fell-none, fell-more, fell-same}
+use Rattle.leaf.specs.Settle.Sweeps.{Fell, fell-none, fell-join}
 use Rattle.leaf.specs.Lent.{costBy}
 use Rattle.edges.specs.Edges.{moveMet}
 use Rattle.edges.proofs.relax_along.Statement.{statement}
@@ -20,7 +19,7 @@ abbrev Inv-loop : tie.InvT-loop
 Inv-loop prices₀ dirty₀ moves row at costs mets acts x d fell₀ j₀ j-end prices dirty fell j =
     (j ≤ j-end) × (length prices ≡ length prices₀) × (length dirty ≡ length dirty₀) × ((i : ℕ) → getD prices i 0 ≤ mark)
     × (prices ≡ relax mark (costBy costs acts) (moveMet moves row at mets acts) x (getD prices₀ x mark) prices₀ j)
-    × Fell mark prices₀ dirty₀ fell prices dirty
+    × Fell mark x prices₀ dirty₀ fell prices dirty
 
 abbrev μ-loop : tie.MeasureT-loop
 μ-loop prices₀ dirty₀ moves row at costs mets acts x d fell₀ j₀ j-end prices dirty fell j = j-end - j
@@ -33,7 +32,7 @@ slice-read-d c = search needs
 
 loop-holds : tie.Need-loop-holds Inv-loop μ-loop
 unfolding relax
-loop-holds c = (omega arith, refl, refl, λ i. omega (arith, c .slice-known3 .given i), refl, fell-none mark _ _)
+loop-holds c = (omega arith, refl, refl, λ i. omega (arith, c .slice-known3 .given i), refl, fell-none mark _ _ _)
 
 -- where the function starts
 abbrev start : tie.In-loop Inv-loop μ-loop → tie.Start Inv-loop μ-loop
@@ -80,7 +79,7 @@ loop-less c = search needs
 
 loop-again : tie.Need-loop-again Inv-loop μ-loop
 loop-again c =
-    let called = c .before .before .before .before .before in
+    let called = c .before .before .before .before in
     let t = called .before .before .before .before in
     let l = t .before .loop in
     let s = start t in
@@ -90,17 +89,13 @@ loop-again c =
     ≡ min (getD (a .prices .now) (a .x) mark + costBy (a .costs .now) (a .acts .now) (l .j)) mark =
     rw own in
     let more = relax-more mark (costBy (a .costs .now) (a .acts .now)) (moveMet (a .moves .now) (a .row) (a .at) (a .mets .now) (a .acts .now))
-    (a .x) (getD (a .prices .now) (a .x) mark) (a .prices .now) (l .j) _ _ (l .prices) (l .inv .4) (l .inv .3) refl paid in
-    let told = called .follow .ensures .1 in (
+    (a .x) (getD (a .prices .now) (a .x) mark) (a .prices .now) (l .j) _ _ (l .prices) (l .inv .4) (l .inv .3) refl paid in (
       omega (arith, t .loop-test .taken),
       called .follow .kept .0 ∙ l .inv .1,
       called .follow .kept .1 .0 ∙ l .inv .2,
-      λ i. omega (arith, c .before .before .before .slice-known4 .given i),
+      λ i. omega (arith, c .before .before .slice-known4 .given i),
       called .follow .ensures .0 ∙ more,
-      ⊎-elim
-          (λ w. rw (w .1) (fell-more mark _ _ _ _ _ _ (l .inv .5) told (w .0 .taken)))
-          (λ w. rw (w .1) (fell-same mark _ _ _ _ _ _ (l .inv .5) told (w .0 .left)))
-          (c .if1 .came),
+      fell-join mark (a .x) _ _ _ _ _ _ (l .fell) _ (l .inv .5) (called .follow .ensures .1),
     )
 
 same-length : tie.Need-same-length Inv-loop μ-loop

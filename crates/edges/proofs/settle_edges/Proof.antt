@@ -11,7 +11,8 @@ use Rattle.task.specs.declared.Centre.{Centre}
 use Rattle.layer.specs.Board.{Board, baseOn, settleOn, partOn, settledOn}
 use Rattle.layer.specs.Board.Turns.{base-in, part-length, Laid, laid-none, laid-more, laid-rest}
 use Rattle.layer.specs.Lent.{boardOf}
-use Rattle.edges.specs.Edges.Still.{put-back, or-false}
+use Rattle.leaf.specs.Settle.Sweeps.{or-false}
+use Rattle.edges.specs.Edges.Still.{put-back}
 use Rattle.edges.proofs.settle_edges.Statement.{statement}
 use Rattle.edges.proofs.settle_edges.Tie as tie
 

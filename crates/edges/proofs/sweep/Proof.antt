@@ -1,13 +1,12 @@
 -- `edges::sweep` meets its contract. The invariant: the states below x were visited. Assumes nothing.
 use mathlib.Core.Path.{_≡_, refl, _∙_}
-use mathlib.Core.Logic.{⊎-elim}
-use Prim.Native.Nat.{ℕ, _-_, _≤_}
+use Prim.Native.Nat.{ℕ, _+_, _-_, _≤_}
 use native.Mathlib.Nat.{le-antisymm}
 use native.Mathlib.Omega.{arith}
 use lib.ListN.{length}
 use borrow.Author.Needs.{needs}
 use Rattle.leaf.specs.Price.{mark}
-use Rattle.leaf.specs.Settle.Sweeps.{Swept, swept-none, swept-more, swept-same}
+use Rattle.leaf.specs.Settle.Sweeps.{Swept, swept-none, swept-join}
 use Rattle.edges.specs.Edges.{Meant}
 use Rattle.edges.proofs.sweep.Statement.{statement}
 use Rattle.edges.proofs.sweep.Tie as tie
@@ -16,13 +15,13 @@ abbrev Inv-loop : tie.InvT-loop
 Inv-loop prices₀ dirty₀ moves row at costs mets edges ends fell₀ x₀ x-end prices dirty fell x =
     (x-end ≡ length prices₀) × (x ≤ x-end) × (length prices ≡ length prices₀) × (length dirty ≡ length dirty₀)
     × ((m : ℕ) (cost : ℕ → ℕ) (to : ℕ → ℕ → ℕ) → Meant moves row at costs mets edges ends (length prices₀) m cost to
-    → Swept mark (length prices₀) m cost to x prices₀ dirty₀ fell prices dirty)
+    → Swept mark (length prices₀) m cost to (length prices₀) (length prices₀) 0 x prices₀ dirty₀ fell prices dirty)
 
 abbrev μ-loop : tie.MeasureT-loop
 μ-loop prices₀ dirty₀ moves row at costs mets edges ends fell₀ x₀ x-end prices dirty fell x = x-end - x
 
 loop-holds : tie.Need-loop-holds Inv-loop μ-loop
-loop-holds c = (refl, omega arith, refl, refl, λ m cost to meant. swept-none mark _ _ _ _ _ _)
+loop-holds c = (refl, omega arith, refl, refl, λ m cost to meant. swept-none mark _ _ _ _ _ 0 _ _)
 
 visit-requires : tie.Need-visit-requires Inv-loop μ-loop
 visit-requires c κs =
@@ -38,7 +37,7 @@ loop-less c = search needs
 
 loop-again : tie.Need-loop-again Inv-loop μ-loop
 loop-again c =
-    let called = c .before .before .before .before .before in
+    let called = c .before .before .before .before in
     let t = called .before .before .before in
     let l = t .before .loop in
     let told = rw (l .inv .2) at (called .visit .ensures) in (
@@ -46,10 +45,7 @@ loop-again c =
       omega (arith, t .loop-test .taken),
       called .visit .kept .0 ∙ l .inv .2,
       called .visit .kept .1 .0 ∙ l .inv .3,
-      λ m cost to meant. ⊎-elim
-          (λ w. rw (w .1) (swept-more mark _ _ _ _ (l .x) _ _ _ _ _ _ (l .inv .4 m cost to meant) (told m cost to meant) (w .0 .taken)))
-          (λ w. rw (w .1) (swept-same mark _ _ _ _ (l .x) _ _ _ _ _ _ (l .inv .4 m cost to meant) (told m cost to meant) (w .0 .left)))
-          (c .if1 .came),
+      λ m cost to meant. swept-join mark _ _ _ _ _ _ _ 0 (l .x) (l .x + 1) _ _ _ _ _ _ (l .fell) _ (l .inv .4 m cost to meant) (told m cost to meant),
     )
 
 same-length : tie.Need-same-length Inv-loop μ-loop

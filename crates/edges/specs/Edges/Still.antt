@@ -1,6 +1,5 @@
 -- A leaf none of whose edges has its flag set: its prices are settled as they are. Assumes nothing.
-use mathlib.Core.Path.{_≡_, refl, ap, _∙_}
-use mathlib.Core.Bool.{Bool, true, false, _||_, true≢false}
+use mathlib.Core.Path.{_≡_, ap, _∙_}
 use mathlib.Core.List.{List, _++_}
 use Prim.Native.Nat.{ℕ, zero, suc, _+_, _-_, _≤_, _<_}
 use native.Mathlib.Numerals.{add-one}
@@ -74,8 +73,3 @@ still-settled M moves row at costs mets edges ends n m cost to P meant unmet l c
 -- a part that is put back where it was taken from
 pub put-back : (a n : ℕ) (ys Q : List ℕ) → Q ≡ take n (drop a ys) → take a ys ++ (Q ++ drop n (drop a ys)) ≡ ys
 put-back a n ys Q e = rw e (ap (λ (zs : List ℕ). take a ys ++ zs) (take-append-drop n (drop a ys)) ∙ take-append-drop a ys)
-
--- neither of two tests holds
-pub or-false : (a b : Bool) → (a || b) ≡ false → (a ≡ false) × (b ≡ false)
-or-false true b e = absurd (true≢false e)
-or-false false b e = (refl, e)

@@ -2,6 +2,7 @@
 use mathlib.Core.Path.{sym}
 use native.Mathlib.Omega.{arith}
 use borrow.Author.Needs.{needs}
+use borrow.Author.Tests.{leb-false}
 use Rattle.leaf.specs.Price.{mark}
 use Rattle.leaf.specs.Settle.Turns.{lower-none, lower-here, lower-kept}
 use Rattle.leaf.specs.Settle.Sweeps.{fell-none, fell-one}
@@ -9,7 +10,7 @@ use Rattle.leaf.proofs.lowered.Statement.{statement}
 use Rattle.leaf.proofs.lowered.Tie as tie
 
 returns : tie.Need-returns
-returns c = (sym (lower-none _ _ _ _ (c .if1 .taken)), fell-none mark _ _)
+returns c = (sym (lower-none _ _ _ _ (c .if1 .taken)), fell-none mark _ _ _)
 
 sub-t : tie.Need-sub-t
 sub-t c = search needs
@@ -23,7 +24,7 @@ slice-read-if2 c = search needs
 returns-2 : tie.Need-returns-2
 returns-2 c =
     let a = c .before .before .before .args in
-    (sym (lower-kept _ _ (a .k) (a .v) (omega arith) (omega arith) (c .if2 .taken)), fell-none mark _ _)
+    (sym (lower-kept _ _ (a .k) (a .v) (omega arith) (omega arith) (c .if2 .taken)), fell-none mark _ _ _)
 
 mul-prices : tie.Need-mul-prices
 mul-prices c = search needs
@@ -44,7 +45,7 @@ returns-3 : tie.Need-returns-3
 returns-3 c =
     let a = c .before .before .before .args in (
       sym (lower-here _ _ (a .k) (a .v) (omega arith) (omega arith) (c .if2 .left)),
-      fell-one mark _ _ _ (a .v) (omega arith) (omega arith) (c .if2 .left),
+      fell-one mark (a .x) _ _ _ (a .v) _ (omega arith) (omega arith) (c .if2 .left) (leb-false _ _),
     )
 
 pub lowered-spec : {M : Type 1} → statement M

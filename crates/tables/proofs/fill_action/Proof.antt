@@ -1,14 +1,15 @@
 -- `tables::fill_action` meets its contract. The invariant: the leaves so far have what the action makes of their states, each behind the other,
 -- and all other entries of the list are as they were. Assumes nothing.
 use mathlib.Core.Path.{_≡_, refl, _∙_}
-use Prim.Native.Nat.{_+_, _-_, _≤_}
+use Prim.Native.Nat.{suc, _+_, _-_, _≤_}
 use native.Mathlib.Nat.{le-antisymm, not-suc-le-zero}
 use native.Mathlib.Numerals.{add-one}
 use native.Mathlib.Omega.{arith}
-use lib.ListN.{length}
+use lib.ListN.{length, getD}
 use borrow.Author.Needs.{needs}
+use Rattle.task.specs.Factors.{statesTo}
 use Rattle.tables.specs.Tables.{entries, entriesFrom, Same, Row, startOf}
-use Rattle.tables.specs.Tables.Laws.{leaf-here, row-more, row-same}
+use Rattle.tables.specs.Tables.Laws.{start-before, row-more, row-same}
 use Rattle.tables.proofs.fill_action.Statement.{statement}
 use Rattle.tables.proofs.fill_action.Tie as tie
 
@@ -23,52 +24,37 @@ abbrev μ-loop : tie.MeasureT-loop
 loop-holds : tie.Need-loop-holds Inv-loop μ-loop
 loop-holds c = (omega arith, refl, λ k o. refl, λ j x m o. absurd (not-suc-le-zero m))
 
+-- where the leaf's states begin, and their room
+leaf-here : (c : tie.In-loop Inv-loop μ-loop) →
+    let a = c .before .before .before .before .before .before .before .before .args in
+    let begin = startOf (a .variables) (entries (a .factors .now)) (entries (a .sizes .now)) in
+    let i = c .before .loop .i in
+    (getD (a .bases .now) i 0 ≡ begin i)
+    × (a .from + (begin i + statesTo (entries (a .factors .now)) (entries (a .sizes .now)) (suc i) (a .variables)) ≤ length (a .moves .now))
+leaf-here c =
+    let s = c .before .before .before .before .before .before .before .before in
+    let room = start-before (s .args .variables) (entries (s .args .factors .now)) (entries (s .args .sizes .now)) (c .before .loop .i) (s .args .leaves) (c .loop-test .taken) in
+    (s .pre .1 .1 .1 .0 (c .before .loop .i) (omega arith), omega (arith, s .pre .1 .1 .0))
+
 mul-base : tie.Need-mul-base Inv-loop μ-loop
 mul-base c = search needs
 
 shared-slice-read-base : tie.Need-shared-slice-read-base Inv-loop μ-loop
 shared-slice-read-base c = search needs
 
-add-states : tie.Need-add-states Inv-loop μ-loop
-add-states c = search needs
-
-mul-states : tie.Need-mul-states Inv-loop μ-loop
-mul-states c = search needs
-
-shared-slice-read-states : tie.Need-shared-slice-read-states Inv-loop μ-loop
-shared-slice-read-states c = search needs
-
-sub-states : tie.Need-sub-states Inv-loop μ-loop
-sub-states c =
-    let turn = c .before .before in
-    let start = turn .before .before .before .before .before .before .before .before in
-    let a = start .args in
-    let i = turn .before .loop .i in
-    let here = leaf-here (a .variables) (entries (a .factors .now)) (entries (a .sizes .now)) (a .bases .now) (a .leaves) i (turn .loop-test .taken) (start .pre .1 .1 .1 .0) in
-    omega arith
-
 add-fill-leaf : tie.Need-add-fill-leaf Inv-loop μ-loop
 add-fill-leaf c = search needs
 
 add-fill-leaf-2 : tie.Need-add-fill-leaf-2 Inv-loop μ-loop
-add-fill-leaf-2 c =
-    let turn = c .before .before in
-    let start = turn .before .before .before .before .before .before .before .before in
-    let a = start .args in
-    let i = turn .before .loop .i in
-    let here = leaf-here (a .variables) (entries (a .factors .now)) (entries (a .sizes .now)) (a .bases .now) (a .leaves) i (turn .loop-test .taken) (start .pre .1 .1 .1 .0) in
-    omega (arith, start .pre .1 .1 .0)
+add-fill-leaf-2 c = let here = leaf-here (c .before) in omega arith
 
 fill-leaf-requires : tie.Need-fill-leaf-requires Inv-loop μ-loop
 fill-leaf-requires c κs =
-    let turn = c .before .before .before in
-    let start = turn .before .before .before .before .before .before .before .before in
-    let a = start .args in
-    let i = turn .before .loop .i in
-    let here = leaf-here (a .variables) (entries (a .factors .now)) (entries (a .sizes .now)) (a .bases .now) (a .leaves) i (turn .loop-test .taken) (start .pre .1 .1 .1 .0) in
-    let pre = start .pre in
-    let small = pre .1 .1 .1 .1 i (turn .loop-test .taken) in
-    (omega (arith, pre .0, small .few), (pre .1 .0, (omega (arith, pre .1 .1 .0, turn .before .loop .inv .1), rw add-one small)))
+    let turn = c .before .before in
+    let pre = turn .before .before .before .before .before .before .before .before .pre in
+    let here = leaf-here turn in
+    let small = pre .1 .1 .1 .1 (turn .before .loop .i) (turn .loop-test .taken) in
+    ((pre .0 .0, pre .0 .1), (pre .1 .0, (rw add-one (omega (arith, turn .before .loop .inv .1)), rw add-one small)))
 
 add-i : tie.Need-add-i Inv-loop μ-loop
 add-i c = search needs
@@ -78,18 +64,17 @@ loop-less c = search needs
 
 loop-again : tie.Need-loop-again Inv-loop μ-loop
 loop-again c =
-    let turn = c .before .before .before .before .before .before in
-    let start = turn .before .before .before .before .before .before .before .before in
-    let a = start .args in
-    let i = turn .before .loop .i in
-    let here = leaf-here (a .variables) (entries (a .factors .now)) (entries (a .sizes .now)) (a .bases .now) (a .leaves) i (turn .loop-test .taken) (start .pre .1 .1 .1 .0) in
+    let turn = c .before .before .before .before .before in
+    let a = turn .before .before .before .before .before .before .before .before .args in
     let l = turn .before .loop in
+    let here = leaf-here turn in
+    let count : statesTo (entries (a .factors .now)) (entries (a .sizes .now)) (l .i + 1) (a .variables) ≡ statesTo (entries (a .factors .now)) (entries (a .sizes .now)) (suc (l .i)) (a .variables) = rw add-one in
     let filled = c .before .before .fill-leaf .ensures in
-    let next = c .before .before .fill-leaf .last .1 .1 .1 .1 .1 .1 .1 .1 .1 .0 in (
+    let next = c .before .before .fill-leaf .last .1 .1 .1 .1 .1 .1 .1 .1 .0 in (
       omega arith,
-      c .before .before .fill-leaf .kept .1 .1 .1 .1 .1 .1 .1 .1 .1 .0 ∙ l .inv .1,
-      row-same (a .variables) (entries (a .factors .now)) (entries (a .sizes .now)) (a .from) i (a .moves .now) (l .moves) next (here .0) (here .2) (l .inv .2) (filled .1),
-      row-more (a .variables) (entries (a .factors .now)) (entries (a .sizes .now)) _ _ (a .from) i (l .moves) next (here .0) (here .2) (l .inv .3) (filled .0) (filled .1),
+      c .before .before .fill-leaf .kept .1 .1 .1 .1 .1 .1 .1 .1 .0 ∙ l .inv .1,
+      row-same (a .variables) (entries (a .factors .now)) (entries (a .sizes .now)) (a .from) (l .i) (a .moves .now) (l .moves) next (here .0) count (l .inv .2) (filled .1),
+      row-more (a .variables) (entries (a .factors .now)) (entries (a .sizes .now)) _ _ (a .from) (l .i) (l .moves) next (here .0) count (l .inv .3) (filled .0) (filled .1),
     )
 
 same-length : tie.Need-same-length Inv-loop μ-loop
@@ -110,10 +95,6 @@ fill-action-spec =
     loop-holds
     mul-base
     shared-slice-read-base
-    add-states
-    mul-states
-    shared-slice-read-states
-    sub-states
     add-fill-leaf
     add-fill-leaf-2
     fill-leaf-requires

@@ -1,10 +1,10 @@
--- Laws of moves: one pass over the variables, the last first, gives what an action makes of a leaf state. Digits are taken from the last
--- variable down, as a number's digits are defined. Assumes nothing.
-use mathlib.Core.Path.{_≡_, refl, sym, ap, ap₂, _∙_}
-use mathlib.Core.Bool.{Bool, true, false, _&&_, and-true, and-false}
+-- Laws of moves: what an action makes of a leaf state goes by the leaf's variables, a digit more for each. Assumes nothing.
+use mathlib.Core.Path.{_≡_, refl, ap₂, _∙_}
+use mathlib.Core.Bool.{Bool, true, false, _&&_, and-true}
 use mathlib.Core.Logic.{inl, inr}
-use Prim.Native.Nat.{ℕ, zero, suc, _+_, _*_, _/_, _%_, _≤_, _<_}
-use native.Mathlib.Nat.{add-mul, mul-assoc, mul-comm, mul-le-mul-left, mul-le-mul-right, mul-one, one-mul, suc-mul, mod-lt}
+use Prim.Native.Nat.{ℕ, zero, suc, _+_, _-_, _*_, _/_, _%_, _≤_, _<_}
+use native.Mathlib.Nat.{mul-le-mul-left, mul-one, suc-mul}
+use native.Mathlib.Numerals.{add-one}
 use native.Mathlib.Omega.{arith}
 use native.Mathlib.Decide.{ℕ-discrete}
 use lib.Dec.{eqb}
@@ -15,9 +15,8 @@ use Rattle.task.specs.Meaning.{State, Partial, free, size, factor, condition, e
 use Rattle.task.specs.Factors.{numberTo, statesTo, digitTo, holdsIn, gate, number, valuesOf, meetsIn, to}
 use Rattle.task.specs.Valid.{PairIn}
 use Rattle.task.specs.Pairs.{holds-ext}
-use Rattle.task.specs.Radix.{num-ext}
-use Rattle.tables.specs.declared.Walk.{Walk}
-use Rattle.tables.specs.Moves.{toWith, fresh, valueAfter, stepped, down, Small, Steps, Room}
+use Rattle.task.specs.Radix.{num-lt, num-ext, dig-lt}
+use Rattle.tables.specs.Moves.{toWith, valueAfter, digitMove, Small}
 
 -- ---- the definition on a task
 
@@ -71,60 +70,33 @@ module _ (fac siz : ℕ → ℕ) (l x n : ℕ) where
   unfolding numberTo
   number-other eff e = rw e (num-ext fac siz l _ _ n (λ v m f. rw (same e v)))
 
--- ---- one pass
+-- ---- what an action makes of a state
 
--- a digit more, of value v and size z, before N: in the number so far, or in the number as defined
-carried : (k v s z N : ℕ) → (k + v * s) + N * (s * z) ≡ k + (N * z + v) * s
-carried k v s z N = omega (arith, add-mul (N * z) v s, mul-assoc N z s, ap (λ (p : ℕ). N * p) (mul-comm z s))
-
--- what the digits of the variables below n give, behind a number k so far, from a factor s of the next digit on
-abbrev rest : (ℕ → ℕ) → (ℕ → ℕ) → Partial → Partial → ℕ → ℕ → ℕ → ℕ → ℕ → ℕ
-rest fac siz con eff l n x s k =
-    gate (holdsIn n fac l con (values fac siz l x n)) (k + numberTo fac siz l (put eff (values fac siz l x n)) n * s)
+-- where a digit more, d of size z, is tested too: its condition is p and its effect q
+gate-more : (b t : Bool) (y z p q d : ℕ) → met p d ≡ t → gate (b && t) (y * z + valueAfter q d) ≡ digitMove (gate b y) z p q d
+unfolding digitMove
+gate-more true true y z p q d e = let k : suc y - 1 ≡ y = omega arith in rw (e, ne-eqb (suc y) 0 (λ h. omega arith), k) (omega arith)
+gate-more true false y z p q d e = rw (e, ne-eqb (suc y) 0 (λ h. omega arith))
+gate-more false t y z p q d e = refl
 
 module _ (fac siz : ℕ → ℕ) (con eff : Partial) (l : ℕ) where
-  rest-none : (x s k : ℕ) → rest fac siz con eff l zero x s k ≡ k + 1
-  unfolding holdsIn all numberTo
-  rest-none x s k = omega arith
+  -- without variables there is one state, and it stays
+  pub to-none : (x : ℕ) → toWith 0 fac siz con eff l x ≡ 1
+  unfolding toWith holdsIn all numberTo
+  to-none x = refl
 
-  -- what is left of the pass gives what the digits give that are left
-  down-is : (n : ℕ) (w : Walk) → down fac siz con eff l n w ≡ rest fac siz con eff l n (w .rest) (w .stride) (w .number)
-  unfolding down
-  down-is zero w = sym (rest-none (w .rest) (w .stride) (w .number))
-  down-is (suc n) w = go _ refl _ refl (down-is n)
-    where
-      go : (b : Bool) → eqb (fac n) l ≡ b → (d : Bool) → met (con n) (w .rest % siz n) ≡ d
-          → ((u : Walk) → down fac siz con eff l n u ≡ rest fac siz con eff l n (u .rest) (u .stride) (u .number))
-          → down fac siz con eff l (suc n) w ≡ rest fac siz con eff l (suc n) (w .rest) (w .stride) (w .number)
-      go true e true d r =
-          rw (holds-leaf fac siz l (w .rest) n con e, number-leaf fac siz l (w .rest) n eff e, e, d, and-true, ← carried)
-          (r (stepped w (siz n) (valueAfter (eff n) (w .rest % siz n))))
-      go true e false d r = rw (holds-leaf fac siz l (w .rest) n con e, e, d, and-false)
-      go false e b d r = rw (holds-other fac siz l (w .rest) n con e, number-other fac siz l (w .rest) n eff e, e) (r w)
-
-  -- the whole pass
-  pub to-down : (n x : ℕ) → down fac siz con eff l n (fresh x) ≡ toWith n fac siz con eff l x
+  -- a variable of the leaf: a digit more
+  pub to-leaf : (n x : ℕ) → eqb (fac n) l ≡ true
+      → toWith (n + 1) fac siz con eff l x ≡ digitMove (toWith n fac siz con eff l (x / siz n)) (siz n) (con n) (eff n) (x % siz n)
   unfolding toWith
-  to-down n x = down-is n (fresh x) ∙ ap (λ (y : ℕ). gate (holdsIn n fac l con (values fac siz l x n)) y) (omega arith)
+  to-leaf n x e =
+      rw (add-one, holds-leaf fac siz l x n con e, number-leaf fac siz l x n eff e)
+      (gate-more (holdsIn n fac l con (values fac siz l (x / siz n) n)) _ _ (siz n) (con n) (eff n) (x % siz n) refl)
 
-  -- ---- a turn of the loop, from the variables below v to those below u
-
-  module _ (u v : ℕ) (w : Walk) (p : v ≡ suc u) where
-    -- at a variable of the leaf whose condition holds
-    pub down-on : eqb (fac u) l ≡ true → met (con u) (w .rest % siz u) ≡ true
-        → down fac siz con eff l v w ≡ down fac siz con eff l u (stepped w (siz u) (valueAfter (eff u) (w .rest % siz u)))
-    unfolding down
-    down-on e d = rw (p, down, e, d)
-
-    -- at one whose condition fails
-    pub down-fails : eqb (fac u) l ≡ true → met (con u) (w .rest % siz u) ≡ false → down fac siz con eff l v w ≡ 0
-    unfolding down
-    down-fails e d = rw (p, down, e, d)
-
-    -- at any other variable
-    pub down-by : eqb (fac u) l ≡ false → down fac siz con eff l v w ≡ down fac siz con eff l u w
-    unfolding down
-    down-by e = rw (p, down, e)
+  -- any other variable
+  pub to-other : (n x : ℕ) → eqb (fac n) l ≡ false → toWith (n + 1) fac siz con eff l x ≡ toWith n fac siz con eff l x
+  unfolding toWith
+  to-other n x e = rw (add-one, holds-other fac siz l x n con e, number-other fac siz l x n eff e)
 
 -- ---- numbers that fit
 
@@ -143,54 +115,32 @@ states-less fac siz l v (suc n) m h = go (ℕ-discrete v (suc n)) (λ m′. stat
     go (no d) r = omega (arith, r (omega arith), one-more _ refl)
 
 -- the next value of a variable is one of its values
-value-in : (z x y : ℕ) → 1 ≤ z → PairIn z x → valueAfter x (y % z) < z
-value-in z x y h k = go k _ refl
+pub value-in : (z x d : ℕ) → d < z → PairIn z x → valueAfter x d < z
+value-in z x d h k = go k _ refl
   where
-    go : PairIn z x → (b : Bool) → eqb x free ≡ b → valueAfter x (y % z) < z
-    go k true e = rw e (mod-lt y h)
+    go : PairIn z x → (b : Bool) → eqb x free ≡ b → valueAfter x d < z
+    go k true e = rw e h
     go (inl q) false e = absurd (eqb-false x free e q)
     go (inr m) false e = rw e m
 
--- a number below s and a digit v below z: the number with the digit is below s * z
-digit-below : (k s v z : ℕ) → k < s → v < z → k + v * s < s * z
-digit-below k s v z h m = omega (arith, mul-comm s z, suc-mul v s, mul-le-mul-right s m)
+-- the number with a digit more is small
+pub digit-fits : (k z q d : ℕ) → 1 ≤ k → k * z ≤ 256 → d < z → PairIn z q → (k - 1) * z + valueAfter q d < 256
+digit-fits (suc k) z q d h few l i = let e : suc k - 1 ≡ k = omega arith in rw e (omega (arith, suc-mul k z, value-in z q d l i))
 
--- a digit more leaves the number below its bound
-pub step-below : (w : Walk) (z y : ℕ) → Steps w z y → w .number + y * w .stride < w .stride * z
-step-below w z y h = digit-below (w .number) (w .stride) y z (h .below) (h .inside)
-
-module _ (fac siz : ℕ → ℕ) (l : ℕ) where
-  -- before the first digit
-  pub room-fresh : (n x : ℕ) → statesTo fac siz l n ≤ 256 → Room fac siz l n (fresh x)
-  room-fresh n x h = record { below = omega arith; few = rw one-mul h }
-
-  -- behind the last
-  pub room-end : (w : Walk) → Room fac siz l 0 w → w .number < 256
+module _ (fac siz : ℕ → ℕ) (con eff : Partial) (l n : ℕ) (small : Small n fac siz eff l) where
+  -- a leaf has a state
+  pub some-states : 1 ≤ statesTo fac siz l n
   unfolding statesTo
-  room-end w h = omega (arith, h .below, h .few)
+  some-states = states-less fac siz l 0 n (omega arith) (small .sized)
 
-  module _ (eff : Partial) (n u v : ℕ) (w : Walk) (p : v ≡ suc u) (small : Small n fac siz eff l) (m : u < n) (room : Room fac siz l v w) where
-    -- at a variable of the leaf: its digit can go over
-    pub room-steps : eqb (fac u) l ≡ true → Steps w (siz u) (valueAfter (eff u) (w .rest % siz u))
-    unfolding statesTo
-    room-steps e =
-        let few : w .stride * (statesTo fac siz l u * siz u) ≤ 256 = rw (p, statesTo, e) at (room .few) in
-        let some = states-less fac siz l 0 u (omega arith) (λ k h. small .sized k (omega arith)) in
-        let more : siz u ≤ statesTo fac siz l u * siz u = omega (arith, one-mul (siz u), mul-le-mul-right (siz u) some) in
-        record {
-          inside = value-in (siz u) (eff u) (w .rest) (small .sized u m) (small .inside u m);
-          below = room .below;
-          few = omega (arith, mul-le-mul-left (w .stride) more, few);
-        }
+  -- what the action makes of a state is at most the count of states
+  pub to-few : (v x : ℕ) → v ≤ n → toWith v fac siz con eff l x ≤ statesTo fac siz l v
+  unfolding toWith
+  to-few v x m = go (holdsIn v fac l con (values fac siz l x v))
+    where
+      below : numberTo fac siz l (put eff (values fac siz l x v)) v < statesTo fac siz l v
+      below = num-lt fac siz l _ v (λ u h f. value-in (siz u) (eff u) _ (dig-lt fac siz l x u v h f (small .sized u (omega arith))) (small .inside u (omega arith)))
 
-    -- and the numbers stay small
-    pub room-on : eqb (fac u) l ≡ true → Room fac siz l u (stepped w (siz u) (valueAfter (eff u) (w .rest % siz u)))
-    unfolding statesTo
-    room-on e =
-        let few : w .stride * (statesTo fac siz l u * siz u) ≤ 256 = rw (p, statesTo, e) at (room .few) in
-        record { below = step-below w (siz u) _ (room-steps e); few = rw (mul-assoc, mul-comm (siz u)) few }
-
-    -- at any other variable
-    pub room-by : eqb (fac u) l ≡ false → Room fac siz l u w
-    unfolding statesTo
-    room-by e = record { below = room .below; few = rw (p, statesTo, e) at (room .few) }
+      go : (b : Bool) → gate b (numberTo fac siz l (put eff (values fac siz l x v)) v) ≤ statesTo fac siz l v
+      go true = below
+      go false = omega arith

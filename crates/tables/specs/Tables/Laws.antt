@@ -3,8 +3,8 @@ use mathlib.Core.Path.{_≡_, refl, sym, _∙_}
 use mathlib.Core.Bool.{true, false}
 use mathlib.Core.Logic.{_⊎_, inl, inr}
 use mathlib.Core.List.{List}
-use Prim.Native.Nat.{ℕ, zero, suc, _+_, _-_, _*_, _≤_, _<_, min}
-use native.Mathlib.Nat.{mul-le-mul-right, suc-mul, not-suc-le-zero}
+use Prim.Native.Nat.{ℕ, zero, suc, _+_, _-_, _*_, _/_, _%_, _≤_, _<_, min}
+use native.Mathlib.Nat.{mul-le-mul-left, mul-le-mul-right, mul-one, suc-mul, not-suc-le-zero, mod-lt, div-add-mod', div-lt-iff-lt-mul}
 use native.Mathlib.Numerals.{add-one}
 use native.Mathlib.Omega.{arith}
 use native.Mathlib.Decide.{ℕ-discrete}
@@ -16,9 +16,9 @@ use Rattle.loops.specs.Count.Laws.{below-cases, sum-more}
 use Rattle.task.specs.Meaning.{State, Partial}
 use Rattle.task.specs.Factors.{touches, leafPairs, numberTo, statesTo}
 use Rattle.task.specs.Radix.{num-lt}
-use Rattle.tables.specs.Moves.{toWith}
-use Rattle.tables.specs.Moves.Laws.{states-less}
-use Rattle.tables.specs.Tables.{Each, Filled, Placed, Same, startOf, Row, Rows, KindIs}
+use Rattle.tables.specs.Moves.{Small, toWith, digitMove}
+use Rattle.tables.specs.Moves.Laws.{to-none, to-leaf, to-other, to-few, states-less}
+use Rattle.tables.specs.Tables.{Each, Filled, Placed, Same, Spread, Growing, startOf, Partly, Row, Rows, KindIs}
 
 -- ---- lists
 
@@ -50,17 +50,14 @@ same-set from end xs ys j y l m h k o = rw (getD-set-other ys j k y 0 (apart o))
     apart (inl w) q = omega arith
     apart (inr w) q = omega arith
 
+-- what lies outside a part lies outside a part of it
+pub outside : {k from end a b : ℕ} → from ≤ a → b ≤ end → (k < from) ⊎ (end ≤ k) → (k < a) ⊎ (b ≤ k)
+outside l m (inl w) = inl (omega arith)
+outside l m (inr w) = inr (omega arith)
+
 -- what agrees outside one part and then outside the next, agrees outside both
 pub same-more : (from mid end : ℕ) (xs ys zs : List ℕ) → from ≤ mid → mid ≤ end → Same from mid xs ys → Same mid end ys zs → Same from end xs zs
-same-more from mid end xs ys zs l m h g k o = g k (second o) ∙ h k (first o)
-  where
-    first : (k < from) ⊎ (end ≤ k) → (k < from) ⊎ (mid ≤ k)
-    first (inl w) = inl w
-    first (inr w) = inr (omega arith)
-
-    second : (k < from) ⊎ (end ≤ k) → (k < mid) ⊎ (end ≤ k)
-    second (inl w) = inl (omega arith)
-    second (inr w) = inr w
+same-more from mid end xs ys zs l m h g k o = g k (outside l (omega arith) o) ∙ h k (outside (omega arith) m o)
 
 -- ---- where the leaves' states begin
 
@@ -87,15 +84,6 @@ module _ (n : ℕ) (fac siz : ℕ → ℕ) where
           → startOf n fac siz i + statesTo fac siz (suc i) n ≤ startOf n fac siz (suc j)
       go (inl m) r = omega (arith, r m)
       go (inr q) r = rw q (omega arith)
-
-  -- a leaf by the list of where the leaves begin: its begin, its count of states, and its room
-  pub leaf-here : (bases : List ℕ) (leaves i : ℕ) → i < leaves → Filled (leaves + 1) (startOf n fac siz) bases
-      → (getD bases i 0 ≡ startOf n fac siz i) × (getD bases i 0 ≤ getD bases (i + 1) 0)
-      × (getD bases (i + 1) 0 - getD bases i 0 ≡ statesTo fac siz (suc i) n) × (startOf n fac siz i + statesTo fac siz (suc i) n ≤ startOf n fac siz leaves)
-  leaf-here bases leaves i l h =
-      let p = h i (omega arith) in
-      let q = h (i + 1) (omega arith) ∙ start-more i in
-      (p, omega arith, omega arith, start-before i leaves l)
 
   -- the sum stays small while each leaf has few states
   pub start-few : (i : ℕ) → ((j : ℕ) → j < i → statesTo fac siz (suc j) n ≤ 256) → startOf n fac siz i ≤ 256 * i
@@ -132,6 +120,67 @@ number-fits fac siz l s v n m h few e p = rw (number-on fac siz l s v e p) (numb
 -- a row more is inside the rows
 pub row-inside : (a m s : ℕ) → a < m → a * s + s ≤ m * s
 row-inside a m s l = omega (arith, suc-mul a s, mul-le-mul-right s l)
+
+-- with a digit more of size z, state u of s has room behind the states below it
+pub digit-room : (u s z : ℕ) → u < s → 1 ≤ z → (u ≤ u * z) × (u * z + z ≤ s * z) × (s ≤ s * z)
+digit-room u s z l h = (omega (arith, mul-one u, mul-le-mul-left u h), row-inside u s z l, omega (arith, mul-one s, mul-le-mul-left s h))
+
+module _ (from s z p q : ℕ) (xs : List ℕ) where
+  -- before the first state
+  pub growing-none : Growing from s z p q xs s xs
+  growing-none = record { waits = λ k l. refl; grown = λ k d l m. absurd (omega arith) }
+
+  -- one state more
+  pub growing-more : (u x : ℕ) (ys zs : List ℕ) → x ≡ u + 1 → 1 ≤ z → Growing from s z p q xs x ys
+      → Placed (from + u * z) z (digitMove (getD ys (from + u) 0) z p q) zs → Same (from + u * z) (from + u * z + z) ys zs → Growing from s z p q xs u zs
+  growing-more u x ys zs e h w f g =
+      record {
+        waits = λ k l. g (from + k) (inl (omega (arith, mul-one u, mul-le-mul-left u h))) ∙ w .waits k (omega arith);
+        grown = λ k d l m o. go k d l m o (ℕ-discrete k u);
+      }
+    where
+      go : (k d : ℕ) → u ≤ k → k < s → d < z → Dec (k ≡ u) → getD zs (from + (k * z + d)) 0 ≡ digitMove (getD xs (from + k) 0) z p q d
+      go k d l m o (yes i) =
+          let at : from + (k * z + d) ≡ (from + u * z) + d = rw i (omega arith) in
+          rw (at, f d o, w .waits u (omega arith), i)
+      go k d l m o (no i) =
+          let above = row-inside u k z (omega arith) in
+          g (from + (k * z + d)) (inr (omega arith)) ∙ w .grown k d (omega arith) m o
+
+module _ (fac siz : ℕ → ℕ) (con eff : Partial) (l from : ℕ) where
+  -- without variables
+  pub partly-none : (xs : List ℕ) → from < length xs → Partly fac siz con eff l from 0 1 (set xs from 1)
+  unfolding statesTo
+  partly-none xs h = record { count = refl; placed = λ k m. let e : from + k ≡ from = omega arith in rw (e, getD-set-same, to-none) }
+
+  -- a variable of the leaf: each state so far has a digit more
+  pub partly-leaf : (v s : ℕ) (xs ys : List ℕ) → eqb (fac v) l ≡ true → 1 ≤ siz v → Partly fac siz con eff l from v s xs
+      → Spread from 0 s (siz v) (con v) (eff v) xs ys → Partly fac siz con eff l from (v + 1) (s * siz v) ys
+  unfolding statesTo
+  partly-leaf v s xs ys e z h g =
+      record {
+        count = rw (add-one, statesTo, e, h .count);
+        placed = λ k m.
+            let q = div-lt-iff-lt-mul z .1 m in
+            let own = g (k / siz v) (k % siz v) (omega arith) q (mod-lt k z) in
+            rw (to-leaf fac siz con eff l v k e, ← h .placed (k / siz v) q) (rw (div-add-mod' k (siz v)) at own);
+      }
+
+  -- any other variable
+  pub partly-other : (v s : ℕ) (xs : List ℕ) → eqb (fac v) l ≡ false → Partly fac siz con eff l from v s xs → Partly fac siz con eff l from (v + 1) s xs
+  unfolding statesTo
+  partly-other v s xs e h =
+      record { count = rw (add-one, statesTo, e) (h .count); placed = λ k m. h .placed k m ∙ sym (to-other fac siz con eff l v k e) }
+
+  -- the states by one variable more have room, and what the action makes of each so far is small
+  pub partly-room : (n v s : ℕ) (xs : List ℕ) → Small n fac siz eff l → v < n → eqb (fac v) l ≡ true → Partly fac siz con eff l from v s xs
+      → (s * siz v ≤ statesTo fac siz l n) × ((k : ℕ) → k < s → getD xs (from + k) 0 ≤ s)
+  unfolding statesTo
+  partly-room n v s xs small m e h =
+      let more : statesTo fac siz l (suc v) ≡ s * siz v = rw (statesTo, e, h .count) in (
+        omega (arith, more, states-less fac siz l (suc v) n m (small .sized)),
+        λ k g. rw (h .placed k g, h .count) (to-few fac siz con eff l n small v k (omega arith)),
+      )
 
 module _ (n : ℕ) (fac siz : ℕ → ℕ) where
   -- one leaf more of an action's row
