@@ -65,8 +65,7 @@ pub enum Round {
 }
 
 // Action a, whose centre conditions hold, at node u, whose parts, key and signature are given: a centre action has its layer's begin offered. No leaf's
-// least price falls over it, so nothing is made where the key and the action's cost are not below best. Where it does not apply, the begin's key is
-// the mark.
+// least price falls over it, so nothing is made where the key and the action's cost are not below best, nor where it does not apply.
 fn turn(
     leaves: usize,
     actions: usize,

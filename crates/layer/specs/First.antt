@@ -13,7 +13,7 @@ use Rattle.task.specs.declared.Centre.{Centre}
 use Rattle.task.specs.Meaning.{free}
 use Rattle.task.specs.Factors.{holdsIn}
 use Rattle.task.specs.Centre.{valueIn, centreMeets}
-use Rattle.layer.specs.Board.{Board, Sound, metOn}
+use Rattle.layer.specs.Board.{Board, metOn}
 use Rattle.layer.specs.Lent.{boardOf, testsOf}
 
 -- v is a centre variable that the conditions of action a name, or 32
@@ -35,15 +35,6 @@ asksOf actions factors conditions = boardOf 0 actions [] [] [] [] factors condit
 -- only these parts count
 pub firsts-part : (b : Board) (firsts : List ℕ) → Firsts (asksOf (b .actions) (b .factors) (b .conditions)) firsts → Firsts b firsts
 firsts-part b firsts f = record { long = f .long; inside = f .inside; named = f .named }
-
--- what the table tells of an action, and that its entry and its conditions can be read
-pub first-of : (b : Board) (firsts : List ℕ) (a : ℕ) → Sound b → Firsts b firsts → a < b .actions
-    → (a < length firsts) × (a * 32 + 32 ≤ length (b .conditions)) × First (b .factors) (b .conditions) a (getD firsts a 0)
-first-of b firsts a sound f l = (
-  omega (arith, f .long, sound .few-actions),
-  omega (arith, sound .few-actions, sound .conditions-long),
-  record { inside = f .inside a l; named = f .named a l },
-)
 
 -- a turn of the loop: the entry of one more action is stored
 pub first-more : (factors conditions firsts : List ℕ) (n v : ℕ) → n < length firsts

@@ -8,8 +8,6 @@ ghost use mathlib.Core.Path.{_≡_};
 ghost use mathlib.Core.Bool.{cond, true};
 ghost use Prim.Native.Nat.{ℕ, _+_, _*_, _≤_, _<_};
 ghost use lib.ListN.{length, getD};
-ghost use Rattle.task.specs.Centre.{valueIn};
-ghost use Rattle.layer.specs.Board.{metOn};
 ghost use Rattle.layer.specs.First.{Firsts, asksOf};
 ghost use Rattle.mets.specs.Mets.{Mets};
 ghost use Rattle.mets.specs.Known.{Known, Stored, Flagged};

@@ -1,10 +1,9 @@
 -- Where the prices of a layer's begin stand: behind an action that leaves each leaf state as it is they are those of the layer before, and are copied only
 -- once the node is kept; behind another they were made. Assumes nothing.
-use mathlib.Core.Path.{_≡_, refl, sym, _∙_}
+use mathlib.Core.Path.{_≡_, refl, sym}
 use mathlib.Core.List.{List, _++_}
 use Prim.Native.Nat.{ℕ, zero, suc, _≤_}
-use native.Mathlib.Omega.{arith}
-use lib.ListN.{length, take, drop, length-append, length-take, length-drop}
+use lib.ListN.{length, take, drop}
 use lib.Seq.{take-at, length-take-le}
 
 -- the list to read from, where `still` is not 0 the old one
@@ -42,13 +41,7 @@ unfolding readFrom begunWords
 read-begun zero S old new l = refl
 read-begun (suc f) S old new l = sym (take-at (take S old) (drop S new) S (length-take-le S old l))
 
--- there are as many words
-pub begun-length : (still S : ℕ) (old new : List ℕ) → S ≤ length old → S ≤ length new → length (begunWords still S old new) ≡ length new
-unfolding begunWords
-begun-length zero S old new l h = refl
-begun-length (suc f) S old new l h = simp (length-append, length-take, length-drop) (omega arith)
-
--- and the list read from is long enough
+-- the list read from is long enough
 pub read-long : (still S : ℕ) (old new : List ℕ) → S ≤ length old → S ≤ length new → S ≤ length (readFrom still old new)
 unfolding readFrom
 read-long zero S old new l h = h

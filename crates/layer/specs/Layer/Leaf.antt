@@ -23,7 +23,7 @@ use Rattle.leaf.specs.Price.{mark}
 use Rattle.leaf.specs.Settle.Steps.{set-cases, replicate-at}
 use Rattle.leaf.specs.Settle.Walks.{Walk, stand, step, Ranged, Capped, Below, Closed}
 use Rattle.leaf.specs.Settle.Laws.{settled-length, settled-below, settled-real, settled-bound, settled-floor, settled-closed, settled-mono}
-use Rattle.leaf.specs.Pass.Laws.{pass-length, pass-cap, pass-hit, pass-from, pass-mono, pass-floor}
+use Rattle.leaf.specs.Pass.Laws.{pass-length, pass-cap, pass-hit, pass-from, pass-mono}
 use Rattle.layer.specs.Layer.{enabledTo, enabled, settleLeaf, LeafWalk, startLeaf, passLeaf, passes}
 
 -- ---- enabled
@@ -221,11 +221,6 @@ module _ (t : Task) (l a : ℕ) (P : List ℕ) where
       → Below mark (passLeaf t l a P) (passLeaf t l a R)
   unfolding passLeaf
   passLeaf-mono ok R la h = pass-mono mark (states t l) (to t l a) P R (λ x y _ e. to-in t ok l a x y la e) h
-
-  -- where no price is below b, none that passes is
-  pub passLeaf-floor : (b : ℕ) → b ≤ mark → ((x : ℕ) → x < states t l → b ≤ getD P x mark) → (y : ℕ) → b ≤ getD (passLeaf t l a P) y mark
-  unfolding passLeaf
-  passLeaf-floor = pass-floor mark (states t l) (to t l a) P
 
 -- ---- passes
 

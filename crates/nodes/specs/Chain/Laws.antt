@@ -87,10 +87,6 @@ pub chained-recalled : (S : ℕ) (T C D : List ℕ) (n : ℕ) → n ≤ 4096 →
 chained-recalled S T C D n few k r =
     chained-words S T C D n few (k .long) (λ i l h. k .same i (omega arith)) (λ i l h. k .same i h) (blocked-recalled C D n few k (r .blocks)) r
 
--- the same where one recent word is stored
-pub chained-recent : (S : ℕ) (T C : List ℕ) (n i v : ℕ) → n ≤ 4096 → 53520 ≤ i → Chained S T C n → Chained S T (set C i v) n
-chained-recent S T C n i v few h = chained-recalled S T C (set C i v) n few (recalled-set C i v h)
-
 -- the place of a recent word is below 4,096
 pub slot-lt : (h s : ℕ) → slotOf h s < 4096
 unfolding slotOf
