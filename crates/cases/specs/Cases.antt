@@ -25,11 +25,12 @@ use Rattle.pricer.specs.Pricer.{Outcome as Priced, pathFits, taskPrices, prices
 use Rattle.search.specs.Node.{firstNode, nextNode, leastOf, key, goalPrices, isGoal, goalCost, dominates}
 use Rattle.search.specs.Explore.{belowBest, bestWith, keep, start, waits, choose, offer, turn, expand, begin, explore, explored}
 use Rattle.search.specs.Plan.{lowest, tight, tightTo, depths, source, back, begins, backIn, over, stages, pathTo, goalState, planOf}
-use Rattle.planner.specs.declared.Counts.{Counts}
-use Rattle.planner.specs.declared.PlanAnswer.{PlanAnswer}
-use Rattle.planner.specs.declared.PlanAnswer.the-variants.{Solved, Unsolvable, Refused}
-use Rattle.planner.specs.declared.PlanRefusal.the-variants.{TableFull, BudgetSpent, PlanLong}
-use Rattle.planner.specs.Planner.{withPlan, tableWords, searched, taskPlan, recordPlan}
+use Rattle.solve.specs.declared.Counts.{Counts}
+use Rattle.solve.specs.declared.PlanAnswer.{PlanAnswer}
+use Rattle.solve.specs.declared.PlanAnswer.the-variants.{Solved, Unsolvable, Refused}
+use Rattle.solve.specs.declared.PlanRefusal.the-variants.{TableFull, BudgetSpent, PlanLong}
+use Rattle.solve.specs.Solve.{withPlan, tableWords, searched}
+use Rattle.planner.specs.Planner.{taskPlan, recordPlan}
 
 -- an answer of the planner, and the first five bytes of its plan buffer, which was filled with 238
 pub record Told : Type 0 where

@@ -7,10 +7,10 @@
 // states, or where the bytes behind the plan are not as they were.
 use libc::STDIN_FILENO;
 use libc::STDOUT_FILENO;
-use planner::PlanAnswer;
-use planner::Solution;
 use planner::plan;
 use record::read_record;
+use solve::PlanAnswer;
+use solve::Solution;
 use steps::holds;
 use steps::put;
 use task::Task;

@@ -12,9 +12,10 @@ use Rattle.record.specs.Record.{readRecord}
 use Rattle.pricer.specs.declared.PriceAnswer.{PriceAnswer}
 use Rattle.pricer.specs.declared.PriceAnswer.the-variants.{Prices, Refused as NotPriced}
 use Rattle.pricer.specs.Pricer.{refusalNumber as priceNumber}
-use Rattle.planner.specs.declared.PlanAnswer.{PlanAnswer}
-use Rattle.planner.specs.declared.PlanAnswer.the-variants.{Solved, Unsolvable, Refused}
-use Rattle.planner.specs.Planner.{refusalNumber, tableWords}
+use Rattle.solve.specs.declared.PlanAnswer.{PlanAnswer}
+use Rattle.solve.specs.declared.PlanAnswer.the-variants.{Solved, Unsolvable, Refused}
+use Rattle.solve.specs.Solve.{tableWords}
+use Rattle.planner.specs.Planner.{refusalNumber}
 use Rattle.depot.specs.declared.Told.{Told}
 
 -- 0 for a plan, 255 for "unsolvable", else the refusal's number; and length, cost, expansions and nodes, 0 where the paper gives none

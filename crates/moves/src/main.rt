@@ -7,13 +7,13 @@
 // The record stands on standard input; where the command names files, each of them holds one.
 use libc::STDIN_FILENO;
 use libc::STDOUT_FILENO;
-use planner::PlanAnswer;
-use planner::PlanRefusal;
-use planner::Solution;
 use planner::fitting_nodes;
 use planner::plan;
 use planner::refusal_number;
 use record::read_record;
+use solve::PlanAnswer;
+use solve::PlanRefusal;
+use solve::Solution;
 use steps::holds;
 use steps::put;
 use task::FREE;

@@ -3,13 +3,13 @@
 // Prints the plan's length, its cost and the counts, then an action to a line; or one line that says why there is no plan.
 use libc::STDIN_FILENO;
 use libc::STDOUT_FILENO;
-use planner::Counts;
-use planner::PlanAnswer;
-use planner::PlanRefusal;
-use planner::Solution;
 use planner::fitting_nodes;
 use planner::plan;
 use planner::refusal_number;
+use solve::Counts;
+use solve::PlanAnswer;
+use solve::PlanRefusal;
+use solve::Solution;
 
 // The counts, and the end of the line.
 fn print_counts(counts: Counts) {

@@ -1,7 +1,7 @@
 -- `depot::depot_plan` meets its contract: the planner's own, in numbers and words. Assumes nothing.
 use mathlib.Core.Path.{ap, _∙_}
 use denote.Ref.{now}
-use Rattle.planner.specs.Planner.{Outcome}
+use Rattle.solve.specs.Solve.{Outcome}
 use Rattle.depot.specs.declared.Told.{Told}
 use Rattle.depot.specs.Depot.{toldOf, answered}
 use borrow.Author.Needs.{needs}

@@ -4,8 +4,8 @@ use mathlib.Core.Path.{_≡_}
 use native.Mathlib.Omega.{arith}
 use lib.ListN.{getD}
 use Rattle.tables.specs.Fit.{row-of}
-use Rattle.planner.specs.Planner.{tableWords}
-use Rattle.planner.specs.Planner.Answers.{words-is, words-few}
+use Rattle.solve.specs.Solve.{tableWords}
+use Rattle.solve.specs.Solve.Answers.{words-is, words-few}
 use Rattle.depot.specs.Depot.Laws.{words-none, words-many, words-some}
 use borrow.Author.Needs.{needs}
 use Rattle.depot.proofs.task_words.Statement.{statement}

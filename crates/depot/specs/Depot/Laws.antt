@@ -12,7 +12,7 @@ use Rattle.task.specs.declared.Task.{Task}
 use Rattle.fields.specs.declared.Refusal.{Refusal}
 use Rattle.whole.specs.declared.Verdict.the-variants.{Accepted, Refused as NotAccepted}
 use Rattle.record.specs.Record.{readRecord}
-use Rattle.planner.specs.Planner.{tableWords}
+use Rattle.solve.specs.Solve.{tableWords}
 use Rattle.depot.specs.declared.Told.{Told}
 use Rattle.depot.specs.Depot.{answered, taskWords, recordWords}
 

@@ -7,8 +7,9 @@ use lib.ListN.{getD}
 use Rattle.task.specs.Factors.{allStates}
 use borrow.Author.Needs.{needs}
 use Rattle.tables.specs.Fit.{row-of}
-use Rattle.planner.specs.Planner.{tableWords}
-use Rattle.planner.specs.Planner.Answers.{words-is, words-few, task-none, task-many, task-short, task-searched}
+use Rattle.solve.specs.Solve.{tableWords}
+use Rattle.solve.specs.Solve.Answers.{words-is, words-few}
+use Rattle.planner.specs.Planner.Answers.{task-none, task-many, task-short, task-searched}
 use Rattle.planner.proofs.plan_task.Statement.{statement}
 use Rattle.planner.proofs.plan_task.Tie as tie
 

@@ -21,12 +21,13 @@ use Rattle.search.specs.Explore.{Search, Reason, finished, tableFull, budgetSpe
 use Rattle.search.specs.Optimal.{demand-3}
 use Rattle.search.specs.Plan.{planOf}
 use Rattle.search.specs.Plan.Found.{best-plan}
-use Rattle.planner.specs.declared.Counts.{Counts}
-use Rattle.planner.specs.declared.PlanRefusal.{PlanRefusal}
-use Rattle.planner.specs.declared.PlanRefusal.the-variants.{InRecord, NodesWrong, TableShort, TableFull, BudgetSpent, PlanLong}
-use Rattle.planner.specs.declared.PlanAnswer.{PlanAnswer}
-use Rattle.planner.specs.declared.PlanAnswer.the-variants.{Solved, Unsolvable, Refused}
-use Rattle.planner.specs.Planner.{Outcome, noCounts, countsOf, unwritten, withPlan, planned, atBest, atStop, tableWords, cleared, searched, taskPlan, onVerdict, recordPlan}
+use Rattle.solve.specs.declared.Counts.{Counts}
+use Rattle.solve.specs.declared.PlanRefusal.{PlanRefusal}
+use Rattle.solve.specs.declared.PlanRefusal.the-variants.{InRecord, NodesWrong, TableShort, TableFull, BudgetSpent, PlanLong}
+use Rattle.solve.specs.declared.PlanAnswer.{PlanAnswer}
+use Rattle.solve.specs.declared.PlanAnswer.the-variants.{Solved, Unsolvable, Refused}
+use Rattle.solve.specs.Solve.{Outcome, countsOf, unwritten, withPlan, planned, atBest, atStop, tableWords, cleared, searched}
+use Rattle.planner.specs.Planner.{noCounts, taskPlan, onVerdict, recordPlan}
 
 -- ---- what is demanded of an answer, of the plan buffer's bytes afterwards and of its length
 

@@ -1,10 +1,10 @@
--- `planner::answer_of` meets its contract: a full table and a spent budget are refused, and a search that has finished is answered. Assumes nothing.
+-- `solve::answer_of` meets its contract: a full table and a spent budget are refused, and a search that has finished is answered. Assumes nothing.
 use mathlib.Core.Path.{_∙_}
 use denote.Ref.{now}
 use borrow.Author.Needs.{needs}
-use Rattle.planner.specs.Planner.Stops.{stop-full, stop-spent, stop-finished}
-use Rattle.planner.proofs.answer_of.Statement.{statement}
-use Rattle.planner.proofs.answer_of.Tie as tie
+use Rattle.solve.specs.Solve.Stops.{stop-full, stop-spent, stop-finished}
+use Rattle.solve.proofs.answer_of.Statement.{statement}
+use Rattle.solve.proofs.answer_of.Tie as tie
 
 enum-told : tie.Need-enum-told
 enum-told c = search needs

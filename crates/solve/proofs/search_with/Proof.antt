@@ -1,4 +1,4 @@
--- `planner::search_with` meets its contract: the tables are the task's, and what the search stops with is answered. Assumes nothing.
+-- `solve::search_with` meets its contract: the tables are the task's, and what the search stops with is answered. Assumes nothing.
 use mathlib.Core.Path.{_≡_, refl, sym, _∙_}
 use mathlib.Core.List.{[]}
 use Prim.Native.Nat.{ℕ, _+_}
@@ -7,11 +7,11 @@ use denote.Ref.{now}
 use lib.ListN.{length, length-replicate}
 use Rattle.leaf.specs.Settle.Steps.{replicate-at}
 use Rattle.tables.specs.Tables.{Tabled}
-use Rattle.planner.specs.Planner.{tableWords}
-use Rattle.planner.specs.Planner.Stops.{Sound, stop-is, stop-sound}
+use Rattle.solve.specs.Solve.{tableWords}
+use Rattle.solve.specs.Solve.Stops.{Sound, stop-is, stop-sound}
 use borrow.Author.Needs.{needs}
-use Rattle.planner.proofs.search_with.Statement.{statement}
-use Rattle.planner.proofs.search_with.Tie as tie
+use Rattle.solve.proofs.search_with.Statement.{statement}
+use Rattle.solve.proofs.search_with.Tie as tie
 
 -- the tables are the task's
 tabled : (c : tie.After-leaf-goals) → let s = c .before .before .before .before .before .before .before .before .before .before .before .before in

@@ -1,4 +1,4 @@
--- `planner::search_tables` meets its contract: moves and edges have room either way. Assumes nothing.
+-- `solve::search_tables` meets its contract: moves and edges have room either way. Assumes nothing.
 use mathlib.Core.Path.{_≡_}
 use Prim.Native.Nat.{_*_, _≤_}
 use native.Mathlib.Omega.{arith}
@@ -6,8 +6,8 @@ use lib.ListN.{getD}
 use Rattle.task.specs.Factors.{allStates}
 use Rattle.tables.specs.Fit.{row-of, moves-fit}
 use borrow.Author.Needs.{needs}
-use Rattle.planner.proofs.search_tables.Statement.{statement}
-use Rattle.planner.proofs.search_tables.Tie as tie
+use Rattle.solve.proofs.search_tables.Statement.{statement}
+use Rattle.solve.proofs.search_tables.Tie as tie
 
 -- S by the bases
 row : (s : tie.Start) → getD (s .args .t2) (s .args .task .leaves) 0 ≡ allStates (s .args .task)

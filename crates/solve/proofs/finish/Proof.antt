@@ -1,4 +1,4 @@
--- `planner::finish` meets its contract: no best is "unsolvable"; best's plan is written or too long. Assumes nothing.
+-- `solve::finish` meets its contract: no best is "unsolvable"; best's plan is written or too long. Assumes nothing.
 use mathlib.Core.Path.{_≡_, refl}
 use Prim.Native.Nat.{_-_}
 use native.Mathlib.Omega.{arith}
@@ -8,9 +8,9 @@ use borrow.Author.Needs.{needs}
 use Rattle.task.specs.Factors.{allStates}
 use Rattle.plans.specs.Walk.{heldIn}
 use Rattle.plans.specs.Kept.{real-kept}
-use Rattle.planner.specs.Planner.Stops.{runIn, finish-none, finish-long, finish-solved}
-use Rattle.planner.proofs.finish.Statement.{statement}
-use Rattle.planner.proofs.finish.Tie as tie
+use Rattle.solve.specs.Solve.Stops.{runIn, finish-none, finish-long, finish-solved}
+use Rattle.solve.proofs.finish.Statement.{statement}
+use Rattle.solve.proofs.finish.Tie as tie
 
 returns : tie.Need-returns
 returns c =

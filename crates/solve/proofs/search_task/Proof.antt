@@ -1,4 +1,4 @@
--- `planner::search_task` meets its contract: the search works on the words that it needs, which are zero behind it. Assumes nothing.
+-- `solve::search_task` meets its contract: the search works on the words that it needs, which are zero behind it. Assumes nothing.
 use mathlib.Core.Path.{_≡_, sym, ap, _∙_}
 use native.Mathlib.Omega.{arith}
 use denote.Ref.{now}
@@ -7,10 +7,10 @@ use lib.ListN.{length, getD, take, length-append}
 use lib.Seq.{length-take-le}
 use borrow.Author.Needs.{needs}
 use Rattle.tables.specs.Fit.{row-of}
-use Rattle.planner.specs.Planner.{tableWords}
-use Rattle.planner.specs.Planner.Answers.{words-is, words-few, search-is}
-use Rattle.planner.proofs.search_task.Statement.{statement}
-use Rattle.planner.proofs.search_task.Tie as tie
+use Rattle.solve.specs.Solve.{tableWords}
+use Rattle.solve.specs.Solve.Answers.{words-is, words-few, search-is}
+use Rattle.solve.proofs.search_task.Statement.{statement}
+use Rattle.solve.proofs.search_task.Tie as tie
 
 -- the words that the nodes need
 words : (s : tie.Start) → (s .args .nodes + 1) * (40 + getD (s .args .t2) (s .args .task .leaves) 0) ≡ tableWords (s .args .task) (s .args .nodes)

@@ -1,4 +1,4 @@
--- `planner::task_edges` meets its contract: the tables are the task's, so that they can be indexed, and there is room. Assumes nothing.
+-- `solve::task_edges` meets its contract: the tables are the task's, so that they can be indexed, and there is room. Assumes nothing.
 use mathlib.Core.Path.{_≡_, sym}
 use Prim.Native.Nat.{_*_, _≤_}
 use native.Mathlib.Nat.{mul-comm}
@@ -11,8 +11,8 @@ use Rattle.layer.specs.Board.Laws.{row-on}
 use Rattle.layer.specs.Lent.{boardOf}
 use Rattle.tables.specs.Fit.{tables-fit}
 use borrow.Author.Needs.{needs}
-use Rattle.planner.proofs.task_edges.Statement.{statement}
-use Rattle.planner.proofs.task_edges.Tie as tie
+use Rattle.solve.proofs.task_edges.Statement.{statement}
+use Rattle.solve.proofs.task_edges.Tie as tie
 
 cast-leaves : tie.Need-cast-leaves
 cast-leaves c = search needs
