@@ -1,5 +1,4 @@
 // A successor is offered to the search that the lent table holds: dropped, refused for a full table, or settled and kept.
-use edges::settle_edges;
 use mets::mets_of;
 use nodes::is_dominated;
 use nodes::link;
@@ -7,6 +6,7 @@ use rows::class_of;
 use rows::goal_cost;
 use rows::sign_of;
 use rows::write_row;
+use sweeps::settle_edges;
 use task::Centre;
 use words::copy_words;
 ghost use mathlib.Core.Path.{_≡_};

@@ -8,8 +8,9 @@ use lib.ListN.{length, getD}
 use Rattle.leaf.specs.Price.{mark}
 use Rattle.leaf.specs.Settle.Walks.{Ranged}
 use Rattle.leaf.specs.Lent.{moveBy}
-use Rattle.edges.specs.Edges.{edgesAt, gated}
+use Rattle.edges.specs.Edges.{edgesAt}
 use Rattle.edges.specs.Edges.Those.{Placed}
+use Rattle.sweeps.specs.Sweeps.{gated}
 use Rattle.wayback.specs.Steps.{tightAt, depthsBy}
 
 -- ---- the list of actions, read backwards

@@ -1,7 +1,7 @@
 // The walk back of one leaf inside one layer: from a state to one that has kept the price that the layer began with, by actions at the right
 // price, each written into the plan as it is met.
-use edges::settle_along;
 use leaf::MARK;
+use sweeps::settle_along;
 ghost use mathlib.Core.Path.{_≡_};
 ghost use mathlib.Core.Logic.{_⊎_};
 ghost use mathlib.Core.Bool.{cond, _&&_};
@@ -9,7 +9,8 @@ ghost use Prim.Native.Nat.{ℕ, suc, _+_, _*_, _<_, _≤_};
 ghost use lib.Dec.{ltb, eqb};
 ghost use lib.ListN.{length, getD, drop, replicate};
 ghost use Rattle.leaf.specs.Price.{mark};
-ghost use Rattle.edges.specs.Edges.{edgesAt, Ways, Meant, Aims};
+ghost use Rattle.edges.specs.Edges.{edgesAt};
+ghost use Rattle.sweeps.specs.Sweeps.{Ways, Meant, Aims};
 ghost use Rattle.search.specs.Plan.{lowest};
 ghost use Rattle.search.specs.Plan.Laid.{put};
 ghost use Rattle.search.specs.Plan.Depths.{depth0};

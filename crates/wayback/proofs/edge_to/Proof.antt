@@ -4,7 +4,7 @@ use Prim.Native.Nat.{_+_, _*_, _<_}
 use native.Mathlib.Omega.{arith}
 use lib.ListN.{length, getD}
 use borrow.Author.Needs.{needs}
-use Rattle.edges.specs.Edges.Leaf.{gated-shut, gated-open}
+use Rattle.sweeps.specs.Sweeps.Leaf.{gated-shut, gated-open}
 use Rattle.wayback.proofs.edge_to.Statement.{statement}
 use Rattle.wayback.proofs.edge_to.Tie as tie
 

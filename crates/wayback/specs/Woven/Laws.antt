@@ -13,9 +13,10 @@ use Rattle.loops.specs.Count.Laws.{below-cases}
 use Rattle.leaf.specs.Settle.Steps.{replicate-at}
 use Rattle.leaf.specs.Settle.Turns.{at-any}
 use Rattle.leaf.specs.Lent.{Lent, costBy}
-use Rattle.edges.specs.Edges.{edgesAt, moveMet, Ways, Covered, Meant}
+use Rattle.edges.specs.Edges.{edgesAt}
 use Rattle.edges.specs.Edges.Those.{Placed}
-use Rattle.edges.specs.Edges.Leaf.{gated-out, gated-open}
+use Rattle.sweeps.specs.Sweeps.{moveMet, Ways, Covered, Meant}
+use Rattle.sweeps.specs.Sweeps.Leaf.{gated-out, gated-open}
 use Rattle.wayback.specs.Steps.{tightBy}
 use Rattle.wayback.specs.Tight.{tight-is, tight-ranged}
 use Rattle.wayback.specs.Woven.{IndexedFrom, Indexed, Legible, edgeAt, Between, Picked, Listed, Covers, Leading, Taken, Woven}

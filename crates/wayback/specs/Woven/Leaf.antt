@@ -10,8 +10,8 @@ use Rattle.layer.specs.Board.{Board, Sound, baseOn, rowOn, statesOn, enabledOn}
 use Rattle.layer.specs.Board.Turns.{base-in}
 use Rattle.edges.specs.Edges.{edgeBy, Edges}
 use Rattle.edges.specs.Edges.Those.{those-few}
-use Rattle.edges.specs.Edges.Leaf.{leaf-placed}
-use Rattle.edges.specs.Edges.Still.{ends-up, leaf-part}
+use Rattle.sweeps.specs.Sweeps.Leaf.{leaf-placed}
+use Rattle.sweeps.specs.Sweeps.Still.{ends-up, leaf-part}
 use Rattle.wayback.specs.Woven.{Spread, Covers}
 use Rattle.wayback.specs.Woven.Laws.{part-size}
 
