@@ -1,28 +1,23 @@
 -- What the pricer answers, and what the lent slice holds afterwards. Follows "Prices and layers" and "Refused because of the state":
 -- the pricer's order is 1 to 11, 12, 21, 13.
 pub mod Laws
-use mathlib.Core.Path.{_≡_}
-use mathlib.Core.Bool.{Bool, true, false, cond, _&&_}
+use mathlib.Core.Bool.{Bool, true, false, _&&_}
 use mathlib.Core.List.{List, _++_}
-use Prim.Native.Nat.{ℕ, suc, _+_, _*_}
-use lib.Dec.{ltb, leb, eqb}
-use lib.ListN.{length, getD, take, drop}
+use Prim.Native.Nat.{ℕ, suc, _+_}
+use lib.Dec.{ltb, leb}
+use lib.ListN.{length, getD, drop}
 use Rattle.loops.specs.Count.{all, sum}
 use Rattle.task.specs.declared.Task.{Task}
-use Rattle.task.specs.declared.Centre.{Centre}
-use Rattle.task.specs.Centre.{centreAfter}
 use Rattle.task.specs.Factors.{centreAction, states, allStates}
 use Rattle.fields.specs.Answers.{numberOf}
 use Rattle.whole.specs.declared.Verdict.{Verdict}
 use Rattle.whole.specs.declared.Verdict.the-variants.{Accepted, Refused as NotAccepted}
 use Rattle.record.specs.Record.{readRecord}
 use Rattle.leaf.specs.Price.{mark}
-use Rattle.layer.specs.Board.{Board, rowOn, nextOn, appliesOn}
 use Rattle.pricer.specs.declared.PriceRefusal.{PriceRefusal}
 use Rattle.pricer.specs.declared.PriceRefusal.the-variants.{InRecord, PathWrong, SliceShort, NotApplicable}
 use Rattle.pricer.specs.declared.PriceAnswer.{PriceAnswer}
 use Rattle.pricer.specs.declared.PriceAnswer.the-variants.{Prices, Refused}
-use Rattle.pricer.specs.declared.Walked.{Walked}
 use Rattle.price.specs.Path.{End, ends, stuck, firstLayer, walk}
 
 -- "For paths: 12 longer than 4,095, or an entry not a centre action; 13 an entry that doesn't apply. 21 price slice too short."
@@ -72,22 +67,3 @@ pricesOf rec path out = onVerdict (readRecord rec .verdict) (readRecord rec .tas
 -- the word that holds the price of state x of the leaf behind i leaves
 abbrev pub priceIn : Task → List ℕ → ℕ → ℕ → ℕ
 priceIn t words i x = getD words (sum i (λ j. states t (suc j)) + x) mark
-
--- ---- what the code goes by
-
--- where a walk ends, as the code tells it: whether all actions applied, the last centre state, the last prices
-abbrev pub walked : Walked → List ℕ → End
-walked w P = cond (w .ends) (ends (record { spot = w .spot; prices = P })) stuck
-
--- 12 is not met, by the table of kinds
-abbrev pub entryBy : ℕ → List ℕ → List ℕ → ℕ → Bool
-entryBy actions kinds path k = ltb (getD path k 0) actions && eqb (getD kinds (getD path k 0) 0) 0
-
-unfoldable pub fitsBy : ℕ → List ℕ → List ℕ → Bool
-fitsBy actions kinds path = leb (length path) 4095 && all (length path) (entryBy actions kinds path)
-
--- one centre action of a walk by the tables: whether it applies, and where it does the centre state behind it and the prices at the front
-pub record Stepped (b : Board) (effects : List ℕ) (spot : Centre) (a : ℕ) (old : List ℕ) (w : Walked) (new : List ℕ) : Type 0 where
-  pub applied : w .ends ≡ appliesOn b spot old a
-  pub behind : w .ends ≡ true → w .spot ≡ centreAfter (λ v. getD (b .factors) v 0) (λ v. getD effects (a * 32 + v) 0) spot
-  pub written : w .ends ≡ true → (rest : List ℕ) × (new ≡ take (rowOn b) (nextOn b (w .spot) a old ++ rest) ++ drop (rowOn b) old)

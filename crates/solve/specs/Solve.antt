@@ -10,7 +10,7 @@ use lib.ListN.{length, drop, replicate}
 use Rattle.task.specs.declared.Task.{Task}
 use Rattle.task.specs.Factors.{allStates}
 use Rattle.search.specs.Node.{goalCost}
-use Rattle.search.specs.Explore.{Search, Reason, finished, tableFull, budgetSpent, Stopped, nodeAt, explored}
+use Rattle.search.specs.Explore.{Search, Reason, finished, tableFull, budgetSpent, nodeAt, explored}
 use Rattle.search.specs.Plan.{planOf}
 use Rattle.solve.specs.declared.Counts.{Counts}
 use Rattle.solve.specs.declared.PlanRefusal.the-variants.{TableFull, BudgetSpent, PlanLong}

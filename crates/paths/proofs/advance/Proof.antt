@@ -1,4 +1,4 @@
--- `pricer::advance` meets its contract: the tables say whether the action applies, and what the next layer is. Assumes nothing.
+-- `paths::advance` meets its contract: the tables say whether the action applies, and what the next layer is. Assumes nothing.
 use mathlib.Core.Path.{_≡_, sym, _∙_}
 use native.Mathlib.Omega.{arith}
 use denote.Ref.{now}
@@ -7,9 +7,9 @@ use borrow.Author.Needs.{needs}
 use borrow.Author.Tests.{not-true, not-false}
 use Rattle.layer.specs.Board.{Board}
 use Rattle.layer.specs.Lent.{boardOf}
-use Rattle.pricer.specs.Pricer.Laws.{stepped-not, stepped-on}
-use Rattle.pricer.proofs.advance.Statement.{statement}
-use Rattle.pricer.proofs.advance.Tie as tie
+use Rattle.paths.specs.Paths.Laws.{stepped-not, stepped-on}
+use Rattle.paths.proofs.advance.Statement.{statement}
+use Rattle.paths.proofs.advance.Tie as tie
 
 -- the Board that is lent
 abbrev board : tie.Start → Board

@@ -1,4 +1,4 @@
--- `pricer::path_fits` meets its contract: the entries before k are centre actions. Assumes nothing.
+-- `paths::path_fits` meets its contract: the entries before k are centre actions. Assumes nothing.
 use Prim.Native.Nat.{_≤_, _-_}
 use mathlib.Core.Path.{_≡_, refl}
 use mathlib.Core.Bool.{true}
@@ -8,10 +8,10 @@ use borrow.Author.Needs.{needs}
 use borrow.Author.Tests.{lt-ltb, eq-eqb}
 use Rattle.loops.specs.Count.{all}
 use Rattle.loops.specs.Count.Laws.{and-in, all-more}
-use Rattle.pricer.specs.Pricer.{entryBy}
-use Rattle.pricer.specs.Pricer.Laws.{fits-long, fits-high, fits-leaf, fits-all}
-use Rattle.pricer.proofs.path_fits.Statement.{statement}
-use Rattle.pricer.proofs.path_fits.Tie as tie
+use Rattle.paths.specs.Paths.{entryBy}
+use Rattle.paths.specs.Paths.Laws.{fits-long, fits-high, fits-leaf, fits-all}
+use Rattle.paths.proofs.path_fits.Statement.{statement}
+use Rattle.paths.proofs.path_fits.Tie as tie
 
 abbrev Inv-loop : tie.InvT-loop
 Inv-loop path kinds actions k₀ k-end k = (k ≤ length path) × (k-end ≡ length path) × (length path ≤ 4095) × (all k (entryBy actions kinds path) ≡ true)

@@ -1,4 +1,4 @@
--- `pricer::walk_path` meets its contract: what is left of the path goes from the layer where the whole goes from the first. Assumes nothing.
+-- `paths::walk_path` meets its contract: what is left of the path goes from the layer where the whole goes from the first. Assumes nothing.
 use Prim.Native.Nat.{_≤_, _-_}
 use mathlib.Core.Path.{_≡_, refl, ap, sym, _∙_}
 use mathlib.Core.Bool.{false}
@@ -14,9 +14,9 @@ use Rattle.layer.specs.Board.{Board, Fits, Sound}
 use Rattle.layer.specs.Lent.{boardOf}
 use Rattle.tables.specs.Fit.{start-in, tables-fit}
 use Rattle.price.specs.Path.{firstLayer, walk}
-use Rattle.pricer.specs.Pricer.Laws.{AlongBy, front, walk-first, walk-end, along-more, along-stuck}
-use Rattle.pricer.proofs.walk_path.Statement.{statement}
-use Rattle.pricer.proofs.walk_path.Tie as tie
+use Rattle.paths.specs.Paths.Laws.{AlongBy, front, walk-first, walk-end, along-more, along-stuck}
+use Rattle.paths.proofs.walk_path.Statement.{statement}
+use Rattle.paths.proofs.walk_path.Tie as tie
 
 abbrev Inv-loop : tie.InvT-loop
 Inv-loop bases moves costs kinds starts path layer₀ leaves actions factors conditions effects spot₀ k₀ k-end layer spot k =

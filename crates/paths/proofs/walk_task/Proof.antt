@@ -1,11 +1,11 @@
--- `pricer::walk_task` meets its contract: the tables are the task's. Assumes nothing.
+-- `paths::walk_task` meets its contract: the tables are the task's. Assumes nothing.
 use mathlib.Core.Path.{_≡_}
 use native.Mathlib.Omega.{arith}
 use lib.ListN.{length}
 use borrow.Author.Needs.{needs}
 use Rattle.tables.specs.Fit.{moves-fit}
-use Rattle.pricer.proofs.walk_task.Statement.{statement}
-use Rattle.pricer.proofs.walk_task.Tie as tie
+use Rattle.paths.proofs.walk_task.Statement.{statement}
+use Rattle.paths.proofs.walk_task.Tie as tie
 
 slice-aggregate-fill-moves : tie.Need-slice-aggregate-fill-moves
 slice-aggregate-fill-moves c = search needs
