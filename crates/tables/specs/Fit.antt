@@ -21,8 +21,9 @@ use Rattle.task.specs.Star.{leaf-not-centre, leaf-one, to-in, number-lt}
 use Rattle.layer.specs.Layer.{base}
 use Rattle.layer.specs.Board.{Board, Sound, Fits, statesOn}
 use Rattle.layer.specs.Board.Laws.{states-on}
-use Rattle.tables.specs.Moves.{Small, toWith}
-use Rattle.tables.specs.Tables.{entriesFrom, startOf, Row, KindIs, Bases, Starts, Costs, Kinds, Moves, Goals}
+use Rattle.digits.specs.Moves.{Small, toWith}
+use Rattle.digits.specs.Digits.{entriesFrom, startOf, Row}
+use Rattle.tables.specs.Tables.{KindIs, Bases, Starts, Costs, Kinds, Moves, Goals}
 
 -- ---- kinds
 

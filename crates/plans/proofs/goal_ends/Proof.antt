@@ -6,7 +6,7 @@ use native.Mathlib.Omega.{arith}
 use lib.ListN.{length, getD, length-set}
 use borrow.Author.Needs.{needs}
 use Rattle.layer.specs.Board.Turns.{part-length}
-use Rattle.tables.specs.Tables.{Filled}
+use Rattle.digits.specs.Digits.{Filled}
 use Rattle.tables.specs.Tables.Laws.{filled-more}
 use Rattle.rows.specs.Scan.Laws.{cut-in}
 use Rattle.plans.specs.Walk.{goalOn}

@@ -7,7 +7,7 @@ use native.Mathlib.Decide.{ℕ-discrete}
 use native.Mathlib.Omega.{arith}
 use lib.ListN.{length, getD, set, length-set, length-append, length-reverse}
 use lib.Seq.{getD-set-same, getD-set-other}
-use Rattle.tables.specs.Tables.{Filled}
+use Rattle.digits.specs.Digits.{Filled}
 use Rattle.tables.specs.Tables.Laws.{filled-more}
 use Rattle.search.specs.Plan.{Back}
 use Rattle.search.specs.Plan.Laid.{put, laid, laid-append}

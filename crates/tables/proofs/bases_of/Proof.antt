@@ -7,8 +7,9 @@ use native.Mathlib.Omega.{arith}
 use lib.ListN.{length, length-set}
 use borrow.Author.Needs.{needs}
 use Rattle.loops.specs.Count.{sum}
-use Rattle.tables.specs.Tables.{entries, Filled, startOf}
-use Rattle.tables.specs.Tables.Laws.{filled-more, start-capped, start-few}
+use Rattle.digits.specs.Digits.{entries, Filled, startOf}
+use Rattle.digits.specs.Digits.Laws.{start-capped, start-few}
+use Rattle.tables.specs.Tables.Laws.{filled-more}
 use Rattle.tables.proofs.bases_of.Statement.{statement}
 use Rattle.tables.proofs.bases_of.Tie as tie
 

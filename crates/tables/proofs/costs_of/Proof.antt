@@ -6,7 +6,7 @@ use native.Mathlib.Omega.{arith}
 use lib.ListN.{length, getD, length-set}
 use borrow.Author.Needs.{needs}
 use Rattle.drive.specs.Drive.{driveTime}
-use Rattle.tables.specs.Tables.{Filled}
+use Rattle.digits.specs.Digits.{Filled}
 use Rattle.tables.specs.Tables.Laws.{filled-more}
 use Rattle.tables.proofs.costs_of.Statement.{statement}
 use Rattle.tables.proofs.costs_of.Tie as tie

@@ -5,8 +5,8 @@ use lib.ListN.{length}
 use borrow.Author.Needs.{needs}
 use Rattle.task.specs.Factors.{number, states, allStates, valuesOf, meetsIn, to}
 use Rattle.layer.specs.Layer.{base}
-use Rattle.tables.specs.Moves.{toWith}
-use Rattle.tables.specs.Tables.{startOf}
+use Rattle.digits.specs.Moves.{toWith}
+use Rattle.digits.specs.Digits.{startOf}
 use Rattle.tables.specs.Fit.{small-is}
 use Rattle.tables.proofs.fill_moves.Statement.{statement}
 use Rattle.tables.proofs.fill_moves.Tie as tie

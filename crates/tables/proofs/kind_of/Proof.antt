@@ -10,7 +10,7 @@ use Rattle.loops.specs.Count.Laws.{told}
 use Rattle.loops.specs.Count.{any}
 use Rattle.task.specs.Factors.{leafPairs}
 use Rattle.whole.specs.Whole.Laws.{star-more, star-none}
-use Rattle.tables.specs.Tables.{entries, entriesFrom}
+use Rattle.digits.specs.Digits.{entries, entriesFrom}
 use Rattle.tables.specs.Tables.Laws.{kind-centre, kind-leaf}
 use Rattle.tables.proofs.kind_of.Statement.{statement}
 use Rattle.tables.proofs.kind_of.Tie as tie

@@ -6,7 +6,8 @@ use native.Mathlib.Nat.{le-antisymm, not-suc-le-zero}
 use native.Mathlib.Omega.{arith}
 use lib.ListN.{length, length-set}
 use borrow.Author.Needs.{needs}
-use Rattle.tables.specs.Tables.{entries, entriesFrom, Each, KindIs}
+use Rattle.digits.specs.Digits.{entries, entriesFrom, Each}
+use Rattle.tables.specs.Tables.{KindIs}
 use Rattle.tables.specs.Tables.Laws.{each-more}
 use Rattle.tables.proofs.kinds_of.Statement.{statement}
 use Rattle.tables.proofs.kinds_of.Tie as tie

@@ -5,7 +5,7 @@ use lib.ListN.{length}
 use borrow.Author.Needs.{needs}
 use Rattle.task.specs.Factors.{states}
 use Rattle.layer.specs.Layer.{base}
-use Rattle.tables.specs.Tables.{startOf}
+use Rattle.digits.specs.Digits.{startOf}
 use Rattle.tables.proofs.leaf_bases.Statement.{statement}
 use Rattle.tables.proofs.leaf_bases.Tie as tie
 

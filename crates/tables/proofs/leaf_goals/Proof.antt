@@ -6,7 +6,7 @@ use lib.ListN.{length}
 use borrow.Author.Needs.{needs}
 use Rattle.task.specs.Factors.{states, allStates}
 use Rattle.layer.specs.Layer.{base}
-use Rattle.tables.specs.Tables.{startOf}
+use Rattle.digits.specs.Digits.{startOf}
 use Rattle.tables.specs.Fit.{still-small, goals-are}
 use Rattle.tables.proofs.leaf_goals.Statement.{statement}
 use Rattle.tables.proofs.leaf_goals.Tie as tie

@@ -7,7 +7,7 @@ use native.Mathlib.Omega.{arith}
 use borrow.Author.Needs.{needs}
 use Rattle.loops.specs.Count.Laws.{told}
 use Rattle.task.specs.Factors.{numberTo}
-use Rattle.tables.specs.Tables.{entries}
+use Rattle.digits.specs.Digits.{entries}
 use Rattle.tables.specs.Tables.Laws.{number-on, number-by, number-fits}
 use Rattle.tables.proofs.number_of.Statement.{statement}
 use Rattle.tables.proofs.number_of.Tie as tie

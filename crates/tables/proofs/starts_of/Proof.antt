@@ -7,7 +7,7 @@ use native.Mathlib.Omega.{arith}
 use lib.ListN.{length, length-set}
 use borrow.Author.Needs.{needs}
 use Rattle.task.specs.Factors.{numberTo}
-use Rattle.tables.specs.Tables.{entries, Filled}
+use Rattle.digits.specs.Digits.{entries, Filled}
 use Rattle.tables.specs.Tables.Laws.{filled-more}
 use Rattle.tables.proofs.starts_of.Statement.{statement}
 use Rattle.tables.proofs.starts_of.Tie as tie

@@ -1,14 +1,14 @@
--- `tables::grow` meets its contract. The invariant: the states from x on have a digit more, and those below x wait in their places. Assumes nothing.
+-- `digits::grow` meets its contract. The invariant: the states from x on have a digit more, and those below x wait in their places. Assumes nothing.
 use mathlib.Core.Path.{_≡_, refl, _∙_}
 use Prim.Native.Nat.{_+_, _-_, _*_, _≤_}
 use native.Mathlib.Nat.{mul-le-mul-right}
 use native.Mathlib.Omega.{arith}
 use lib.ListN.{length, getD}
 use borrow.Author.Needs.{needs}
-use Rattle.tables.specs.Tables.{Same, Growing}
-use Rattle.tables.specs.Tables.Laws.{digit-room, outside, growing-none, growing-more}
-use Rattle.tables.proofs.grow.Statement.{statement}
-use Rattle.tables.proofs.grow.Tie as tie
+use Rattle.digits.specs.Digits.{Same, Growing}
+use Rattle.digits.specs.Digits.Laws.{digit-room, outside, growing-none, growing-more}
+use Rattle.digits.proofs.grow.Statement.{statement}
+use Rattle.digits.proofs.grow.Tie as tie
 
 abbrev Inv-loop : tie.InvT-loop
 Inv-loop states size condition effect from moves₀ x₀ moves x =

@@ -1,4 +1,4 @@
--- `tables::fill_leaf` meets its contract. The invariant: what the action makes of each state by the variables so far stands in the entries from `from` on,
+-- `digits::fill_leaf` meets its contract. The invariant: what the action makes of each state by the variables so far stands in the entries from `from` on,
 -- and all others of the list are as they were. Assumes nothing.
 use mathlib.Core.Path.{_≡_, refl, _∙_}
 use Prim.Native.Nat.{_+_, _-_, _≤_, _<_}
@@ -7,11 +7,11 @@ use native.Mathlib.Omega.{arith}
 use lib.ListN.{length, length-set}
 use borrow.Author.Needs.{needs}
 use Rattle.task.specs.Factors.{statesTo}
-use Rattle.tables.specs.Moves.Laws.{some-states}
-use Rattle.tables.specs.Tables.{entries, entriesFrom, Same, Partly}
-use Rattle.tables.specs.Tables.Laws.{same-set, partly-none}
-use Rattle.tables.proofs.fill_leaf.Statement.{statement}
-use Rattle.tables.proofs.fill_leaf.Tie as tie
+use Rattle.digits.specs.Moves.Laws.{some-states}
+use Rattle.digits.specs.Digits.{entries, entriesFrom, Same, Partly}
+use Rattle.digits.specs.Digits.Laws.{same-set, partly-none}
+use Rattle.digits.proofs.fill_leaf.Statement.{statement}
+use Rattle.digits.proofs.fill_leaf.Tie as tie
 
 abbrev Inv-loop : tie.InvT-loop
 Inv-loop sizes factors conditions effects variables at leaf from moves₀ states₀ v₀ moves states v =

@@ -1,7 +1,7 @@
 -- Each return computes, with the test that led there. Assumes nothing.
 use borrow.Author.Tests.{eq-eqb, ne-eqb}
-use Rattle.tables.proofs.holds.Statement.{statement}
-use Rattle.tables.proofs.holds.Tie as tie
+use Rattle.digits.proofs.holds.Statement.{statement}
+use Rattle.digits.proofs.holds.Tie as tie
 
 returns : tie.Need-returns
 returns c = rw (eq-eqb (c .before .args .condition) 16 (c .if1 .taken))

@@ -1,14 +1,14 @@
--- `tables::digit_move` meets its contract: each return computes, with the tests that led there, and the number is small. Assumes nothing.
+-- `digits::digit_move` meets its contract: each return computes, with the tests that led there, and the number is small. Assumes nothing.
 use mathlib.Core.Path.{_≡_}
 use Prim.Native.Nat.{_+_, _-_, _*_, _<_}
 use native.Mathlib.Omega.{arith}
 use borrow.Author.Needs.{needs}
 use borrow.Author.Tests.{eq-eqb, ne-eqb}
 use Rattle.loops.specs.Count.Laws.{told-true, told-false}
-use Rattle.tables.specs.Moves.{valueAfter, digitMove}
-use Rattle.tables.specs.Moves.Laws.{digit-fits}
-use Rattle.tables.proofs.digit_move.Statement.{statement}
-use Rattle.tables.proofs.digit_move.Tie as tie
+use Rattle.digits.specs.Moves.{valueAfter, digitMove}
+use Rattle.digits.specs.Moves.Laws.{digit-fits}
+use Rattle.digits.proofs.digit_move.Statement.{statement}
+use Rattle.digits.proofs.digit_move.Tie as tie
 
 -- where k is not 0, the number is small
 fits : (s : tie.Start) → (s .args .k ≡ 0 → ⊥) → (s .args .k - 1) * s .args .size + valueAfter (s .args .effect) (s .args .digit) < 256

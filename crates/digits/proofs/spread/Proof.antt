@@ -1,4 +1,4 @@
--- `tables::spread` meets its contract. The invariant: the first entries from `from` on are what the action makes of the state with each value so
+-- `digits::spread` meets its contract. The invariant: the first entries from `from` on are what the action makes of the state with each value so
 -- far, and all others of the list are as they were. Assumes nothing.
 use mathlib.Core.Path.{_≡_}
 use Prim.Native.Nat.{_+_, _-_, _≤_}
@@ -6,11 +6,11 @@ use native.Mathlib.Nat.{le-antisymm}
 use native.Mathlib.Omega.{arith}
 use lib.ListN.{length, length-set}
 use borrow.Author.Needs.{needs}
-use Rattle.tables.specs.Moves.{digitMove}
-use Rattle.tables.specs.Tables.{Placed, Same}
-use Rattle.tables.specs.Tables.Laws.{placed-more, same-set}
-use Rattle.tables.proofs.spread.Statement.{statement}
-use Rattle.tables.proofs.spread.Tie as tie
+use Rattle.digits.specs.Moves.{digitMove}
+use Rattle.digits.specs.Digits.{Placed, Same}
+use Rattle.digits.specs.Digits.Laws.{placed-more, same-set}
+use Rattle.digits.proofs.spread.Statement.{statement}
+use Rattle.digits.proofs.spread.Tie as tie
 
 abbrev Inv-loop : tie.InvT-loop
 Inv-loop k size condition effect from moves₀ digit₀ moves digit =

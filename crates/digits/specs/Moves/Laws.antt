@@ -16,7 +16,7 @@ use Rattle.task.specs.Factors.{numberTo, statesTo, digitTo, holdsIn, gate, numb
 use Rattle.task.specs.Valid.{PairIn}
 use Rattle.task.specs.Pairs.{holds-ext}
 use Rattle.task.specs.Radix.{num-lt, num-ext, dig-lt}
-use Rattle.tables.specs.Moves.{toWith, valueAfter, digitMove, Small}
+use Rattle.digits.specs.Moves.{toWith, valueAfter, digitMove, Small}
 
 -- ---- the definition on a task
 

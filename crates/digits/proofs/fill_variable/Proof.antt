@@ -1,4 +1,4 @@
--- `tables::fill_variable` meets its contract: at a variable of the leaf each state has a digit more, and any other changes nothing. Assumes nothing.
+-- `digits::fill_variable` meets its contract: at a variable of the leaf each state has a digit more, and any other changes nothing. Assumes nothing.
 use mathlib.Core.Path.{_≡_, refl}
 use mathlib.Core.Bool.{true}
 use Prim.Native.Nat.{ℕ, _+_, _*_, _≤_, _<_}
@@ -8,10 +8,10 @@ use lib.ListN.{getD}
 use borrow.Author.Needs.{needs}
 use Rattle.loops.specs.Count.Laws.{told-true, told-false}
 use Rattle.task.specs.Factors.{statesTo}
-use Rattle.tables.specs.Tables.{entries}
-use Rattle.tables.specs.Tables.Laws.{outside, partly-leaf, partly-other, partly-room}
-use Rattle.tables.proofs.fill_variable.Statement.{statement}
-use Rattle.tables.proofs.fill_variable.Tie as tie
+use Rattle.digits.specs.Digits.{entries}
+use Rattle.digits.specs.Digits.Laws.{outside, partly-leaf, partly-other, partly-room}
+use Rattle.digits.proofs.fill_variable.Statement.{statement}
+use Rattle.digits.proofs.fill_variable.Tie as tie
 
 -- the room of the states with a digit more
 room : (s : tie.Start) →

@@ -1,4 +1,4 @@
--- `tables::fill_rows` meets its contract. The invariant: the actions so far have their rows, the next row begins at `from`, and all other
+-- `digits::fill_rows` meets its contract. The invariant: the actions so far have their rows, the next row begins at `from`, and all other
 -- entries of the list are as they were. Assumes nothing.
 use mathlib.Core.Path.{_≡_, refl, sym, _∙_}
 use Prim.Native.Nat.{ℕ, _-_, _*_, _≤_}
@@ -6,10 +6,10 @@ use native.Mathlib.Nat.{le-antisymm, not-suc-le-zero, zero-mul}
 use native.Mathlib.Omega.{arith}
 use lib.ListN.{length}
 use borrow.Author.Needs.{needs}
-use Rattle.tables.specs.Tables.{entries, entriesFrom, Same, Rows, startOf}
-use Rattle.tables.specs.Tables.Laws.{row-inside, row-next, rows-more, rows-same}
-use Rattle.tables.proofs.fill_rows.Statement.{statement}
-use Rattle.tables.proofs.fill_rows.Tie as tie
+use Rattle.digits.specs.Digits.{entries, entriesFrom, Same, Rows, startOf}
+use Rattle.digits.specs.Digits.Laws.{row-inside, row-next, rows-more, rows-same}
+use Rattle.digits.proofs.fill_rows.Statement.{statement}
+use Rattle.digits.proofs.fill_rows.Tie as tie
 
 abbrev Inv-loop : tie.InvT-loop
 Inv-loop sizes factors conditions effects bases variables leaves actions moves₀ row from₀ a₀ moves from a =

@@ -1,4 +1,4 @@
--- `tables::fill_action` meets its contract. The invariant: the leaves so far have what the action makes of their states, each behind the other,
+-- `digits::fill_action` meets its contract. The invariant: the leaves so far have what the action makes of their states, each behind the other,
 -- and all other entries of the list are as they were. Assumes nothing.
 use mathlib.Core.Path.{_≡_, refl, _∙_}
 use Prim.Native.Nat.{suc, _+_, _-_, _≤_}
@@ -8,10 +8,10 @@ use native.Mathlib.Omega.{arith}
 use lib.ListN.{length, getD}
 use borrow.Author.Needs.{needs}
 use Rattle.task.specs.Factors.{statesTo}
-use Rattle.tables.specs.Tables.{entries, entriesFrom, Same, Row, startOf}
-use Rattle.tables.specs.Tables.Laws.{start-before, row-more, row-same}
-use Rattle.tables.proofs.fill_action.Statement.{statement}
-use Rattle.tables.proofs.fill_action.Tie as tie
+use Rattle.digits.specs.Digits.{entries, entriesFrom, Same, Row, startOf}
+use Rattle.digits.specs.Digits.Laws.{start-before, row-more, row-same}
+use Rattle.digits.proofs.fill_action.Statement.{statement}
+use Rattle.digits.proofs.fill_action.Tie as tie
 
 abbrev Inv-loop : tie.InvT-loop
 Inv-loop sizes factors conditions effects bases variables leaves at from moves₀ i₀ moves i =
