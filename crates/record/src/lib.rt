@@ -2,11 +2,11 @@
 use fields::Refusal;
 use fields::at_end;
 use fields::bits;
+use lists::read_actions;
+use lists::read_list;
 use parts::HeadRead;
 use parts::Place;
-use parts::read_actions;
 use parts::read_head;
-use parts::read_list;
 use parts::read_variables;
 use task::FREE;
 use task::Task;

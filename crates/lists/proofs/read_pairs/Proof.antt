@@ -1,4 +1,4 @@
--- `parts::read_pairs` meets its contract. The loop's invariant: what is left to read, from here, gives what the whole list gives. Assumes nothing.
+-- `lists::read_pairs` meets its contract. The loop's invariant: what is left to read, from here, gives what the whole list gives. Assumes nothing.
 use Prim.Native.Nat.{ℕ, _+_, _-_, _*_, _≤_}
 use mathlib.Core.Path.{_≡_, refl, sym, ap, _∙_}
 use mathlib.Core.List.{List}
@@ -11,11 +11,11 @@ use Rattle.loops.specs.Parsed.{turns, got}
 use Rattle.loops.specs.Parsed.Laws.{turns-end, turns-on, turns-stop}
 use Rattle.fields.specs.Fields.{nextField}
 use Rattle.fields.specs.Answers.{Reading}
 use Rattle.parts.specs.Grammar.{Pairs, pairOf, pairTurn, pairsFrom}
 use Rattle.parts.specs.Places.{pair-place}
-use Rattle.parts.specs.Told.{pairTold}
-use Rattle.parts.proofs.read_pairs.Statement.{statement}
-use Rattle.parts.proofs.read_pairs.Tie as tie
+use Rattle.lists.specs.Told.{pairTold}
+use Rattle.lists.proofs.read_pairs.Statement.{statement}
+use Rattle.lists.proofs.read_pairs.Tie as tie
 
 -- n turns more, the next of them the i-th
 abbrev rest : List ℕ → List ℕ → ℕ → ℕ → ℕ → ℕ → List ℕ → ℕ → ℕ → Reading Pairs

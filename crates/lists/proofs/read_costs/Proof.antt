@@ -1,4 +1,4 @@
--- `parts::read_costs` meets its contract: each return is the grammar's answer, by what the fields before it read. Assumes nothing.
+-- `lists::read_costs` meets its contract: each return is the grammar's answer, by what the fields before it read. Assumes nothing.
 use mathlib.Core.Path.{_≡_, ap, _∙_}
 use borrow.Author.Needs.{needs}
 use native.Mathlib.Omega.{arith}
@@ -7,9 +7,9 @@ use Rattle.loops.specs.Parsed.{got}
 use Rattle.fields.specs.Fields.{nextField, HANDLING, DISTANCE}
 use Rattle.fields.specs.Fields.Laws.{next-is}
 use Rattle.fields.specs.Answers.{fieldTold}
 use Rattle.parts.specs.Grammar.{costsOf}
-use Rattle.parts.proofs.read_costs.Statement.{statement}
-use Rattle.parts.proofs.read_costs.Tie as tie
+use Rattle.lists.proofs.read_costs.Statement.{statement}
+use Rattle.lists.proofs.read_costs.Tie as tie
 
 -- places: the start, and after the first field
 abbrev start : tie.After-known-told → tie.Start

@@ -1,4 +1,4 @@
--- `parts::read_pair` meets its contract: each return is the grammar's answer, by what the fields before it read and the tests that led
+-- `lists::read_pair` meets its contract: each return is the grammar's answer, by what the fields before it read and the tests that led
 -- there. Assumes nothing.
 use mathlib.Core.Path.{_≡_, ap, _∙_}
 use borrow.Author.Needs.{needs}
@@ -10,9 +10,9 @@ use Rattle.loops.specs.Parsed.{got}
 use Rattle.fields.specs.Fields.{nextField, VARIABLE, VALUE}
 use Rattle.fields.specs.Fields.Laws.{next-is}
 use Rattle.fields.specs.Answers.{fieldTold}
 use Rattle.parts.specs.Grammar.{pairOf}
-use Rattle.parts.proofs.read_pair.Statement.{statement}
-use Rattle.parts.proofs.read_pair.Tie as tie
+use Rattle.lists.proofs.read_pair.Statement.{statement}
+use Rattle.lists.proofs.read_pair.Tie as tie
 
 -- places: the start, after the variable is read, after its two tests
 abbrev start : tie.After-known-told → tie.Start

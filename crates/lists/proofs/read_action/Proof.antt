@@ -1,4 +1,4 @@
--- `parts::read_action` meets its contract: each return is the grammar's answer, by the parts read before it. Assumes nothing.
+-- `lists::read_action` meets its contract: each return is the grammar's answer, by the parts read before it. Assumes nothing.
 use Prim.Native.Nat.{ℕ, _+_, _*_, _≤_}
 use mathlib.Core.Path.{_≡_, ap, _∙_}
 use mathlib.Core.List.{List}
@@ -7,11 +7,12 @@ use native.Mathlib.Omega.{arith}
 use denote.Ref.{now}
 use Rattle.loops.specs.Parsed.{got}
 use Rattle.fields.specs.Fields.{nextField}
 use Rattle.parts.specs.Grammar.{Costs, Actions, putAction, costsOf, countedPairs, actionOf}
 use Rattle.parts.specs.Places.{costs-place, told-then}
-use Rattle.parts.specs.Told.{costsTold, placeTold, placeOf}
-use Rattle.parts.proofs.read_action.Statement.{statement}
-use Rattle.parts.proofs.read_action.Tie as tie
+use Rattle.parts.specs.Told.{placeTold, placeOf}
+use Rattle.lists.specs.Told.{costsTold}
+use Rattle.lists.proofs.read_action.Statement.{statement}
+use Rattle.lists.proofs.read_action.Tie as tie
 
 -- places: the start, after the costs and after the conditions are read
 abbrev start : tie.After-known-told → tie.Start

@@ -1,4 +1,4 @@
--- `parts::read_list` meets its contract: the number of pairs is read, and then the pairs, as the grammar says. Assumes nothing.
+-- `lists::read_list` meets its contract: the number of pairs is read, and then the pairs, as the grammar says. Assumes nothing.
 use mathlib.Core.Path.{_≡_, ap, _∙_}
 use borrow.Author.Needs.{needs}
 use native.Mathlib.Omega.{arith}
@@ -7,9 +7,9 @@ use Rattle.loops.specs.Parsed.{got}
 use Rattle.fields.specs.Fields.{nextField, PAIRS}
 use Rattle.fields.specs.Fields.Laws.{next-is}
 use Rattle.fields.specs.Answers.{fieldTold}
 use Rattle.parts.specs.Grammar.{countedPairs}
-use Rattle.parts.proofs.read_list.Statement.{statement}
-use Rattle.parts.proofs.read_list.Tie as tie
+use Rattle.lists.proofs.read_list.Statement.{statement}
+use Rattle.lists.proofs.read_list.Tie as tie
 
 -- the start, seen from where the number of pairs has been read
 abbrev start : tie.After-known-told → tie.Start

@@ -1,4 +1,4 @@
--- `parts::read_actions` meets its contract. The loop's invariant: what is left to read, from here, gives what all actions give. Assumes
+-- `lists::read_actions` meets its contract. The loop's invariant: what is left to read, from here, gives what all actions give. Assumes
 -- nothing.
 use Prim.Native.Nat.{_+_, _-_, _*_, _≤_}
 use mathlib.Core.Path.{_≡_, sym, ap, _∙_}
@@ -10,10 +10,10 @@ use denote.Ref.{now}
 use Rattle.loops.specs.Parsed.{got}
 use Rattle.loops.specs.Parsed.Laws.{turns-end, turns-on, turns-stop}
 use Rattle.fields.specs.Fields.{nextField}
 use Rattle.parts.specs.Grammar.{Actions, actionOf, actionsFrom}
 use Rattle.parts.specs.Told.{placeTold, placeOf}
-use Rattle.parts.proofs.read_actions.Statement.{statement}
-use Rattle.parts.proofs.read_actions.Tie as tie
+use Rattle.lists.proofs.read_actions.Statement.{statement}
+use Rattle.lists.proofs.read_actions.Tie as tie
 
 abbrev Inv-loop : tie.InvT-loop
 Inv-loop rec sizes n count at handling₀ distance₀ conditions₀ effects₀ k₀ i₀ handling distance conditions effects k i =
