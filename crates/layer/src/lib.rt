@@ -2,7 +2,7 @@
 use leaf::fill;
 use leaf::pass;
 use leaf::passes;
-use leaf::settle;
+use settle::settle;
 use task::Centre;
 use task::FREE;
 ghost use mathlib.Core.Path.{_≡_};

@@ -1,4 +1,4 @@
--- `leaf::relax_from` meets its contract. The invariant: the first j actions have lowered the prices, and what fell is told. No price is
+-- `settle::relax_from` meets its contract. The invariant: the first j actions have lowered the prices, and what fell is told. No price is
 -- above the mark, so a sum capped at the mark lowers as the sum itself does. Assumes nothing.
 use mathlib.Core.Path.{_≡_, refl, _∙_}
 use Prim.Native.Nat.{ℕ, _+_, _-_, _≤_, min}
@@ -6,13 +6,13 @@ use native.Mathlib.Nat.{le-antisymm}
 use native.Mathlib.Omega.{arith}
 use lib.ListN.{length, getD}
 use borrow.Author.Needs.{needs}
 use Rattle.leaf.specs.Price.{mark}
 use Rattle.leaf.specs.Settle.{relax}
 use Rattle.leaf.specs.Settle.Turns.{at-any, relax-more}
 use Rattle.leaf.specs.Settle.Sweeps.{Fell, fell-none, fell-join}
 use Rattle.leaf.specs.Lent.{costBy, moveBy}
-use Rattle.leaf.proofs.relax_from.Statement.{statement}
-use Rattle.leaf.proofs.relax_from.Tie as tie
+use Rattle.settle.proofs.relax_from.Statement.{statement}
+use Rattle.settle.proofs.relax_from.Tie as tie
 
 abbrev Inv-loop : tie.InvT-loop
 Inv-loop prices₀ dirty₀ moves row at costs acts count x d fell₀ j₀ prices dirty fell j =

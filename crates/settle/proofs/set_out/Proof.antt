@@ -1,13 +1,13 @@
--- `leaf::set_out` meets its contract. The state is not reached, or its actions lower prices. Assumes nothing.
+-- `settle::set_out` meets its contract. The state is not reached, or its actions lower prices. Assumes nothing.
 use mathlib.Core.Path.{_≡_, refl, _∙_}
 use native.Mathlib.Omega.{arith}
 use lib.ListN.{length-set}
 use borrow.Author.Needs.{needs}
 use Rattle.leaf.specs.Price.{mark}
 use Rattle.leaf.specs.Settle.Turns.{at-any}
 use Rattle.leaf.specs.Settle.Sweeps.{visit-far, visit-near}
-use Rattle.leaf.proofs.set_out.Statement.{statement}
-use Rattle.leaf.proofs.set_out.Tie as tie
+use Rattle.settle.proofs.set_out.Statement.{statement}
+use Rattle.settle.proofs.set_out.Tie as tie
 
 mul-if1 : tie.Need-mul-if1
 mul-if1 c = search needs

@@ -1,4 +1,4 @@
--- `leaf::settle` meets its contract. After the first sweep no price is above its start price, each is what a walk costs, and no action leads from a
+-- `settle::settle` meets its contract. After the first sweep no price is above its start price, each is what a walk costs, and no action leads from a
 -- clean state to one at less than its price; the invariant: that stays so. The sum of the prices falls with each turn. Assumes nothing.
 use mathlib.Core.Path.{_≡_, refl, sym, _∙_}
 use mathlib.Core.List.{List}
@@ -7,13 +7,13 @@ use native.Mathlib.Omega.{arith}
 use lib.ListN.{length}
 use borrow.Author.Needs.{needs}
 use borrow.Author.Tests.{not-true}
 use Rattle.leaf.specs.Price.{mark}
 use Rattle.leaf.specs.Settle.Turns.{at-most, settled-none}
 use Rattle.leaf.specs.Settle.Walks.{Ranged, Capped}
 use Rattle.leaf.specs.Settle.Sweeps.{total, Sweeping, sweeping-start, sweeping-end}
 use Rattle.leaf.specs.Lent.{costBy, moveBy}
-use Rattle.leaf.proofs.settle.Statement.{statement}
-use Rattle.leaf.proofs.settle.Tie as tie
+use Rattle.settle.proofs.settle.Statement.{statement}
+use Rattle.settle.proofs.settle.Tie as tie
 
 abbrev Inv-loop : tie.InvT-loop
 Inv-loop prices₀ moves row at costs acts count dirty₀ prices dirty =

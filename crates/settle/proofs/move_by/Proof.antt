@@ -1,10 +1,10 @@
--- `leaf::move_by` meets its contract. An entry of a list fits a wider number. Assumes nothing.
+-- `settle::move_by` meets its contract. An entry of a list fits a wider number. Assumes nothing.
 use Prim.Native.Nat.{_+_, _*_}
 use native.Mathlib.Omega.{arith}
 use lib.ListN.{getD}
 use borrow.Author.Needs.{needs}
-use Rattle.leaf.proofs.move_by.Statement.{statement}
-use Rattle.leaf.proofs.move_by.Tie as tie
+use Rattle.settle.proofs.move_by.Statement.{statement}
+use Rattle.settle.proofs.move_by.Tie as tie
 
 shared-slice-read-a : tie.Need-shared-slice-read-a
 shared-slice-read-a c = search needs

@@ -1,10 +1,10 @@
--- `leaf::visit` meets its contract. The state is clean, or it sets out. Assumes nothing.
+-- `settle::visit` meets its contract. The state is clean, or it sets out. Assumes nothing.
 use mathlib.Core.Logic.{inl}
 use borrow.Author.Needs.{needs}
 use Rattle.leaf.specs.Price.{mark}
 use Rattle.leaf.specs.Settle.Sweeps.{visit-clean}
-use Rattle.leaf.proofs.visit.Statement.{statement}
-use Rattle.leaf.proofs.visit.Tie as tie
+use Rattle.settle.proofs.visit.Statement.{statement}
+use Rattle.settle.proofs.visit.Tie as tie
 
 slice-read-if1 : tie.Need-slice-read-if1
 slice-read-if1 c = search needs

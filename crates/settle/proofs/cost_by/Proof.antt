@@ -1,9 +1,9 @@
--- `leaf::cost_by` meets its contract. An entry of a list fits a wider number. Assumes nothing.
+-- `settle::cost_by` meets its contract. An entry of a list fits a wider number. Assumes nothing.
 use native.Mathlib.Omega.{arith}
 use lib.ListN.{getD}
 use borrow.Author.Needs.{needs}
-use Rattle.leaf.proofs.cost_by.Statement.{statement}
-use Rattle.leaf.proofs.cost_by.Tie as tie
+use Rattle.settle.proofs.cost_by.Statement.{statement}
+use Rattle.settle.proofs.cost_by.Tie as tie
 
 shared-slice-read-a : tie.Need-shared-slice-read-a
 shared-slice-read-a c = search needs
