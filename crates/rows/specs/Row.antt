@@ -1,20 +1,24 @@
--- A node's row in the lent table: 40 + S words. Words 0 to 31 hold the centre state's values, 32 the centre cost, 33 the number of the node it was
--- made from, 34 the centre action that made it, 35 to 38 the centre state's packs; 39 is not used; then the S prices, leaf 1 first.
--- A pack is eight of the 32 values in one word, so that two centre states are told apart by four words.
+-- A node's row in the lent table: 40 + S words. Word 32 holds the centre cost, 33 the number of the node it was made from, 34 the centre action that
+-- made it, 35 to 38 the centre state's packs; 0 to 31 and 39 are not used; then the S prices, leaf 1 first.
+-- A pack is eight of the 32 values in one word, the first its lowest byte, so that two centre states are told apart by four words.
 pub mod Packs
 pub mod Laws
 use mathlib.Core.Path.{_≡_}
 use mathlib.Core.Bool.{true, false}
 use mathlib.Core.List.{List, [], _∷_, _++_}
-use Prim.Native.Nat.{ℕ, zero, suc, _+_, _*_, _%_, _^_, _≤_, _<_}
+use Prim.Native.Nat.{ℕ, zero, suc, _+_, _*_, _/_, _%_, _^_, _≤_, _<_}
 use lib.ListN.{getD, take, drop}
 use Rattle.loops.specs.Count.{list}
 use Rattle.task.specs.declared.Centre.{Centre}
 use Rattle.search.specs.Node.{Node, dominates}
 
+-- value v of the centre state in a row: byte v % 8 of its pack
+abbrev pub byteIn : List ℕ → ℕ → ℕ
+byteIn row v = getD row (35 + v / 8) 0 / 2 ^ (v % 8 * 8) % 256
+
 -- the centre state in a row
 unfoldable pub spotOf : List ℕ → Centre
-spotOf row = record { values = list 32 (λ v. getD row v 0 % 256) }
+spotOf row = record { values = list 32 (byteIn row) }
 
 -- n values from value b on as the digits of one number to the base 256, the first the lowest
 unfoldable pub packTo : List ℕ → ℕ → ℕ → ℕ

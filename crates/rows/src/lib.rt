@@ -20,17 +20,22 @@ ghost use Rattle.rows.specs.Sign.Bits.{HigherAt, AtBit};
 
 // ---- prices
 
-// The least of the prices, the mark if there is none below it.
+// The least of the prices, the mark if there is none below it. The place is kept too: so the loop is compiled to fewer instructions.
 pub fn least(prices: &[u64]) -> u64
     ensures { λ r. ⌜ r ≡ leastOf (now (prices .entry)) ⌝ }
 {
     let mut low = MARK;
+    let mut place = 0;
     for k in 0..prices.len() {
         if prices[k] < low {
             low = prices[k];
+            place = k + 1;
         }
     }
-    low
+    if place == 0 {
+        return MARK;
+    }
+    prices[place - 1]
 }
 
 // The least price of a goal state.
@@ -127,27 +132,17 @@ pub fn sign_of(prices: &[u64]) -> u64
 
 // ---- rows
 
-// The centre state in a row.
+// The centre state in a row: each of its packs has eight values.
 pub fn read_spot(row: &[u64]) -> Centre
-    requires { ⌜ 32 ≤ length (now row) ⌝ }
+    requires { ⌜ 39 ≤ length (now row) ⌝ }
     ensures { λ r. ⌜ r ≡ spotOf (now (row .entry)) ⌝ }
 {
     let mut values = [0u8; 32];
     for v in 0..32 {
-        values[v] = (row[v] % 256) as u8;
+        let word = row[35 + v / 8];
+        values[v] = ((word >> (v % 8 * 8) as u32) % 256) as u8;
     }
     Centre { values }
-}
-
-// The centre state into a row.
-fn write_spot(row: &mut [u64], spot: Centre)
-    requires { ⌜ 32 ≤ length (now row) ⌝ }
-    ensures { λ _. ⌜ now (row .exit) ≡ spot .values ++ drop 32 (now (row .entry)) ⌝ }
-{
-    let values = spot.values;
-    for v in 0..32 {
-        row[v] = values[v] as u64;
-    }
 }
 
 // Eight values of a centre state from value `from` on as one word, the first its lowest byte.
@@ -166,7 +161,7 @@ fn pack(spot: Centre, from: usize) -> u64
         + values[from + 7] as u64 * 72057594037927936
 }
 
-// The four packs of a centre state into a row: nodes are told apart by them.
+// The four packs of a centre state into a row.
 fn write_packs(row: &mut [u64], spot: Centre)
     requires { ⌜ 40 ≤ length (now row) ⌝ }
     ensures { λ _. ⌜ now (row .exit) ≡ fourTo (now (row .entry)) 35 (packOf spot 0) (packOf spot 8) (packOf spot 16) (packOf spot 24) ⌝ }
@@ -190,7 +185,6 @@ pub fn write_row(
     requires { ⌜ (length (now row) ≡ 40 + states) × (states ≤ length (now prices)) ⌝ }
     ensures { λ _. ⌜ (nodeOf states (now (row .exit)) ≡ nodeWith spot paid (take states (now (prices .entry))) parent action) × Packed (now (row .exit)) ⌝ }
 {
-    write_spot(row, spot);
     write_packs(row, spot);
     row[32] = paid;
     row[33] = parent as u64;

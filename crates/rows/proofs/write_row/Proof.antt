@@ -11,9 +11,6 @@ use Rattle.rows.specs.Row.Laws.{withNumbers, node-written, packs-written
 use Rattle.rows.proofs.write_row.Statement.{statement}
 use Rattle.rows.proofs.write_row.Tie as tie
 
-write-spot-requires : tie.Need-write-spot-requires
-write-spot-requires c κs = search needs
-
 write-packs-requires : tie.Need-write-packs-requires
 write-packs-requires c κs = search needs
 
@@ -22,11 +19,11 @@ slice-write-row c = search needs
 
 -- where the function starts
 abbrev start : tie.After-write-packs → tie.Start
-start w = w .before .before .before .before .before .before .before .before
+start w = w .before .before .before .before
 
 -- the row is as long as it was
 long : (w : tie.After-write-packs) → length (w .write-packs .last .0) ≡ 40 + start w .args .states
-long w = w .write-packs .kept .0 ∙ w .before .before .before .before .write-spot .kept .0 ∙ start w .pre .0
+long w = w .write-packs .kept .0 ∙ start w .pre .0
 
 slice-write-row-2 : tie.Need-slice-write-row-2
 slice-write-row-2 c = simp length-set (omega (arith, long (c .before .before)))
@@ -62,19 +59,17 @@ returns c =
     let s = start w in
     let a = s .args in
     let wide : length (a .spot .values) ≡ 32 = search needs in
-    let small : (v : ℕ) → Fits w8 (getD (a .spot .values) v 0) = λ v. search needs in
-    let spots = w .before .before .before .before .write-spot .ensures in (
-      node-written (a .states) (a .paid) (a .parent) (a .action) (a .spot) (a .row .now) _ _ _ _ _ (a .prices .now) wide (λ v. small v .fits)
-          (s .pre .0) (s .pre .1) spots (w .write-packs .ensures) (c .before .before .copy-words .ensures),
-      packs-written (a .states) (a .paid) (a .parent) (a .action) (a .spot) (a .row .now) _ _ _ _ _ (a .prices .now) wide (λ v. small v .fits)
-          (s .pre .0) (s .pre .1) spots (w .write-packs .ensures) (c .before .before .copy-words .ensures),
+    let small : (v : ℕ) → Fits w8 (getD (a .spot .values) v 0) = λ v. search needs in (
+      node-written (a .states) (a .paid) (a .parent) (a .action) (a .spot) (a .row .now) _ _ _ _ (a .prices .now) wide (λ v. small v .fits)
+          (s .pre .0) (s .pre .1) (w .write-packs .ensures) (c .before .before .copy-words .ensures),
+      packs-written (a .states) (a .paid) (a .parent) (a .action) (a .spot) (a .row .now) _ _ _ _ (a .prices .now) wide (λ v. small v .fits)
+          (s .pre .0) (s .pre .1) (w .write-packs .ensures) (c .before .before .copy-words .ensures),
     )
 
 pub write-row-spec : {M : Type 1} → statement M
 write-row-spec =
     tie.close
     (tie.spec
-    write-spot-requires
     write-packs-requires
     slice-write-row
     slice-write-row-2

@@ -3,7 +3,7 @@ use mathlib.Core.Path.{_≡_, refl, sym, ap, ap₂, _∙_}
 use mathlib.Core.Logic.{_⊎_, inl, inr}
 use mathlib.Core.Bool.{Bool, true, false, _&&_, and-false}
 use mathlib.Core.List.{List, [], _∷_, _++_, append-assoc}
-use Prim.Native.Nat.{ℕ, zero, suc, _+_, _-_, _*_, _%_, _≤_, _<_}
+use Prim.Native.Nat.{ℕ, zero, suc, _+_, _-_, _*_, _/_, _%_, _^_, _≤_, _<_}
 use native.Mathlib.Nat.{not-suc-le-zero, suc-mul, mul-le-mul-right}
 use native.Mathlib.Omega.{arith}
 use native.Mathlib.Decide.{ℕ-discrete}
@@ -18,19 +18,21 @@ use Rattle.task.specs.Centre.{valueIn}
 use Rattle.leaf.specs.Price.{mark}
 use Rattle.leaf.specs.Settle.Turns.{at-any}
 use Rattle.search.specs.Node.{Node, dominates}
-use Rattle.rows.specs.Four.{fourTo, four-length, four-other, four-first, four-second, four-third, four-fourth}
-use Rattle.rows.specs.Row.{spotOf, nodeOf, rowIn, nodeIn, nodesIn, nodeWith, packOf, Packed, NotAbove, Above, Tested}
+use Rattle.rows.specs.Four.{fourTo, four-length, four-first, four-second, four-third, four-fourth}
+use Rattle.rows.specs.Row.{byteIn, spotOf, nodeOf, rowIn, nodeIn, nodesIn, nodeWith, packOf, Packed, NotAbove, Above, Tested}
+use Rattle.rows.specs.Row.Packs.{pack-byte}
 
 -- ---- one row
 
 -- a value of the centre state in a row
-pub spot-at : (row : List ℕ) (v : ℕ) → v < 32 → valueIn (spotOf row) v ≡ getD row v 0 % 256
+spot-at : (row : List ℕ) (v : ℕ) → v < 32 → valueIn (spotOf row) v ≡ byteIn row v
 unfolding spotOf
-spot-at row v h = list-at 32 (λ k. getD row k 0 % 256) v h
+spot-at row v h = list-at 32 (byteIn row) v h
 
 -- it is a byte
 pub spot-lt : (row : List ℕ) (v : ℕ) → v < 32 → valueIn (spotOf row) v < 256
-spot-lt row v h = omega (arith, spot-at row v h)
+spot-lt row v h =
+    let a : byteIn row v < 256 = omega arith in omega (arith, spot-at row v h)
 
 -- price k of a row is no higher than price k of a list
 abbrev pub notHigher : List ℕ → List ℕ → ℕ → Bool
@@ -105,19 +107,16 @@ module _ (S paid : ℕ) (row P : List ℕ) (c : Centre) (long : length row ≡ 4
 abbrev pub withNumbers : List ℕ → ℕ → ℕ → ℕ → List ℕ
 withNumbers W paid parent action = set (set (set W 32 paid) 33 parent) 34 action
 
--- a row that is written: the centre state's values, then its packs, then the three numbers, then the prices Q behind the first 40 words
-module _ (S paid parent action : ℕ) (c : Centre) (row U W Q X Y P : List ℕ) (wide : length (c .values) ≡ 32)
-    (small : (v : ℕ) → getD (c .values) v 0 < 256) (long : length row ≡ 40 + S) (many : S ≤ length P) (spots : U ≡ c .values ++ drop 32 row)
-    (packs : W ≡ fourTo U 35 (packOf c 0) (packOf c 8) (packOf c 16) (packOf c 24)) (copied : Q ≡ take S P ++ Y) where
+-- a row that is written: the centre state's packs, then the three numbers, then the prices Q behind the first 40 words
+module _ (S paid parent action : ℕ) (c : Centre) (row W Q X Y P : List ℕ) (wide : length (c .values) ≡ 32)
+    (small : (v : ℕ) → getD (c .values) v 0 < 256) (long : length row ≡ 40 + S) (many : S ≤ length P)
+    (packs : W ≡ fourTo row 35 (packOf c 0) (packOf c 8) (packOf c 16) (packOf c 24)) (copied : Q ≡ take S P ++ Y) where
   -- the row before the prices are copied, and its lengths
   abbrev L : List ℕ
   L = withNumbers W paid parent action
 
-  first-whole : length U ≡ 40 + S
-  first-whole = rw spots (simp (length-append, length-drop) (omega arith))
-
   whole : length W ≡ 40 + S
-  whole = ap length packs ∙ four-length U 35 (packOf c 0) (packOf c 8) (packOf c 16) (packOf c 24) ∙ first-whole
+  whole = ap length packs ∙ four-length row 35 (packOf c 0) (packOf c 8) (packOf c 16) (packOf c 24) ∙ long
 
   front : length (take 40 L) ≡ 40
   front = length-take-le 40 L (simp length-set (omega (arith, whole)))
@@ -126,24 +125,37 @@ module _ (S paid parent action : ℕ) (c : Centre) (row U W Q X Y P : List ℕ) 
   word : (v : ℕ) → v < 40 → getD (take 40 L ++ (Q ++ X)) v 0 ≡ getD L v 0
   word v h = List·getD-append (take 40 L) (Q ++ X) 0 v (rw front h) ∙ getD-take 40 L v 0 h
 
-  -- of them the first 32 are the values
-  value : (v : ℕ) → v < 32 → getD L v 0 ≡ getD (c .values) v 0
-  value v h =
-      getD-set-other (set (set W 32 paid) 33 parent) 34 v action 0 (λ e. omega arith)
+  -- a word behind the numbers
+  behind : (v : ℕ) → 35 ≤ v → v < 40 → getD (take 40 L ++ (Q ++ X)) v 0 ≡ getD (fourTo row 35 (packOf c 0) (packOf c 8) (packOf c 16) (packOf c 24)) v 0
+  behind v a b =
+      word v b
+      ∙ getD-set-other (set (set W 32 paid) 33 parent) 34 v action 0 (λ e. omega arith)
       ∙ getD-set-other (set W 32 paid) 33 v parent 0 (λ e. omega arith)
       ∙ getD-set-other W 32 v paid 0 (λ e. omega arith)
       ∙ ap (λ (xs : List ℕ). getD xs v 0) packs
-      ∙ four-other U 35 (packOf c 0) (packOf c 8) (packOf c 16) (packOf c 24) v (λ a b. omega arith)
-      ∙ rw spots (List·getD-append (c .values) (drop 32 row) 0 v (omega arith))
+
+  -- the packs stand there
+  pack-at : (q : ℕ) → q < 4 → getD (take 40 L ++ (Q ++ X)) (35 + q) 0 ≡ packOf c (q * 8)
+  pack-at zero h = behind 35 (omega arith) (omega arith) ∙ four-first row 35 _ _ _ _ (omega arith)
+  pack-at (suc zero) h = behind 36 (omega arith) (omega arith) ∙ four-second row 35 _ _ _ _ (omega arith)
+  pack-at (suc (suc zero)) h = behind 37 (omega arith) (omega arith) ∙ four-third row 35 _ _ _ _ (omega arith)
+  pack-at (suc (suc (suc zero))) h = behind 38 (omega arith) (omega arith) ∙ four-fourth row 35 _ _ _ _ (omega arith)
+  pack-at (suc (suc (suc (suc q)))) h = absurd (omega arith)
+
+  -- their bytes are the values
+  byte-is : (v : ℕ) → v < 32 → byteIn (take 40 L ++ (Q ++ X)) v ≡ getD (c .values) v 0
+  byte-is v h =
+      let e : v / 8 * 8 + v % 8 ≡ v = omega arith in
+      ap (λ (x : ℕ). x / 2 ^ (v % 8 * 8) % 256) (pack-at (v / 8) (omega arith))
+      ∙ pack-byte (c .values) (λ k _. small k) (v / 8 * 8) (v % 8) 8 (omega arith) (omega arith) ∙ ap (λ (k : ℕ). getD (c .values) k 0) e
 
   -- the centre state
   spot-is : spotOf (take 40 L ++ (Q ++ X)) ≡ c
   unfolding spotOf
   spot-is =
       ap {B = Centre} (λ xs. record { values = xs }) (
-      ext-getD 0 (list 32 (λ v. getD (take 40 L ++ (Q ++ X)) v 0 % 256)) (c .values) (list-length 32 _ ∙ sym wide)
-      (λ v h. let l : v < 32 = omega (arith, list-length 32 (λ k. getD (take 40 L ++ (Q ++ X)) k 0 % 256)) in
-      list-at 32 _ v l ∙ ap (λ (x : ℕ). x % 256) (word v (omega arith) ∙ value v l) ∙ omega (arith, small v)))
+      ext-getD 0 (list 32 (byteIn (take 40 L ++ (Q ++ X)))) (c .values) (list-length 32 _ ∙ sym wide)
+      (λ v h. let l : v < 32 = omega (arith, list-length 32 (byteIn (take 40 L ++ (Q ++ X)))) in list-at 32 _ v l ∙ byte-is v l))
 
   -- the prices
   prices-are : take S (drop 40 (take 40 L ++ (Q ++ X))) ≡ take S P
@@ -170,28 +182,16 @@ module _ (S paid parent action : ℕ) (c : Centre) (row U W Q X Y P : List ℕ) 
   unfolding nodeOf
   node-written = cc (spot-is, prices-are, paid-is, parent-is, action-is)
 
-  -- a word behind the numbers
-  behind : (v : ℕ) → 35 ≤ v → v < 40 → getD (take 40 L ++ (Q ++ X)) v 0 ≡ getD (fourTo U 35 (packOf c 0) (packOf c 8) (packOf c 16) (packOf c 24)) v 0
-  behind v a b =
-      word v b
-      ∙ getD-set-other (set (set W 32 paid) 33 parent) 34 v action 0 (λ e. omega arith)
-      ∙ getD-set-other (set W 32 paid) 33 v parent 0 (λ e. omega arith)
-      ∙ getD-set-other W 32 v paid 0 (λ e. omega arith)
-      ∙ ap (λ (xs : List ℕ). getD xs v 0) packs
-
   -- the row has the packs
   pub packs-written : Packed (take 40 (withNumbers W paid parent action) ++ (Q ++ X))
   packs-written =
       record {
-        first = behind 35 (omega arith) (omega arith) ∙ four-first U 35 _ _ _ _ room ∙ same 0;
-        second = behind 36 (omega arith) (omega arith) ∙ four-second U 35 _ _ _ _ room ∙ same 8;
-        third = behind 37 (omega arith) (omega arith) ∙ four-third U 35 _ _ _ _ room ∙ same 16;
-        fourth = behind 38 (omega arith) (omega arith) ∙ four-fourth U 35 _ _ _ _ room ∙ same 24;
+        first = pack-at 0 (omega arith) ∙ same 0;
+        second = pack-at 1 (omega arith) ∙ same 8;
+        third = pack-at 2 (omega arith) ∙ same 16;
+        fourth = pack-at 3 (omega arith) ∙ same 24;
       }
     where
-      room : 35 + 4 ≤ length U
-      room = omega (arith, first-whole)
-
       same : (b : ℕ) → packOf c b ≡ packOf (spotOf (take 40 L ++ (Q ++ X))) b
       same b = ap (λ (d : Centre). packOf d b) (sym spot-is)
 

@@ -1,16 +1,17 @@
--- Laws of packs: the same packs are the same values. Assumes nothing.
-use mathlib.Core.Path.{_≡_, refl, sym, ap, ap₂, _∙_}
+-- Laws of packs: what stands in a pack, and that the same packs are the same values. Assumes nothing.
+use mathlib.Core.Path.{_≡_, refl, sym, ap, ap₂, subst, _∙_}
 use mathlib.Core.Logic.{_⊎_, inl, inr}
 use mathlib.Core.Bool.{true, false}
 use mathlib.Core.List.{List}
 use Prim.Native.Nat.{ℕ, zero, suc, _+_, _-_, _*_, _/_, _%_, _^_, _≤_, _<_}
-use native.Mathlib.Nat.{not-suc-le-zero, add-comm, pow-succ'}
+use native.Mathlib.Nat.{not-suc-le-zero, add-comm, mul-assoc, pow-suc, pow-succ', add-mul-div-right}
 use native.Mathlib.Omega.{arith}
 use native.Mathlib.Decide.{decLt}
 use borrow.Author.Tests.{eq-eqb, eqb-true}
 use lib.Arith.{digits-lt, digits-div, digits-mod}
 use lib.Dec.{eqb}
 use lib.ListN.{getD}
+use lib.Pow.{pow-add, pow-pos}
 use Rattle.loops.specs.Count.{all}
 use Rattle.loops.specs.Count.Laws.{below-cases, all-in, all-out, test-cases}
 use Rattle.rows.specs.Row.{packTo}
@@ -36,6 +37,44 @@ unfolding packTo
 pack-lt xs small b zero l = omega arith
 pack-lt xs small b (suc n) l =
     omega (arith, digits-lt (small (b + n) (omega arith)) (pack-lt xs small b n (omega arith)), pow-succ' 256 n)
+
+-- k bytes as bits
+byte-pow : (k : ℕ) → 2 ^ (k * 8) ≡ 256 ^ k
+byte-pow zero = refl
+byte-pow (suc k) =
+    let e : suc k * 8 ≡ k * 8 + 8 = omega arith in
+    ap (λ (i : ℕ). 2 ^ i) e ∙ pow-add 2 (k * 8) 8 ∙ ap (λ (i : ℕ). i * 256) (byte-pow k) ∙ sym (pow-suc 256 k)
+
+-- a digit above place k does not count in what stands at place k
+above-place : (p x k j : ℕ) → (p + x * 256 ^ (suc j + k)) / 256 ^ k % 256 ≡ p / 256 ^ k % 256
+above-place p x k j =
+    let m = 256 ^ k in
+    let z = x * 256 ^ j in
+    let e : x * 256 ^ (suc j + k) ≡ z * 256 * m =
+    ap (λ (i : ℕ). x * i) (pow-add 256 (suc j) k ∙ ap (λ (i : ℕ). i * m) (pow-suc 256 j))
+    ∙ sym (mul-assoc x (256 ^ j * 256) m) ∙ ap (λ (i : ℕ). i * m) (sym (mul-assoc x (256 ^ j) 256)) in
+    ap (λ (i : ℕ). (p + i) / m % 256) e ∙ ap (λ (i : ℕ). i % 256) (add-mul-div-right p (z * 256) (subst (λ (i : ℕ). 0 < i) (byte-pow k) (pow-pos (k * 8)))) ∙ omega arith
+
+module _ (xs : List ℕ) (small : (v : ℕ) → v < 32 → getD xs v 0 < 256) (b k : ℕ) where
+  -- digit k of a pack of n values below 256 is value k of them
+  digit-is : (n : ℕ) → b + n ≤ 32 → k < n → packTo xs b n / 256 ^ k % 256 ≡ getD xs (b + k) 0
+  unfolding packTo
+  digit-is zero f h = absurd (not-suc-le-zero h)
+  digit-is (suc n) f h = go (below-cases h) (digit-is n (omega arith))
+    where
+      go : (k < n) ⊎ (k ≡ n) → (k < n → packTo xs b n / 256 ^ k % 256 ≡ getD xs (b + k) 0)
+          → (packTo xs b n + getD xs (b + n) 0 * 256 ^ n) / 256 ^ k % 256 ≡ getD xs (b + k) 0
+      go (inl l) r =
+          let e : suc (n - k - 1) + k ≡ n = omega arith in (rw e at (above-place (packTo xs b n) (getD xs (b + n) 0) k (n - k - 1))) ∙ r l
+      go (inr q) r =
+          rw q
+          (ap (λ (i : ℕ). i / 256 ^ n % 256) (add-comm (packTo xs b n) (getD xs (b + n) 0 * 256 ^ n))
+          ∙ ap (λ (i : ℕ). i % 256) (digits-div (getD xs (b + n) 0) (pack-lt xs small b n (omega arith)))
+          ∙ omega (arith, small (b + n) (omega arith)))
+
+  -- so is its byte k
+  pub pack-byte : (n : ℕ) → b + n ≤ 32 → k < n → packTo xs b n / 2 ^ (k * 8) % 256 ≡ getD xs (b + k) 0
+  pack-byte n f h = ap (λ (i : ℕ). packTo xs b n / i % 256) (byte-pow k) ∙ digit-is n f h
 
 module _ (xs ys : List ℕ) (small : (v : ℕ) → v < 32 → getD xs v 0 < 256) (low : (v : ℕ) → v < 32 → getD ys v 0 < 256) where
   -- the same pack is of the same values
