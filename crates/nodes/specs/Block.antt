@@ -24,9 +24,11 @@ leastIn K n = keyOf mark K (chooseBy mark K n)
 abbrev pub leastOfBlock : List ℕ → ℕ → ℕ → ℕ
 leastOfBlock K n b = leastIn (drop (b * 16) K) (blockSize n b)
 
--- one more than the place of the choice in block b of n keys
-abbrev pub chooseIn : ℕ → List ℕ → ℕ → ℕ → ℕ
-chooseIn bound K n b = b * 16 + chooseBy bound (drop (b * 16) K) (blockSize n b)
+-- k is the first of n keys that is w; n if none is
+pub record FirstOf (K : List ℕ) (n w k : ℕ) : Type 0 where
+  pub most : k ≤ n
+  pub before : (i : ℕ) → i < k → getD K i 0 ≡ w → ⊥
+  pub here : k < n → getD K k 0 ≡ w
 
 -- one of the first n keys is in block b and is k
 pub record Held (K : List ℕ) (n b k : ℕ) : Type 0 where

@@ -11,7 +11,7 @@ ghost use Rattle.search.specs.Node.{dominates};
 ghost use Rattle.rows.specs.Row.{rowIn, nodeIn, nodeWith, Packed, Tested};
 ghost use Rattle.rows.specs.Sign.{classOf, signOf};
 ghost use Rattle.nodes.specs.Choice.{chooseBy};
-ghost use Rattle.nodes.specs.Block.{blockSize, leastIn, chooseIn, Blocked, freshTo, loweredTo, raisedTo, retiredTo};
+ghost use Rattle.nodes.specs.Block.{blockSize, leastIn, FirstOf, Blocked, freshTo, loweredTo, raisedTo, retiredTo};
 ghost use Rattle.nodes.specs.Chain.{groupsIn, slotOf, lacking, allLack, hasRoom, groupFor, withGroup, openedTo, joinedTo, linkedTo, Chained, Recalled, Dominator, Tried};
 
 // ---- chains
@@ -362,26 +362,32 @@ pub fn is_dominated(
 
 // ---- the choice
 
-// One more than the first place of the least key below the bound among the keys of a block that has one; the places are counted from the first key of
-// all, which is at `from`.
-fn pick_in(scan: &[u64], from: usize, block: usize, count: usize, bound: u64) -> usize
-    requires { ⌜ (from + count ≤ length (now scan)) × (block * 16 ≤ count) × (count ≤ 4096) ⌝ }
-    ensures { λ r. ⌜ r ≡ chooseIn bound (drop from (now (scan .entry))) count block ⌝ }
+// The first place of a word among the `count` words that begin at `from`, `count` if it is none of them.
+fn find(scan: &[u64], from: usize, count: usize, word: u64) -> usize
+    requires { ⌜ from + count ≤ length (now scan) ⌝ }
+    ensures { λ r. ⌜ FirstOf (drop from (now (scan .entry))) count word r ⌝ }
 {
-    let start = block * 16;
-    start + pick(scan, from + start, block_size(block, count), bound)
+    for k in 0..count {
+        if scan[from + k] == word {
+            return k;
+        }
+    }
+    count
 }
 
-// One more than the node with the least key below the bound, the lowest on ties; 0 for none. The upper word is picked, then the block by its word, then
-// the node in the block.
+// One more than the node with the least key below the bound, the lowest on ties; 0 for none. An upper word is picked, of those that the first `count`
+// nodes have, and it is that key. So the block is the first of its 16 blocks whose word is the same, and the node the first in the block with that key.
 pub fn choose(scan: &[u64], count: usize, bound: u64) -> usize
     requires { ⌜ (length (now scan) ≡ 57616) × (count ≤ 4096) × (bound ≤ mark) × Blocked (now scan) count ⌝ }
     ensures { λ r. ⌜ r ≡ chooseBy bound (now (scan .entry)) count ⌝ }
 {
-    let upper = pick(scan, 16640, 16, bound);
-    if upper == 0 {
+    let picked = pick(scan, 16640, (count + 255) / 256, bound);
+    if picked == 0 {
         return 0;
     }
-    let block = pick_in(scan, 16384, upper - 1, 256, bound);
-    pick_in(scan, 0, block - 1, count, bound)
+    let upper = picked - 1;
+    let word = scan[16640 + upper];
+    let block = upper * 16 + find(scan, 16384 + upper * 16, 16, word);
+    let start = block * 16;
+    start + find(scan, start, block_size(block, count), word) + 1
 }

@@ -1,17 +1,30 @@
--- `nodes::choose` meets its contract: the first of the least upper words leads to the first of the least block words, and that to the first of the least
--- keys. Assumes nothing.
+-- `nodes::choose` meets its contract: the first of the least upper words leads to the first block word that is the same, and that to the first such key.
+-- Assumes nothing.
 use mathlib.Core.Path.{_≡_, sym, _∙_}
-use Prim.Native.Nat.{suc, _-_, _*_, _<_}
+use Prim.Native.Nat.{suc, _+_, _-_, _*_, _<_}
 use native.Mathlib.Omega.{arith}
+use lib.ListN.{getD}
+use lib.Seq.{getD-drop, drop-drop}
 use borrow.Author.Needs.{needs}
-use Rattle.nodes.specs.Choice.{chooseBy}
-use Rattle.nodes.specs.Block.{chooseIn, blockWords, upperWords}
-use Rattle.nodes.specs.Block.Laws.{under-none, under-picked}
+use Rattle.nodes.specs.Choice.{chooseBy, Picked}
+use Rattle.nodes.specs.Choice.Laws.{choose-picked, choose-first}
+use Rattle.nodes.specs.Block.{blockSize, blockWords, upperWords}
+use Rattle.nodes.specs.Block.Laws.{under-none, picked-some, under-found, upper-fewer}
 use Rattle.nodes.proofs.choose.Statement.{statement}
 use Rattle.nodes.proofs.choose.Tie as tie
 
+add-pick : tie.Need-add-pick
+add-pick c = search needs
+
 pick-requires : tie.Need-pick-requires
 pick-requires c κs = search needs
+
+-- the pick is the choice among all upper words
+all-upper : (c : tie.After-pick) → let a = c .before .before .args in c .pick .result ≡ chooseBy (a .bound) (upperWords (a .scan .now)) 16
+all-upper c =
+    let s = c .before .before in
+    let a = s .args in
+    c .pick .ensures ∙ upper-fewer (a .bound) (a .scan .now) (a .count) (s .pre .2) (s .pre .1) (s .pre .3)
 
 returns : tie.Need-returns
 returns c =
@@ -19,58 +32,122 @@ returns c =
     let a = s .args in
     let C = a .scan .now in
     let e : c .before .pick .result ≡ 0 = c .if1 .taken in
-    let none = under-none (a .bound) (blockWords C) (upperWords C) 16 256 (omega arith) (s .pre .2) (s .pre .3 .words) (sym (c .before .pick .ensures) ∙ e) in
+    let none = under-none (a .bound) (blockWords C) (upperWords C) 16 256 (omega arith) (s .pre .2) (s .pre .3 .words) (sym (all-upper (c .before)) ∙ e) in
     sym (under-none (a .bound) C (blockWords C) 256 (a .count) (omega (arith, s .pre .1)) (s .pre .2) (s .pre .3 .keys) none)
 
--- the upper word that is picked, and what is known of its blocks
-upper : (c : tie.Else1) → let a = c .before .before .before .args in let g = c .before .pick .result - 1 in let B = blockWords (a .scan .now) in
-    (g * 16 < 256) × (chooseIn (a .bound) B 256 g ≡ chooseBy (a .bound) B 256) × (0 < chooseIn (a .bound) B 256 g)
+sub-upper : tie.Need-sub-upper
+sub-upper c = search needs
+
+-- the upper word that is picked
+upper : (c : tie.Else1) → let a = c .before .before .before .args in Picked (a .bound) (upperWords (a .scan .now)) 16 (c .before .pick .result - 1)
 upper c =
-    let s = c .before .before .before in
-    let a = s .args in
+    let a = c .before .before .before .args in
     let e : c .before .pick .result ≡ suc (c .before .pick .result - 1) = omega (arith, c .if1 .left) in
-    under-picked (a .bound) (blockWords (a .scan .now)) (upperWords (a .scan .now)) 16 256 (omega arith) (s .pre .2) (s .pre .3 .words)
-    (c .before .pick .result - 1) (sym (c .before .pick .ensures) ∙ e)
+    choose-picked (a .bound) (upperWords (a .scan .now)) 16 (c .before .pick .result - 1) (sym (all-upper (c .before)) ∙ e)
 
-sub-pick-in : tie.Need-sub-pick-in
-sub-pick-in c = search needs
+-- its place
+place : (c : tie.Else1) → c .before .pick .result - 1 < 16
+place c = upper c .inside
 
-pick-in-requires : tie.Need-pick-in-requires
-pick-in-requires c κs = (omega (arith, c .before .before .before .pre .0), omega (arith, upper c .0), omega arith)
+add-word : tie.Need-add-word
+add-word c = omega (arith, place c)
 
--- there is a block
-some : (c : tie.After-pick-in) → 0 < c .pick-in .result
-some c = omega (arith, c .pick-in .ensures, upper (c .before) .2)
+mul-word : tie.Need-mul-word
+mul-word c = omega (arith, place c)
 
--- the block that is picked, and what is known of its nodes
-block : (c : tie.After-pick-in) → let a = c .before .before .before .before .args in let b = c .pick-in .result - 1 in let C = a .scan .now in
-    (b * 16 < a .count) × (chooseIn (a .bound) C (a .count) b ≡ chooseBy (a .bound) C (a .count)) × (0 < chooseIn (a .bound) C (a .count) b)
+shared-slice-read-word : tie.Need-shared-slice-read-word
+shared-slice-read-word c = omega (arith, place (c .before), c .before .before .before .before .pre .0)
+
+mul-block : tie.Need-mul-block
+mul-block c = omega (arith, place (c .before))
+
+mul-find : tie.Need-mul-find
+mul-find c = omega (arith, place (c .before))
+
+add-find : tie.Need-add-find
+add-find c = omega (arith, place (c .before))
+
+find-requires : tie.Need-find-requires
+find-requires c κs = omega (arith, place (c .before), c .before .before .before .before .pre .0)
+
+-- the block that is found: its word is the upper word, and it is the choice among the block words
+block : (c : tie.After-find) → let a = c .before .before .before .before .before .args in let g = c .before .before .before .pick .result - 1 in let C = a .scan .now in
+    let b = g * 16 + c .find .result in (getD (blockWords C) b 0 ≡ getD C (16640 + g) 0) × Picked (a .bound) (blockWords C) 256 b
 block c =
-    let s = c .before .before .before .before in
+    let s = c .before .before .before .before .before in
     let a = s .args in
-    let e : c .pick-in .result ≡ suc (c .pick-in .result - 1) = omega (arith, some c) in
-    under-picked (a .bound) (a .scan .now) (blockWords (a .scan .now)) 256 (a .count) (omega (arith, s .pre .1)) (s .pre .2) (s .pre .3 .keys)
-    (c .pick-in .result - 1) (sym (upper (c .before) .1) ∙ sym (c .pick-in .ensures) ∙ e)
+    let C = a .scan .now in
+    let g = c .before .before .before .pick .result - 1 in
+    let p = upper (c .before .before) in
+    let size : blockSize 256 g ≡ 16 = omega (arith, p .inside) in
+    under-found (a .bound) (blockWords C) (upperWords C) 16 256 (omega arith) (s .pre .2) (s .pre .3 .words) g (getD C (16640 + g) 0) (c .find .result)
+    p (getD-drop 16640 C g 0) (rw (size, drop-drop (g * 16) 16384 C) (c .find .ensures))
 
-sub-pick-in-2 : tie.Need-sub-pick-in-2
-sub-pick-in-2 c = omega (arith, some c)
+add-block : tie.Need-add-block
+add-block c = omega (arith, block c .1 .inside)
 
-pick-in-requires-2 : tie.Need-pick-in-requires-2
-pick-in-requires-2 c κs =
-    let s = c .before .before .before .before in
-    (omega (arith, s .pre .0, s .pre .1), omega (arith, block c .0), s .pre .1)
+mul-start : tie.Need-mul-start
+mul-start c = omega (arith, block c .1 .inside)
+
+block-size-requires : tie.Need-block-size-requires
+block-size-requires c κs =
+    let s = c .before .before .before .before .before in
+    let a = s .args in
+    let C = a .scan .now in
+    let b = (c .before .before .before .pick .result - 1) * 16 + c .find .result in
+    omega
+    (arith, picked-some (a .bound) C (blockWords C) 256 (a .count) (omega (arith, s .pre .1)) (s .pre .2) (s .pre .3 .keys) b (block c .1))
+
+find-requires-2 : tie.Need-find-requires-2
+find-requires-2 c κs =
+    let s = c .before .before .before .before .before .before in
+    omega (arith, c .block-size .ensures, s .pre .0, s .pre .1, block (c .before) .1 .inside)
+
+-- the node that is found is the choice among all nodes
+node : (c : tie.After-find2) → let a = c .before .before .before .before .before .before .before .args in
+    let b = (c .before .before .before .before .before .pick .result - 1) * 16 + c .before .before .find .result in
+    Picked (a .bound) (a .scan .now) (a .count) (b * 16 + c .find2 .result)
+node c =
+    let s = c .before .before .before .before .before .before .before in
+    let a = s .args in
+    let C = a .scan .now in
+    let g = c .before .before .before .before .before .pick .result - 1 in
+    let b = g * 16 + c .before .before .find .result in
+    let p = block (c .before .before) in
+    under-found (a .bound) C (blockWords C) 256 (a .count) (omega (arith, s .pre .1)) (s .pre .2) (s .pre .3 .keys) b (getD C (16640 + g) 0) (c .find2 .result)
+    (p .1) (p .0) (rw (c .before .block-size .ensures) at (c .find2 .ensures)) .1
+
+add-result : tie.Need-add-result
+add-result c = omega (arith, node c .inside, c .before .before .before .before .before .before .before .pre .1)
+
+add-result-2 : tie.Need-add-result-2
+add-result-2 c = omega (arith, node c .inside, c .before .before .before .before .before .before .before .pre .1)
 
 returns-2 : tie.Need-returns-2
-returns-2 c = c .pick-in2 .ensures ∙ block (c .before) .1
+returns-2 c =
+    let a = c .before .before .before .before .before .before .before .args in
+    let b = (c .before .before .before .before .before .pick .result - 1) * 16 + c .before .before .find .result in
+    omega (arith, choose-first (a .bound) (a .scan .now) (a .count) (b * 16 + c .find2 .result) (node c))
 
 pub choose-spec : {M : Type 1} → statement M
 choose-spec =
     tie.close
     (tie.spec
+    add-pick
     pick-requires
     returns
-    sub-pick-in
-    pick-in-requires
-    sub-pick-in-2
-    pick-in-requires-2
+    sub-upper
+    add-word
+    mul-word
+    shared-slice-read-word
+    mul-block
+    mul-find
+    add-find
+    find-requires
+    add-block
+    mul-start
+    block-size-requires
+    find-requires-2
+    add-result
+    add-result-2
     returns-2)

@@ -12,8 +12,8 @@ use lib.Seq.{getD-set-same, getD-set-other, getD-drop}
 use Rattle.loops.specs.Count.Laws.{below-cases}
 use Rattle.leaf.specs.Price.{mark}
 use Rattle.nodes.specs.Choice.{keyOf, chooseBy, Picked, Choice}
-use Rattle.nodes.specs.Choice.Laws.{choose-cases, choose-none, choose-first}
-use Rattle.nodes.specs.Block.{blockSize, leastIn, leastOfBlock, chooseIn, Held, Under, blockWords, upperWords, Blocked, freshTo, loweredTo, raisedTo, retiredTo}
+use Rattle.nodes.specs.Choice.Laws.{choose-cases, choose-none, choose-fewer}
+use Rattle.nodes.specs.Block.{blockSize, leastIn, leastOfBlock, FirstOf, Held, Under, blockWords, upperWords, Blocked, freshTo, loweredTo, raisedTo, retiredTo}
 
 -- ---- the least key
 
@@ -182,63 +182,68 @@ module _ (bound : ℕ) (K W : List ℕ) (m n : ℕ) (few : n ≤ 16 * m) (low : 
       go (inl e) = absurd (omega (arith, p .below))
       go (inr h) = h
 
-  -- i is the choice in that block
-  module _ (b i : ℕ) (p : Picked bound W m b) (q : Picked bound (drop (b * 16) K) (blockSize n b) i) where
-    -- the key that is chosen
-    chosen-key : getD (drop (b * 16) K) i 0 ≡ getD K (b * 16 + i) 0
-    chosen-key = getD-drop (b * 16) K i 0
+  -- so the block has keys
+  pub picked-some : (b : ℕ) → Picked bound W m b → b * 16 < n
+  picked-some b p = let h = word-held b p in omega (arith, h .inside, h .block)
 
-    -- it is not above the keys of the block
-    chosen-here : (w : ℕ) → w < n → w / 16 ≡ b → getD K (b * 16 + i) 0 ≤ getD K w 0
-    chosen-here w l e = omega (arith, chosen-key, q .least (w - b * 16) (omega arith), block-key K b w e)
+  -- k is the first of its keys that is the word
+  module _ (b w k : ℕ) (p : Picked bound W m b) (e : getD W b 0 ≡ w) (q : FirstOf (drop (b * 16) K) (blockSize n b) w k) where
+    -- there is one
+    found-inside : Dec (k < blockSize n b) → k < blockSize n b
+    found-inside (yes l) = l
+    found-inside (no d) =
+        let h = word-held b p in
+        absurd
+        (q .before (h .node - b * 16) (omega (arith, q .most, h .inside, h .block)) (block-key K b (h .node) (h .block) ∙ h .key ∙ e))
 
-    -- nor above the block's word
-    chosen-low : getD K (b * 16 + i) 0 ≤ getD W b 0
-    chosen-low = let h = word-held b p in omega (arith, h .key, chosen-here (h .node) (h .inside) (h .block))
+    -- it is the word, as one of all keys
+    found-key : k < blockSize n b → getD K (b * 16 + k) 0 ≡ w
+    found-key l = sym (getD-drop (b * 16) K k 0) ∙ q .here l
 
     -- no key is less
-    chosen-least : (w : ℕ) → w < n → getD K (b * 16 + i) 0 ≤ getD K w 0
-    chosen-least w l = omega (arith, chosen-low, p .least (w / 16) (omega arith), r .lower w l)
+    found-least : (u : ℕ) → u < n → w ≤ getD K u 0
+    found-least u l = omega (arith, e, p .least (u / 16) (omega arith), r .lower u l)
 
     -- those before it are greater
-    chosen-first : (w : ℕ) → w < b * 16 + i → Dec (w / 16 ≡ b) → getD K (b * 16 + i) 0 < getD K w 0
-    chosen-first w l (yes e) = omega (arith, chosen-key, q .first (w - b * 16) (omega arith), block-key K b w e)
-    chosen-first w l (no d) =
-        omega (arith, chosen-low, p .first (w / 16) (omega (arith, q .inside)), r .lower w (omega (arith, q .inside)))
+    found-first : k < blockSize n b → (u : ℕ) → u < b * 16 + k → Dec (u / 16 ≡ b) → w < getD K u 0
+    found-first i u l (yes f) =
+        let d : getD K u 0 ≡ w → ⊥ = λ s. q .before (u - b * 16) (omega arith) (block-key K b u f ∙ s) in
+        omega (arith, found-least u (omega arith))
+    found-first i u l (no d) = omega (arith, e, p .first (u / 16) (omega arith), r .lower u (omega arith))
 
     -- it is the choice among all keys
-    chosen : Picked bound K n (b * 16 + i)
-    chosen = record {
-      inside = omega (arith, q .inside);
-      below = omega (arith, chosen-key, q .below);
-      least = chosen-least;
-      first = λ w l. chosen-first w l (ℕ-discrete (w / 16) b);
-    }
+    pub under-found : (getD K (b * 16 + k) 0 ≡ w) × Picked bound K n (b * 16 + k)
+    under-found =
+        let i = found-inside (decLt k (blockSize n b)) in
+        let s = found-key i in (
+          s,
+          record {
+            inside = omega arith;
+            below = omega (arith, e, p .below);
+            least = λ u l. omega (arith, found-least u l);
+            first = λ u l. omega (arith, found-first i u l (ℕ-discrete (u / 16) b));
+          },
+        )
 
-  -- a block is chosen by its word
-  picked-word : (b : ℕ) → chooseBy bound W m ≡ suc b → Picked bound W m b
-  picked-word b e = go (choose-cases bound W m)
-    where
-      go : Choice bound W m (chooseBy bound W m) → Picked bound W m b
-      go (inl (f, _)) = absurd (omega arith)
-      go (inr (c, (f, p))) = let same : c ≡ b = omega arith in rw same at p
+-- the word of a block is the mark if its keys are
+under-mark : (K W : List ℕ) (m n : ℕ) → Under K W m n → (b : ℕ) → b < m → ((u : ℕ) → u < n → u / 16 ≡ b → getD K u 0 ≡ mark) → getD W b 0 ≡ mark
+under-mark K W m n r b l all = go (r .held b l)
+  where
+    go : (getD W b 0 ≡ mark) ⊎ Held K n b (getD W b 0) → getD W b 0 ≡ mark
+    go (inl e) = e
+    go (inr h) = sym (h .key) ∙ all (h .node) (h .inside) (h .block)
 
-  -- it has a key below the bound
-  some-below : (b : ℕ) → Picked bound W m b → ((w : ℕ) → w < blockSize n b → bound ≤ getD (drop (b * 16) K) w 0) → ⊥
-  some-below b p none =
-      let h = word-held b p in
-      omega (arith, p .below, h .key, none (h .node - b * 16) (omega (arith, h .inside, h .block)), block-key K b (h .node) (h .block))
-
-  -- it has keys, and the choice in it is the choice among all, not none
-  pub under-picked : (b : ℕ) → chooseBy bound W m ≡ suc b
-      → (b * 16 < n) × (chooseIn bound K n b ≡ chooseBy bound K n) × (0 < chooseIn bound K n b)
-  under-picked b e = go (picked-word b e) (choose-cases bound (drop (b * 16) K) (blockSize n b))
-    where
-      go : Picked bound W m b → Choice bound (drop (b * 16) K) (blockSize n b) (chooseBy bound (drop (b * 16) K) (blockSize n b))
-          → (b * 16 < n) × (chooseIn bound K n b ≡ chooseBy bound K n) × (0 < chooseIn bound K n b)
-      go p (inl (_, none)) = absurd (some-below b p none)
-      go p (inr (i, (f, q))) =
-          (omega (arith, q .inside), omega (arith, f, choose-first bound K n (b * 16 + i) (chosen b i p q)), omega (arith, f))
+-- the choice among the upper words is that among those of the first n nodes: the others are the mark
+pub upper-fewer : (bound : ℕ) (C : List ℕ) (n : ℕ) → bound ≤ mark → n ≤ 4096 → Blocked C n
+    → chooseBy bound (upperWords C) ((n + 255) / 256) ≡ chooseBy bound (upperWords C) 16
+upper-fewer bound C n low few r =
+    choose-fewer bound (upperWords C) ((n + 255) / 256) 16 (omega arith)
+    (λ g i l.
+    omega (
+      arith,
+      under-mark (blockWords C) (upperWords C) 16 256 (r .words) g l
+          (λ b j e. under-mark C (blockWords C) 256 n (r .keys) b j (λ u k f. absurd (omega arith))),
+    ))
 
 -- ---- block words set to the mark
 

@@ -1,5 +1,5 @@
 -- The choice, a turn of the loop at a time, and what it finds. Assumes nothing.
-use mathlib.Core.Path.{_≡_, refl, _∙_}
+use mathlib.Core.Path.{_≡_, refl, sym, _∙_}
 use mathlib.Core.Logic.{_⊎_, inl, inr}
 use mathlib.Core.List.{List}
 use Prim.Native.Nat.{ℕ, zero, suc, _+_, _≤_, _<_}
@@ -90,6 +90,14 @@ module _ (bound : ℕ) (keys : List ℕ) where
       go (inl (e, _)) = e
       go (inr (u, (_, p))) = absurd (omega (arith, p .below, none u (p .inside)))
 
+  -- the node that is chosen
+  pub choose-picked : (n u : ℕ) → chooseBy bound keys n ≡ suc u → Picked bound keys n u
+  choose-picked n u e = go (choose-cases n)
+    where
+      go : Choice bound keys n (chooseBy bound keys n) → Picked bound keys n u
+      go (inl (f, _)) = absurd (omega arith)
+      go (inr (v, (f, p))) = let same : v ≡ u = omega arith in rw same at p
+
   -- the first node with the least key, below the bound, is chosen
   pub choose-first : (n u : ℕ) → Picked bound keys n u → chooseBy bound keys n ≡ suc u
   choose-first n u p = go (choose-cases n)
@@ -102,3 +110,24 @@ module _ (bound : ℕ) (keys : List ℕ) where
       go : Choice bound keys n (chooseBy bound keys n) → chooseBy bound keys n ≡ suc u
       go (inl (_, none)) = absurd (omega (arith, p .below, none u (p .inside)))
       go (inr (v, (e, q))) = e ∙ same v q (decLt u v) (decLt v u)
+
+  -- the choice among fewer keys, where none of the others is below the bound
+  pub choose-fewer : (m n : ℕ) → m ≤ n → ((w : ℕ) → m ≤ w → w < n → bound ≤ getD keys w 0) → chooseBy bound keys m ≡ chooseBy bound keys n
+  choose-fewer m n few rest = go (choose-cases m)
+    where
+      all : (k : ℕ) → k ≤ bound → ((w : ℕ) → w < m → k ≤ getD keys w 0) → (w : ℕ) → w < n → Dec (w < m) → k ≤ getD keys w 0
+      all k l low w i (yes j) = low w j
+      all k l low w i (no d) = omega (arith, rest w (omega arith) i)
+
+      go : Choice bound keys m (chooseBy bound keys m) → chooseBy bound keys m ≡ chooseBy bound keys n
+      go (inl (e, none)) = e ∙ sym (choose-none n (λ w i. all bound (omega arith) none w i (decLt w m)))
+      go (inr (u, (e, p))) =
+          e
+          ∙ sym
+          (choose-first n u
+          (record {
+            inside = omega (arith, p .inside);
+            below = p .below;
+            least = λ w i. all (getD keys u 0) (omega (arith, p .below)) (p .least) w i (decLt w m);
+            first = p .first;
+          }))
