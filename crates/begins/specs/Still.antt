@@ -2,18 +2,20 @@
 -- a layer is made. Assumes nothing.
 use mathlib.Core.Path.{_≡_, refl, sym, ap, _∙_}
 use mathlib.Core.Logic.{_⊎_, inl, inr}
-use mathlib.Core.Bool.{Bool, true, false, not, true≢false}
+use mathlib.Core.Bool.{Bool, true, false, not, _&&_, and-false, true≢false}
 use mathlib.Core.List.{List, [], _++_, append-nil}
 use Prim.Native.Nat.{ℕ, zero, suc, _+_, _-_, _*_, _/_, _%_, _≤_, _<_, min}
 use native.Mathlib.Nat.{not-suc-le-zero, mul-le-mul-right}
 use native.Mathlib.Numerals.{add-one}
 use native.Mathlib.Decide.{decLe}
 use native.Mathlib.Omega.{arith}
+use lib.Dec.{ltb, eqb}
 use lib.ListN.{length, getD, set, take, drop, length-take, length-drop, length-set, List·getD-eq-default}
 use lib.Arith.{digits-div, digits-mod}
 use lib.Seq.{take-length, drop-length, take-at, take-add, getD-take, getD-drop, getD-set-same, getD-set-other, ext-getD}
-use Rattle.loops.specs.Count.{sum}
-use Rattle.loops.specs.Count.Laws.{below-cases, sum-more, sum-ext}
+use Rattle.loops.specs.Count.{any, sum}
+use Rattle.loops.specs.Count.Laws.{below-cases, all-not, sum-more, sum-ext}
+use Rattle.task.specs.declared.Centre.{Centre}
 use Rattle.task.specs.declared.Task.{Task}
 use Rattle.task.specs.Meaning.{cost}
 use Rattle.leaf.specs.Price.{mark}
@@ -24,7 +26,7 @@ use Rattle.leaf.specs.Pass.Laws.{pass-length, pass-hit, pass-from, pass-floor}
 use Rattle.layer.specs.Layer.{leafPart, passLeaf, joined}
 use Rattle.layer.specs.Layer.Laws.{joined-part}
 use Rattle.layer.specs.Layer.Front.{part-take}
-use Rattle.layer.specs.Board.{Board, Sound, baseOn, rowOn, statesOn, toOn, passOn, partOn, beginOn}
+use Rattle.layer.specs.Board.{Board, Sound, baseOn, rowOn, statesOn, toOn, metOn, passOn, passesOn, partOn, beginOn, appliesOn}
 use Rattle.layer.specs.Board.Laws.{joined-ext}
 use Rattle.price.specs.Sums.{sum-le}
 use Rattle.search.specs.Node.{Node, nextNode, leastOf, key}
@@ -56,6 +58,12 @@ pub record Entries (n leaves : ℕ) (bases moves stills : List ℕ) : Type 0 whe
 -- those of all actions
 abbrev pub Stills : ℕ → ℕ → List ℕ → List ℕ → List ℕ → Type 0
 Stills leaves actions bases moves stills = Entries (actions * 8) leaves bases moves stills
+
+-- over an action whose moves begin at `from` no state of the leaf behind i leaves passes
+abbrev pub StuckIn : ℕ → List ℕ → List ℕ → ℕ → List ℕ → Type 0
+StuckIn i bases moves from old =
+    let P = take (getD bases (i + 1) 0 - getD bases i 0) (drop (getD bases i 0) old) in
+    any (length P) (λ x. ltb (getD P x mark) mark && not (eqb (getD moves (from + getD bases i 0 + x) 0) 0)) ≡ false
 
 -- ---- finding them
 
@@ -298,3 +306,10 @@ module _ (t : Task) (n : Node) (a : ℕ) where
       let rise = sum-le (t .leaves) (λ i. leastOf (leafPart t i (n .prices))) (λ i. leastOf (leafPart t i (beginNode t n a (n .spot) 0 0 .prices)))
       (λ i l. rw (part-begin t a (n .prices) i l) (least-rises i)) in
       omega (arith, rise, key-begin t n a (n .spot) 0 0 u)
+
+-- ---- actions that are stuck
+
+-- an action does not apply where in one leaf no state passes
+pub stuck-out : (b : Board) (c : Centre) (P : List ℕ) (a i : ℕ) → i < b .leaves → passesOn b i a (partOn b i P) ≡ false → appliesOn b c P a ≡ false
+unfolding appliesOn
+stuck-out b c P a i l e = rw (all-not (b .leaves) (λ k. passesOn b k a (partOn b k P)) i l e) (and-false (metOn b c a))

@@ -1,7 +1,7 @@
 // The begin of a layer behind a centre action, and what makes it cheap: actions that leave all leaf states as they are, and actions that are stuck.
-use layer::applies;
 use leaf::add_price;
 use leaf::pass;
+use leaf::passes;
 use rows::least;
 use rows::sign_of;
 use task::Centre;
@@ -19,7 +19,7 @@ ghost use Rattle.search.specs.Node.{leastOf};
 ghost use Rattle.rows.specs.Begun.{begunWords};
 ghost use Rattle.rows.specs.Scan.{Cut, keyBy};
 ghost use Rattle.rows.specs.Sign.{signOf};
-ghost use Rattle.begins.specs.Still.{StaysIn, Stays, Still, Stills};
+ghost use Rattle.begins.specs.Still.{StaysIn, Stays, Still, Stills, StuckIn};
 
 // The key and the signature of a layer's begin.
 pub struct Begun {
@@ -100,7 +100,29 @@ pub fn still_leaves(leaves: usize, actions: usize, bases: &[usize], moves: &[u16
     stills
 }
 
-// Whether an action, whose centre conditions hold, moves leaf states and is stuck: in some leaf no state that is reached passes.
+// Whether an action whose moves begin at `from` is stuck in the leaf behind i leaves: no state that is reached passes. Where `still` is not 0 it leaves
+// the leaf's states as they are, and they are not looked at.
+fn is_stuck_in(
+    bases: &[usize],
+    moves: &[u16],
+    from: usize,
+    still: u8,
+    old: &[u64],
+    i: usize,
+) -> bool
+    requires { ⌜ (i + 1 < length (now bases)) × (getD (now bases) i 0 ≤ getD (now bases) (i + 1) 0) × (getD (now bases) (i + 1) 0 ≤ length (now old))
+        × (from + getD (now bases) (i + 1) 0 ≤ length (now moves)) ⌝ }
+    ensures { λ r. ⌜ (r ≡ true → StuckIn i (now (bases .entry)) (now (moves .entry)) from (now (old .entry))) ⌝ }
+{
+    if still != 0 {
+        return false;
+    }
+    let at = bases[i];
+    let to = bases[i + 1];
+    !passes(&old[at..to], moves, from + at)
+}
+
+// Whether an action, whose centre conditions hold, moves leaf states and is stuck: in some leaf that it moves no state that is reached passes.
 pub fn is_stuck(
     leaves: usize,
     actions: usize,
@@ -111,31 +133,26 @@ pub fn is_stuck(
     factors: [u8; 32],
     conditions: &[u8],
     still: &[u8],
+    stills: &[u8],
     spot: Centre,
     old: &[u64],
     a: usize,
 ) -> bool
     requires { ⌜ Sound (boardOf leaves actions (now bases) (now moves) (now costs) (now kinds) factors (now conditions)) ⌝ }
-    requires { ⌜ (length (now still) ≡ 256) × (a < actions) × (getD (now bases) leaves 0 ≤ length (now old)) ⌝ }
+    requires { ⌜ (length (now still) ≡ 256) × (length (now stills) ≡ 2048) × (a < actions) × (getD (now bases) leaves 0 ≤ length (now old)) ⌝ }
     ensures { λ r. ⌜ (r ≡ true → appliesOn (boardOf leaves actions (now (bases .entry)) (now (moves .entry)) (now (costs .entry)) (now (kinds .entry)) factors
         (now (conditions .entry))) spot (now (old .entry)) a ≡ false) ⌝ }
 {
     if still[a] != 0 {
         return false;
     }
-    !applies(
-        leaves,
-        actions,
-        bases,
-        moves,
-        costs,
-        kinds,
-        factors,
-        conditions,
-        spot,
-        old,
-        a,
-    )
+    let row = bases[leaves];
+    for i in 0..leaves {
+        if is_stuck_in(bases, moves, a * row, stills[a * 8 + i], old, i) {
+            return true;
+        }
+    }
+    false
 }
 
 // Each state of a leaf passes over a centre action, at its own price. The action's moves of the leaf begin at `at`; where `still` is not 0 they

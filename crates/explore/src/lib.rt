@@ -132,6 +132,7 @@ fn turn(
         factors,
         conditions,
         still,
+        stills,
         spot,
         old,
         a,

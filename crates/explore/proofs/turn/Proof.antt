@@ -64,7 +64,7 @@ is-stuck-requires : tie.Need-is-stuck-requires
 is-stuck-requires c κs =
     let s = c .before .before .before .before .before .before .before .before .before .before .before .before .before .before .before .before .before .before .before .before .before .before .before .before in
     let all = s .pre .0 .few-all in
-    (s .pre .0, (s .pre .1 .0 .0 .long, s .pre .1 .1 .0 .5, omega (arith, s .pre .1 .1 .0 .2)))
+    (s .pre .0, (s .pre .1 .0 .0 .long, s .pre .1 .0 .6 .long, s .pre .1 .1 .0 .5, omega (arith, s .pre .1 .1 .0 .2)))
 
 returns-3 : tie.Need-returns-3
 returns-3 c =
