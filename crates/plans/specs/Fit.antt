@@ -4,7 +4,7 @@ use mathlib.Core.List.{List}
 use Prim.Native.Nat.{ℕ, zero, suc, _+_, _*_, _≤_, _<_}
 use native.Mathlib.Nat.{not-suc-le-zero, suc-mul, mul-le-mul-right}
 use native.Mathlib.Omega.{arith}
-use lib.ListN.{length, getD, length-append}
+use lib.ListN.{length, getD, drop, length-append, length-take}
 use Rattle.task.specs.declared.Task.{Task}
 use Rattle.task.specs.Meaning.{initial}
 use Rattle.task.specs.Factors.{number, states, allStates}
@@ -13,7 +13,7 @@ use Rattle.task.specs.Star.{number-lt}
 use Rattle.leaf.specs.Price.{mark}
 use Rattle.layer.specs.Layer.{enabled, startLeaf, leafPart}
 use Rattle.layer.specs.Layer.Leaf.{leaf-length}
-use Rattle.layer.specs.Board.{Board, Fits, Sound, baseOn, rowOn, enabledOn}
+use Rattle.layer.specs.Board.{Board, Fits, Sound, baseOn, rowOn, statesOn, enabledOn}
 use Rattle.layer.specs.Board.Laws.{states-on, row-on, part-on, enabled-on, pass-on}
 use Rattle.tables.specs.Tables.{Tabled}
 use Rattle.tables.specs.Fit.{boardOf, tables-fit}
@@ -39,15 +39,23 @@ unfolding backBy
 back-count edges acts m n D zero y = refl
 back-count edges acts m n D (suc k) y = simp length-append (omega (arith, back-count edges acts m n D k (originBy edges m n D k y)))
 
-pub back-few : (b : Board) (starts T : List ℕ) (i u y : ℕ) → WalkableOn b starts T i u y → length (backOn b starts T i u y .acts) ≤ 256
+-- and that is no more than its prices are
+back-priced : (b : Board) (starts T : List ℕ) (i u y : ℕ) → WalkableOn b starts T i u y → length (backOn b starts T i u y .acts) ≤ length (pricesOn b T i u)
 unfolding wayBy
-back-few b starts T i u y w =
+back-priced b starts T i u y w =
     let acts = actsOn b T i u in
     let B = beginsOn b starts T i u in
     let P = pricesOn b T i u in
     let edges = tightBy (b .moves) (rowOn b) (baseOn b i) (b .costs) acts P in
     let D = depthsBy edges (length acts) B P in
-    omega (arith, back-count edges acts (length acts) (length P) D (getD D y mark) y, depths-bound edges (length acts) B P y (w .deep), w .few-states)
+    omega (arith, back-count edges acts (length acts) (length P) D (getD D y mark) y, depths-bound edges (length acts) B P y (w .deep))
+
+pub back-few : (b : Board) (starts T : List ℕ) (i u y : ℕ) → WalkableOn b starts T i u y → length (backOn b starts T i u y .acts) ≤ 256
+back-few b starts T i u y w = omega (arith, back-priced b starts T i u y w, w .few-states)
+
+-- nor than the leaf has states
+pub back-short : (b : Board) (starts T : List ℕ) (i u y : ℕ) → WalkableOn b starts T i u y → length (backOn b starts T i u y .acts) ≤ statesOn b i
+back-short b starts T i u y w = omega (arith, back-priced b starts T i u y w, length-take (statesOn b i) (drop (baseOn b i) (nodeOn b T u .prices)))
 
 -- ---- the tables of a task
 

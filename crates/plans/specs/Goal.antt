@@ -1,12 +1,12 @@
 -- The goal states by the table of goal states are the task's, and what the plan's buffer holds in the end. Assumes nothing.
-use mathlib.Core.Path.{_≡_, sym, ap, _∙_}
+use mathlib.Core.Path.{_≡_, sym, ap, ap₂, _∙_}
 use mathlib.Core.Bool.{true, not}
 use mathlib.Core.List.{List, _++_, reverse}
-use Prim.Native.Nat.{ℕ, suc, _≤_, _<_}
+use Prim.Native.Nat.{ℕ, zero, suc, _≤_, _<_}
 use native.Mathlib.Omega.{arith}
 use lib.Dec.{eqb}
-use lib.ListN.{length, getD, drop, length-reverse}
-use lib.Seq.{getD-take, getD-drop}
+use lib.ListN.{length, getD, take, drop, length-reverse}
+use lib.Seq.{getD-take, getD-drop, take-at, drop-at}
 use borrow.Author.Tests.{le-leb, lt-leb}
 use Rattle.loops.specs.Count.Laws.{list-ext}
 use Rattle.task.specs.declared.Task.{Task}
@@ -76,21 +76,38 @@ module _ (t : Task) (s : Search) (u : ℕ) (ys : ℕ → ℕ) (same : (i : ℕ) 
   walked-length : length (planBack t s u u ys) ≡ length (planOf t s u)
   walked-length = sym (length-reverse (planBack t s u u ys)) ∙ ap length walked-plan
 
-  -- where it is longer than the buffer, that stays as it was
-  pub plan-short : (r : ℕ) (plan plan′ : List ℕ) → r ≡ length (planBack t s u u ys) → plan′ ≡ laid 0 0 (planBack t s u u ys) plan → length plan′ < r
+  -- where it is longer than the buffer, that stays as it was: such a buffer is not written on the first walk
+  pub plan-short : (total r : ℕ) (plan plan′ : List ℕ) → r ≡ length (planBack t s u u ys) → plan′ ≡ laid total 0 (planBack t s u u ys) plan
+      → (0 < total → r ≤ length plan) → length plan′ ≡ length plan → length plan′ < r
       → (r ≡ length (planOf t s u)) × (plan′ ≡ written (planOf t s u) plan)
-  plan-short r plan plan′ e q h =
+  plan-short zero r plan plan′ e q fits long h =
       let same : plan′ ≡ plan = q ∙ laid-none 0 (planBack t s u u ys) plan in
-      (e ∙ walked-length, same ∙ sym (written-not (planOf t s u) plan (omega (arith, walked-length, ap length same))))
+      (e ∙ walked-length, same ∙ sym (written-not (planOf t s u) plan (omega (arith, walked-length))))
+  plan-short (suc total) r plan plan′ e q fits long h = absurd (omega (arith, fits (omega arith)))
 
-  -- laid into a buffer with room for it, it stands there forwards
-  pub plan-long : (r : ℕ) (plan plan′ : List ℕ) → r ≡ length (planBack t s u u ys) → plan′ ≡ laid 0 0 (planBack t s u u ys) plan → r ≤ length plan′
-      → (r′ : ℕ) (plan″ : List ℕ) → r′ ≡ length (planBack t s u u ys) → plan″ ≡ laid r 0 (planBack t s u u ys) plan′
-      → (r′ ≡ length (planOf t s u)) × (plan″ ≡ written (planOf t s u) plan)
-  plan-long r plan plan′ e q h r′ plan″ e′ q′ =
-      let same : plan′ ≡ plan = q ∙ laid-none 0 (planBack t s u u ys) plan in
-      let room : length (planBack t s u u ys) ≤ length plan = omega (arith, ap length same) in (
-        e′ ∙ walked-length,
-        rw (q′, same, e, written-fits (planOf t s u) plan (omega (arith, walked-length)), ← walked-length, ← walked-plan)
-            (laid-all (planBack t s u u ys) plan room),
+  -- laid into a buffer with room for it, it stands there from its end
+  pub laid-once : (total r : ℕ) (plan plan′ : List ℕ) → r ≡ length (planBack t s u u ys) → plan′ ≡ laid total 0 (planBack t s u u ys) plan
+      → r ≤ total → total ≤ length plan → plan′ ≡ planBack t s u u ys ++ drop (length (planBack t s u u ys)) plan
+  laid-once total r plan plan′ e q l h = q ∙ laid-all total (planBack t s u u ys) plan (omega arith) h
+
+  -- so where its actions were only counted before
+  pub laid-twice : (total r : ℕ) (plan plan′ plan″ : List ℕ) → total ≡ 0 → r ≡ length (planBack t s u u ys)
+      → plan′ ≡ laid total 0 (planBack t s u u ys) plan → plan″ ≡ laid r 0 (planBack t s u u ys) plan′
+      → r ≤ length plan′ → plan″ ≡ planBack t s u u ys ++ drop (length (planBack t s u u ys)) plan
+  laid-twice total r plan plan′ plan″ z e q q′ l =
+      let xs = planBack t s u u ys in
+      let same : plan′ ≡ plan = q ∙ ap (λ (k : ℕ). laid k 0 xs plan) z ∙ laid-none 0 xs plan in
+      laid-once r r plan′ plan″ e q′ (omega arith) l ∙ ap (λ (zs : List ℕ). xs ++ drop (length xs) zs) same
+
+  -- turned round it stands there forwards
+  pub plan-turned : (r : ℕ) (plan plan′ plan″ : List ℕ) → r ≡ length (planBack t s u u ys) → r ≤ length plan
+      → plan′ ≡ planBack t s u u ys ++ drop (length (planBack t s u u ys)) plan → plan″ ≡ reverse (take r plan′) ++ drop r plan′
+      → (r ≡ length (planOf t s u)) × (plan″ ≡ written (planOf t s u) plan)
+  plan-turned r plan plan′ plan″ e l there q =
+      let xs = planBack t s u u ys in
+      let front : take r plan′ ≡ xs = ap (take r) there ∙ take-at xs (drop (length xs) plan) r (sym e) in
+      let rest : drop r plan′ ≡ drop (length (planOf t s u)) plan =
+      ap (drop r) there ∙ drop-at xs (drop (length xs) plan) r (sym e) ∙ ap (λ (k : ℕ). drop k plan) walked-length in (
+        e ∙ walked-length,
+        q ∙ ap₂ (λ (ys zs : List ℕ). ys ++ zs) (ap reverse front ∙ walked-plan) rest ∙ sym (written-fits (planOf t s u) plan (omega (arith, walked-length))),
       )

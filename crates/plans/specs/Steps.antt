@@ -1,8 +1,8 @@
 -- The walk back from node to node: what is left of the plan, from here, ends as the whole does from the start. Assumes nothing.
 use mathlib.Core.Path.{_≡_, refl, sym, ap, ap₂, _∙_}
 use mathlib.Core.List.{List, _∷_, _++_}
-use Prim.Native.Nat.{ℕ, zero, suc, _+_, _*_, _≤_, _<_}
-use native.Mathlib.Nat.{not-suc-le-zero}
+use Prim.Native.Nat.{ℕ, zero, suc, _+_, _-_, _*_, _≤_, _<_}
+use native.Mathlib.Nat.{not-suc-le-zero, suc-mul, mul-le-mul-right}
 use native.Mathlib.Omega.{arith}
 use lib.ListN.{length, getD, length-append, length-reverse}
 use Rattle.task.specs.declared.Task.{Task}
@@ -10,7 +10,7 @@ use Rattle.task.specs.Factors.{states}
 use Rattle.leaf.specs.Price.{mark}
 use Rattle.leaf.specs.Settle.Steps.{price-in}
 use Rattle.layer.specs.Layer.{leafPart}
-use Rattle.layer.specs.Board.{Board, baseOn, rowOn, statesOn}
+use Rattle.layer.specs.Board.{Board, Sound, baseOn, rowOn, statesOn}
 use Rattle.layer.specs.Board.Laws.{states-on}
 use Rattle.search.specs.Explore.{Search, nodeAt}
 use Rattle.search.specs.Plan.{Back, begins, backIn, over}
@@ -18,7 +18,7 @@ use Rattle.search.specs.Plan.Backwards.{layerBack, statesBefore, planBack, plan
 use Rattle.search.specs.Plan.Laid.{laid, laid-append}
 use Rattle.search.specs.Plan.Stages.{priceIn, backIn-led, over-is}
 use Rattle.plans.specs.Walk.{nodeOn, pricesOn, actsOn, beginsOn, backOn, WalkableOn, overOn, backs, LayerWalked, NodeWalked}
-use Rattle.plans.specs.Fit.{back-few, Grounds, searchOn, node-on, inside, parent-below, prices-on, prices-length, walk-on, way-on, over-on}
+use Rattle.plans.specs.Fit.{back-short, Grounds, searchOn, node-on, inside, parent-below, prices-on, prices-length, walk-on, way-on, over-on}
 
 -- ---- the actions of a layer
 
@@ -28,18 +28,22 @@ unfolding backs
 backs-ext f g zero h = refl
 backs-ext f g (suc n) h = rw (h n (omega arith), backs-ext f g n (λ i l. h i (omega arith)))
 
--- of ways of at most 256 actions there are at most 256 for each
-backs-few : (f : ℕ → Back) (n : ℕ) → ((i : ℕ) → i < n → length (f i .acts) ≤ 256) → length (backs f n) ≤ n * 256
-unfolding backs
-backs-few f zero h = omega arith
-backs-few f (suc n) h =
-    simp (length-append, length-reverse) (omega (arith, h n (omega arith), backs-few f n (λ i l. h i (omega arith))))
+module _ (b : Board) (sound : Sound b) where
+  -- of ways that have no more actions than their leaf has states there are no more than these leaves have
+  backs-few : (f : ℕ → Back) (n : ℕ) → n ≤ b .leaves → ((i : ℕ) → i < n → length (f i .acts) ≤ statesOn b i) → length (backs f n) ≤ baseOn b n
+  unfolding backs
+  backs-few f zero l h = omega arith
+  backs-few f (suc n) l h =
+      let one : n + 1 ≡ suc n = omega arith in
+      let rise : baseOn b n ≤ baseOn b (suc n) = rw one at (sound .bases-rise n (omega arith)) in
+      let here : length (f n .acts) ≤ baseOn b (suc n) - baseOn b n = rw one at (h n (omega arith)) in
+      simp (length-append, length-reverse) (omega (arith, here, rise, backs-few f n (omega arith) (λ i k. h i (omega arith))))
 
--- a layer has at most 2,048 of them
-pub layer-few : (b : Board) (starts T : List ℕ) (u : ℕ) (ys : ℕ → ℕ) → b .leaves ≤ 8 → ((i : ℕ) → i < b .leaves → WalkableOn b starts T i u (ys i))
-    → length (backs (λ i. backOn b starts T i u (ys i)) (b .leaves)) ≤ 2048
-layer-few b starts T u ys h walks =
-    omega (arith, backs-few (λ i. backOn b starts T i u (ys i)) (b .leaves) (λ i l. back-few b starts T i u (ys i) (walks i l)))
+  -- a layer has no more of them than there are leaf states
+  pub layer-few : (starts T : List ℕ) (u : ℕ) (ys : ℕ → ℕ) → ((i : ℕ) → i < b .leaves → WalkableOn b starts T i u (ys i))
+      → length (backs (λ i. backOn b starts T i u (ys i)) (b .leaves)) ≤ rowOn b
+  layer-few starts T u ys walks =
+      backs-few (λ i. backOn b starts T i u (ys i)) (b .leaves) (omega arith) (λ i l. back-short b starts T i u (ys i) (walks i l))
 
 -- those of a task's layer
 layer-backs : (t : Task) (s : Search) (u : ℕ) (ys : ℕ → ℕ) (n : ℕ) → layerBack t s u ys n ≡ backs (λ i. backIn t s i u (ys i)) n
@@ -202,11 +206,12 @@ module _ (t : Task) (b : Board) (starts T : List ℕ) (count : ℕ) (g : Grounds
   pub along-few : 0 < u → (v : ℕ) → v ≡ nodeOn b T u .parent
       → NodeWalked (b .leaves) (λ i. backOn b starts T i u (getD states i 0)) (nodeOn b T u .action) (λ i z. overOn b T i u z)
       total p plan r states′ plan′
-      → (v < u) × (r + v * 2049 ≤ p + u * 2049)
+      → (v < u) × (r + v * (rowOn b + 1) ≤ p + u * (rowOn b + 1))
   along-few z v e w =
       let each = walks t b starts T count g u (λ i. getD states i 0) h (a .priced) in
-      let few = layer-few b starts T u (λ i. getD states i 0) (g .sound .few-leaves) each in
-      omega (arith, w .place, few, parent-below t b starts T count g u z h)
+      let few = layer-few b (g .sound) starts T u (λ i. getD states i 0) each in
+      let below : v < u = omega (arith, parent-below t b starts T count g u z h) in
+      (below, omega (arith, w .place, few, suc-mul v (rowOn b + 1), mul-le-mul-right (rowOn b + 1) below))
 
   -- node 0 is the last
   pub along-end : u ≡ 0 → LayerWalked (b .leaves) (λ i. backOn b starts T i u (getD states i 0)) total p plan r states′ plan′

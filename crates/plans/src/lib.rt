@@ -1,4 +1,4 @@
-// The plan of a node of the lent table, walked back node by node and written into the lent buffer from its end.
+// The plan of a node of the lent table, walked back node by node and written into the lent buffer.
 use layer::enabled;
 use leaf::MARK;
 use leaf::pass;
@@ -12,9 +12,10 @@ use wayback::lowest_over;
 use wayback::put;
 ghost use mathlib.Core.Path.{_≡_};
 ghost use mathlib.Core.Bool.{cond, true};
+ghost use mathlib.Core.List.{_++_, reverse};
 ghost use Prim.Native.Nat.{ℕ, _+_, _-_, _*_, _≤_, _<_};
 ghost use lib.Dec.{eqb};
-ghost use lib.ListN.{length, getD, replicate};
+ghost use lib.ListN.{length, getD, take, drop, replicate};
 ghost use Rattle.task.specs.Factors.{allStates};
 ghost use Rattle.task.specs.Valid.{Valid};
 ghost use Rattle.leaf.specs.Price.{mark};
@@ -479,8 +480,8 @@ fn node_back(
 
 // ---- all nodes
 
-// The walk back from a node, whose leaves are in the states `ends`, to node 0: how many actions it meets. A plan of `total` actions is written from
-// its end, as far as it goes.
+// The walk back from a node, whose leaves are in the states `ends`, to node 0: how many actions it meets. They are written as they are met, the plan's
+// last action first, as far as `total` places go.
 pub fn walk_back(
     task: Task,
     bases: &[usize],
@@ -504,7 +505,8 @@ pub fn walk_back(
         × Roomy (task .leaves) (task .actions) (now bases) (length (now tight))
         × Edges (boardOf (task .leaves) (task .actions) (now bases) (now moves) (now costs) (now kinds) (task .factors) (task .conditions)) (now edges) (now stops) ⌝ }
     ensures { λ r. ⌜ (r ≡ length (planBack task (heldIn (allStates task) (now (table .entry)) count) node node (λ i. getD ends i 0)))
-        × (now (plan .exit) ≡ laid total 0 (planBack task (heldIn (allStates task) (now (table .entry)) count) node node (λ i. getD ends i 0)) (now (plan .entry))) ⌝ }
+        × (now (plan .exit) ≡ laid total 0 (planBack task (heldIn (allStates task) (now (table .entry)) count) node node (λ i. getD ends i 0)) (now (plan .entry)))
+        × (r ≤ (node + 1) * (allStates task + 1)) ⌝ }
 {
     let leaves = task.leaves as usize;
     let actions = task.actions as usize;
@@ -558,8 +560,31 @@ pub fn walk_back(
     )
 }
 
-// The plan of a goal node at the front of the lent buffer, where it has room: how many actions it has. `tight` is only lent to work in. The plan
-// is walked once to count its actions, and once more to write them.
+// How many of the places that are lent the first walk may write: all, where any plan of so many actions fits, else none.
+fn first_room(places: usize, most: usize) -> usize
+    ensures { λ r. ⌜ (r ≤ places) × (0 < r → most ≤ r) ⌝ }
+{
+    if places < most {
+        return 0;
+    }
+    places
+}
+
+// The first `count` actions of a plan in the opposite order.
+fn turn_round(plan: &mut [u8], count: usize)
+    requires { ⌜ count ≤ length (now plan) ⌝ }
+    ensures { λ _. ⌜ now (plan .exit) ≡ reverse (take count (now (plan .entry))) ++ drop count (now (plan .entry)) ⌝ }
+{
+    for i in 0..count / 2 {
+        let last = count - (i + 1);
+        let action = plan[i];
+        plan[i] = plan[last];
+        plan[last] = action;
+    }
+}
+
+// The plan of a goal node at the front of the lent buffer, where it has room: how many actions it has. `tight` is only lent to work in. A buffer that
+// holds the longest plan is written on the way back; else the plan is walked once to count its actions, so that a buffer too short stays as it is.
 fn write_with(
     task: Task,
     bases: &[usize],
@@ -588,6 +613,7 @@ fn write_with(
     let row = bases[leaves];
     let from = node * (40 + row) + 40;
     let ends = goal_ends(leaves, bases, goals, &table[from..from + row]);
+    let room = first_room(plan.len(), (node + 1) * (row + 1));
     let length = walk_back(
         task,
         bases,
@@ -601,11 +627,15 @@ fn write_with(
         ends,
         tight,
         plan,
-        0,
+        room,
         edges,
         stops,
     );
     if length > plan.len() {
+        return length;
+    }
+    if room > 0 {
+        turn_round(plan, length);
         return length;
     }
     walk_back(
@@ -624,7 +654,9 @@ fn write_with(
         length,
         edges,
         stops,
-    )
+    );
+    turn_round(plan, length);
+    length
 }
 
 // The plan of a goal node at the front of the lent buffer, where it has room: how many actions it has. What it works in is

@@ -313,7 +313,7 @@ fn sources_of(
     sources
 }
 
-// An action at a place of the plan, counted from its last action; places before its begin are not written.
+// An action at a place of the plan, of which only the first `total` places may be written.
 pub fn put(plan: &mut [u8], total: usize, place: usize, action: u8)
     requires { ⌜ total ≤ length (now plan) ⌝ }
     ensures { λ _. ⌜ now (plan .exit) ≡ put total place action (now (plan .entry)) ⌝ }
@@ -321,7 +321,7 @@ pub fn put(plan: &mut [u8], total: usize, place: usize, action: u8)
     if place >= total {
         return;
     }
-    plan[total - (place + 1)] = action;
+    plan[place] = action;
 }
 
 // From a state back to one of depth 0: at each step the first action with a source, its lowest source, and the action into the plan.

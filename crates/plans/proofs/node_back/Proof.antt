@@ -34,8 +34,8 @@ room : (c : tie.After-layer-back) → c .layer-back .result + 1 ≤ 184467440737
 room c =
     let s = start c in
     let a = s .args in
-    let few = layer-few (board s) (a .starts .now) (a .table .now) (a .node) (λ i. getD (a .ends .now) i 0) (s .pre .0 .0 .sound .few-leaves) (s .pre .1 .0) in
-    omega (arith, c .layer-back .ensures .place, few, s .pre .1 .1 .1 .3)
+    let few = layer-few (board s) (s .pre .0 .0 .sound) (a .starts .now) (a .table .now) (a .node) (λ i. getD (a .ends .now) i 0) (s .pre .1 .0) in
+    omega (arith, c .layer-back .ensures .place, few, s .pre .0 .0 .sound .few-all, s .pre .1 .1 .1 .3)
 
 shared-slice-read-action-of : tie.Need-shared-slice-read-action-of
 shared-slice-read-action-of c =

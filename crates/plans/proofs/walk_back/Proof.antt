@@ -1,6 +1,7 @@
 -- `plans::walk_back` meets its contract. The invariant: what is left, from where the walk is, ends as the whole from the start. Assumes nothing.
 use mathlib.Core.Path.{_≡_, refl, sym, subst, _∙_}
 use Prim.Native.Nat.{ℕ, _+_, _*_, _≤_, _<_}
+use native.Mathlib.Nat.{suc-mul, mul-le-mul}
 use native.Mathlib.Omega.{arith}
 use lib.ListN.{length, getD, length-replicate}
 use borrow.Author.Needs.{needs, length-unmapped}
@@ -15,14 +16,14 @@ use Rattle.search.specs.Plan.Laid.{laid}
 use Rattle.rows.specs.Row.{nodeIn}
 use Rattle.plans.specs.Walk.{heldIn, Roomy, Standing}
 use Rattle.plans.specs.Fit.{Grounds, searchOn, grounds-on, standing-on}
-use Rattle.plans.specs.Steps.{Priced, walks, lands, Along, along-none, along-more, along-few, along-end}
+use Rattle.plans.specs.Steps.{layer-few, Priced, walks, lands, Along, along-none, along-more, along-few, along-end}
 use Rattle.plans.proofs.walk_back.Statement.{statement}
 use Rattle.plans.proofs.walk_back.Tie as tie
 
 abbrev Inv-loop : tie.InvT-loop
 Inv-loop bases moves costs kinds starts table count node tight₀ plan₀ total edges stops leaves actions factors conditions states₀ u₀ place₀ tight plan states u place =
     let b = boardOf leaves actions bases moves costs kinds factors conditions in
-    (u < count) × (length states ≡ 8) × (length tight ≡ length tight₀) × (length plan ≡ length plan₀) × (place + u * 2049 ≤ node * 2049)
+    (u < count) × (length states ≡ 8) × (length tight ≡ length tight₀) × (length plan ≡ length plan₀) × (place + u * (rowOn b + 1) ≤ node * (rowOn b + 1))
     × ((t : Task) → Grounds t b starts table count → Priced t (searchOn b table count) node (λ i. getD states₀ i 0)
     → Along t (searchOn b table count) node states₀ total plan₀ u states place plan)
 
@@ -75,6 +76,13 @@ standing c =
     (omega (arith, s .pre .0 .0 .fields .few-leaves, s .pre .0 .1 .is-starts .long))
     (subst (λ (S : ℕ). a .count * (40 + S) ≤ length (a .table .now)) (sym (row s)) (s .pre .1 .1 .2)) (c .loop .u) (c .loop .inv .0)
 
+-- so many actions lead from the node to node 0 at most
+most : (s : tie.Start Inv-loop μ-loop) → s .args .node * (rowOn (board s) + 1) ≤ 4096 * 1025
+most s =
+    let few : s .args .node ≤ 4096 = omega (arith, s .pre .1 .1 .0, s .pre .1 .1 .1) in
+    let short : rowOn (board s) + 1 ≤ 1025 = omega (arith, grounds s .sound .few-all) in
+    mul-le-mul few short
+
 -- what is lent is long enough, and the place cannot wrap
 room : (c : tie.At-loop Inv-loop μ-loop) → let a = start c .args in
     (a .task .leaves ≤ length (c .loop .states)) × Roomy (a .task .leaves) (a .task .actions) (a .bases .now) (length (c .loop .tight)) × (a .total ≤ length (c .loop .plan)) × (c .loop .place + 2049 ≤ mark)
@@ -84,7 +92,7 @@ room c =
       omega (arith, i .1, s .pre .0 .0 .fields .few-leaves),
       λ j h. omega (arith, i .2, s .pre .1 .1 .4 j h),
       omega (arith, i .3, s .pre .1 .1 .3),
-      omega (arith, i .4, s .pre .1 .1 .0, s .pre .1 .1 .1),
+      omega (arith, i .4, most s),
     )
 
 cast-leaves : tie.Need-cast-leaves Inv-loop μ-loop
@@ -138,7 +146,7 @@ parent-of-requires c κs = standing (c .before .before .before .before .before .
 -- a turn leads to a lower node, by few actions
 turn : (c : tie.After-node-back Inv-loop μ-loop) (v : ℕ) → let l = c .before .before .before .before .before .before in let a = start l .args in
     v ≡ nodeIn (getD (a .bases .now) (a .task .leaves) 0) (a .table .now) (l .loop .u) .parent
-    → (v < l .loop .u) × (c .node-back .result + v * 2049 ≤ l .loop .place + l .loop .u * 2049)
+    → (v < l .loop .u) × (c .node-back .result + v * (rowOn (board (start l)) + 1) ≤ l .loop .place + l .loop .u * (rowOn (board (start l)) + 1))
 turn c v e =
     let l = c .before .before .before .before .before .before in
     let s = start l in
@@ -189,6 +197,21 @@ same-length c = c .before .before .before .before .before .layer-back .kept .1 .
 same-length-2 : tie.Need-same-length-2 Inv-loop μ-loop
 same-length-2 c = c .before .before .before .before .before .layer-back .kept .1 .1 .1 .1 .1 .1 .1 .1 .1 .1 .1 .1 .1 .0 ∙ c .before .before .before .before .before .before .before .before .before .before .before .loop .inv .3
 
+-- the last layer has few actions more
+ended : (c : tie.After-layer-back Inv-loop μ-loop) → let l = c .before .before .before .before .before .before in
+    c .layer-back .result ≤ (start l .args .node + 1) * (allStates (start l .args .task) + 1)
+ended c =
+    let l = c .before .before .before .before .before .before in
+    let s = start l in
+    let a = s .args in
+    let b = board s in
+    let states : ℕ → ℕ = λ i. getD (l .loop .states) i 0 in
+    let each = walks (a .task) b (a .starts .now) (a .table .now) (a .count) (grounds s) (l .loop .u) states (l .loop .inv .0) (along l .priced) in
+    let few = layer-few b (grounds s .sound) (a .starts .now) (a .table .now) (l .loop .u) states each in
+    let one : (a .node + 1) * (rowOn b + 1) ≡ a .node * (rowOn b + 1) + (rowOn b + 1) = omega (arith, suc-mul (a .node) (rowOn b + 1)) in
+    let all : c .layer-back .result ≤ (a .node + 1) * (rowOn b + 1) = omega (arith, c .layer-back .ensures .place, few, l .loop .inv .4, one) in
+    subst (λ (S : ℕ). c .layer-back .result ≤ (a .node + 1) * (S + 1)) (row s) all
+
 returns : tie.Need-returns Inv-loop μ-loop
 returns c =
     let w = c .before .before .before .before .before in
@@ -197,12 +220,13 @@ returns c =
     let a = s .args in
     let b = board s in
     let T = a .table .now in
-    subst (λ (S : ℕ). let whole = planBack (a .task) (heldIn S T (a .count)) (a .node) (a .node) (λ i. getD (a .ends) i 0) in
+    let (many, plan) = subst (λ (S : ℕ). let whole = planBack (a .task) (heldIn S T (a .count)) (a .node) (a .node) (λ i. getD (a .ends) i 0) in
     (w .layer-back .result ≡ length whole) × (w .layer-back .last .1 .1 .1 .1 .1 .1 .1 .1 .1 .1 .1 .1 .1 .0 ≡ laid (a .total) 0 whole (a .plan .now)))
     (row s)
     (along-end (a .task) b (a .starts .now) T (a .count) (grounds s) (a .node) (a .ends) (a .total) (a .plan .now)
     (l .loop .u) (l .loop .states) (l .loop .place) (l .loop .plan) (l .loop .inv .0) (along l)
-    _ _ _ (omega (arith, w .before .before .before .before .before .loop-test .left)) (w .layer-back .ensures))
+    _ _ _ (omega (arith, w .before .before .before .before .before .loop-test .left)) (w .layer-back .ensures)) in
+    (many, plan, ended w)
 
 pub walk-back-spec : {M : Type 1} → statement M
 walk-back-spec =

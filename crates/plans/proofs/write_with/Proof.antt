@@ -1,8 +1,8 @@
--- `plans::write_with` meets its contract: walked once to count the plan's actions, and once more to write them. Assumes nothing.
+-- `plans::write_with` meets its contract: walked once where any plan fits, else once to count the plan's actions and once more to write them. Assumes nothing.
 use mathlib.Core.Path.{_≡_, sym, ap, subst, _∙_}
 use mathlib.Core.List.{List}
 use Prim.Native.Nat.{ℕ, _+_, _-_, _*_, _≤_, _<_, _^_}
-use native.Mathlib.Nat.{suc-mul, mul-le-mul-right}
+use native.Mathlib.Nat.{suc-mul, mul-le-mul, mul-le-mul-right}
 use native.Mathlib.Omega.{arith}
 use lib.ListN.{length, getD, take, drop, length-drop}
 use lib.Seq.{length-take-le}
@@ -19,7 +19,7 @@ use Rattle.plans.specs.Walk.{heldIn, nodeOn, goalOn, RowIn}
 use Rattle.plans.specs.Walk.Laws.{row-prices}
 use Rattle.plans.specs.Fit.{Grounds, grounds-on}
 use Rattle.plans.specs.Steps.{Priced}
-use Rattle.plans.specs.Goal.{goal-on, goal-priced, plan-short, plan-long}
+use Rattle.plans.specs.Goal.{goal-on, goal-priced, plan-short, laid-once, laid-twice, plan-turned}
 use Rattle.plans.proofs.write_with.Statement.{statement}
 use Rattle.plans.proofs.write_with.Tie as tie
 
@@ -140,10 +140,42 @@ priced c i m =
     subst (λ (y : ℕ). priceIn (a .task) (held s) i (a .node) y < mark) (sym (ends-are c i m))
     (goal-priced (a .task) (held s) (a .node) (s .pre .1 .0 .1) i m)
 
+-- the longest plan of the node
+abbrev most : tie.Start → ℕ
+most s = (s .args .node + 1) * (rowOn (board s) + 1)
+
+most-lt : (s : tie.Start) → most s ≤ 4096 * 1025
+most-lt s =
+    let few : s .args .node + 1 ≤ 4096 = omega (arith, s .pre .1 .1 .0, s .pre .1 .1 .1) in
+    let short : rowOn (board s) + 1 ≤ 1025 = omega (arith, room s .1) in
+    mul-le-mul few short
+
+add-first-room : tie.Need-add-first-room
+add-first-room c = search needs
+
+add-first-room-2 : tie.Need-add-first-room-2
+add-first-room-2 c = omega (arith, room (start c) .1)
+
+mul-first-room : tie.Need-mul-first-room
+mul-first-room c = omega (arith, most-lt (start c))
+
+first-room-requires : tie.Need-first-room-requires
+first-room-requires c κs = search needs
+
 walk-back-requires : tie.Need-walk-back-requires
 walk-back-requires c κs =
-    let s = start (c .before .before) in
-    ((s .pre .0 .0, s .pre .0 .1), ((s .pre .1 .0 .0, priced (c .before .before)), (s .pre .1 .1 .0, s .pre .1 .1 .1, s .pre .1 .1 .2, omega arith, s .pre .1 .1 .3, s .pre .1 .1 .4)))
+    let e = c .before .before .before in
+    let s = start e in (
+      (s .pre .0 .0, s .pre .0 .1),
+      ((s .pre .1 .0 .0, priced e), (s .pre .1 .1 .0, s .pre .1 .1 .1, s .pre .1 .1 .2, c .before .before .first-room .ensures .0, s .pre .1 .1 .3, s .pre .1 .1 .4)),
+    )
+
+-- the plan's actions behind the first walk: there are no more than the longest plan has, and the buffer is as long as it was
+walked : (w : tie.After-walk-back) → let s = start (w .before .before .before .before) in
+    (w .walk-back .result ≤ most s) × (length (w .walk-back .last .1 .1 .1 .1 .1 .1 .1 .1 .1 .1 .1 .0) ≡ length (s .args .plan .now))
+walked w =
+    let s = start (w .before .before .before .before) in
+    (subst (λ (S : ℕ). w .walk-back .result ≤ (s .args .node + 1) * (S + 1)) (sym (row s)) (w .walk-back .ensures .2), w .walk-back .kept .1 .1 .1 .1 .1 .1 .1 .1 .1 .1 .1 .0)
 
 same-length : tie.Need-same-length
 same-length c = search needs
@@ -153,20 +185,16 @@ same-length-2 c = search needs
 
 returns : tie.Need-returns
 returns c =
-    let e = c .before .before .before .before .before .before .before .before in
+    let w = c .before .before .before .before .before in
+    let f = w .before .before .before in
+    let e = f .before in
     let s = start e in
     let a = s .args in
-    let w = c .before .before .before .before .before .walk-back .ensures in
-    plan-short (a .task) (held s) (a .node) _ (ends-are e) _ (a .plan .now) _ (w .0) (w .1) (c .if1 .taken)
+    plan-short (a .task) (held s) (a .node) _ (ends-are e) (f .first-room .result) _ (a .plan .now) _ (w .walk-back .ensures .0) (w .walk-back .ensures .1)
+    (λ h. omega (arith, walked w .0, f .first-room .ensures .0, f .first-room .ensures .1 h)) (walked w .1) (c .if1 .taken)
 
-walk-back-requires-2 : tie.Need-walk-back-requires-2
-walk-back-requires-2 c κs =
-    let e = c .before .before .before .before .before .before .before .before .before .before in
-    let s = start e in
-    let kept = c .before .before .before .before .before .before .before .walk-back .kept .1 .1 .1 .1 .1 .1 .1 .1 .1 .1 .0 in (
-      (s .pre .0 .0, s .pre .0 .1),
-      ((s .pre .1 .0 .0, priced e), (s .pre .1 .1 .0, s .pre .1 .1 .1, s .pre .1 .1 .2, c .before .before .if1 .left, λ i l. omega (arith, kept, s .pre .1 .1 .3 i l), s .pre .1 .1 .4)),
-    )
+turn-round-requires : tie.Need-turn-round-requires
+turn-round-requires c κs = c .before .before .if1 .left
 
 same-length-3 : tie.Need-same-length-3
 same-length-3 c = search needs
@@ -176,13 +204,51 @@ same-length-4 c = search needs
 
 returns-2 : tie.Need-returns-2
 returns-2 c =
-    let e = c .before .before .before .before .before .before .before .before .before .before .before .before .before .before .before in
+    let w = c .before .before .before .before .before .before .before .before .before .before in
+    let f = w .before .before .before in
+    let e = f .before in
     let s = start e in
     let a = s .args in
-    let w = c .before .before .before .before .before .before .before .before .before .before .before .before .walk-back .ensures in
-    let w′ = c .before .before .before .before .walk-back2 .ensures in
-    plan-long (a .task) (held s) (a .node) _ (ends-are e) _ (a .plan .now) _ (w .0) (w .1) (c .before .before .before .before .before .before .before .if1 .left)
-    _ _ (w′ .0) (w′ .1)
+    let r = w .walk-back .result in
+    let fits : r ≤ f .first-room .result = omega (arith, walked w .0, f .first-room .ensures .1 (c .before .before .before .before .if2 .taken)) in
+    let there = laid-once (a .task) (held s) (a .node) (λ i. getD (e .goal-ends .result) i 0) (ends-are e) (f .first-room .result) r (a .plan .now) _
+    (w .walk-back .ensures .0) (w .walk-back .ensures .1) fits (f .first-room .ensures .0) in
+    plan-turned (a .task) (held s) (a .node) (λ i. getD (e .goal-ends .result) i 0) (ends-are e) r (a .plan .now) _ _
+    (w .walk-back .ensures .0) (omega (arith, fits, f .first-room .ensures .0)) there (c .before .before .turn-round .ensures)
+
+walk-back-requires-2 : tie.Need-walk-back-requires-2
+walk-back-requires-2 c κs =
+    let w = c .before .before .before .before .before .before .before .before in
+    let e = w .before .before .before .before in
+    let s = start e in
+    let kept = w .walk-back .kept .1 .1 .1 .1 .1 .1 .1 .1 .1 .1 .0 in (
+      (s .pre .0 .0, s .pre .0 .1),
+      ((s .pre .1 .0 .0, priced e), (s .pre .1 .1 .0, s .pre .1 .1 .1, s .pre .1 .1 .2, c .before .before .before .if1 .left, λ i l. omega (arith, kept, s .pre .1 .1 .3 i l), s .pre .1 .1 .4)),
+    )
+
+turn-round-requires-2 : tie.Need-turn-round-requires-2
+turn-round-requires-2 c κs = omega (arith, c .before .before .before .before .before .before .before .before .before .if1 .left, c .before .before .before .before .before .walk-back2 .kept .1 .1 .1 .1 .1 .1 .1 .1 .1 .1 .1 .0)
+
+same-length-5 : tie.Need-same-length-5
+same-length-5 c = search needs
+
+same-length-6 : tie.Need-same-length-6
+same-length-6 c = search needs
+
+returns-3 : tie.Need-returns-3
+returns-3 c =
+    let w = c .before .before .before .before .before .before .before .before .before .before .before .before .before .before .before .before .before in
+    let f = w .before .before .before in
+    let e = f .before in
+    let s = start e in
+    let a = s .args in
+    let r = w .walk-back .result in
+    let fits = c .before .before .before .before .before .before .before .before .before .before .before .before .if1 .left in
+    let none : f .first-room .result ≡ 0 = omega (arith, c .before .before .before .before .before .before .before .before .before .before .before .if2 .left) in
+    let there = laid-twice (a .task) (held s) (a .node) (λ i. getD (e .goal-ends .result) i 0) (ends-are e) (f .first-room .result) r (a .plan .now) _ _ none
+    (w .walk-back .ensures .0) (w .walk-back .ensures .1) (c .before .before .before .before .before .before .before .before .walk-back2 .ensures .1) fits in
+    plan-turned (a .task) (held s) (a .node) (λ i. getD (e .goal-ends .result) i 0) (ends-are e) r (a .plan .now) _ _
+    (w .walk-back .ensures .0) (omega (arith, fits, walked w .1)) there (c .before .before .turn-round2 .ensures)
 
 pub write-with-spec : {M : Type 1} → statement M
 write-with-spec =
@@ -200,11 +266,20 @@ write-with-spec =
     part-goal-ends-start
     part-goal-ends-end
     goal-ends-requires
+    add-first-room
+    add-first-room-2
+    mul-first-room
+    first-room-requires
     walk-back-requires
     same-length
     same-length-2
     returns
-    walk-back-requires-2
+    turn-round-requires
     same-length-3
     same-length-4
-    returns-2)
+    returns-2
+    walk-back-requires-2
+    turn-round-requires-2
+    same-length-5
+    same-length-6
+    returns-3)

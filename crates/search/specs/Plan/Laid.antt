@@ -1,38 +1,38 @@
--- A list written from its end into a lent buffer, action by action: the buffer then begins with the list. Assumes nothing.
-use mathlib.Core.Path.{_≡_, refl, ap, _∙_}
+-- A list written into a lent buffer from its front on, action by action. Assumes nothing.
+use mathlib.Core.Path.{_≡_, refl, sym, ap, _∙_}
 use mathlib.Core.Bool.{cond}
-use mathlib.Core.List.{List, [], _∷_, _++_, reverse, reverseAux, reverse-append, reverseAux-eq}
-use Prim.Native.Nat.{ℕ, suc, _+_, _-_, _≤_, _<_}
+use mathlib.Core.List.{List, [], _∷_, _++_, reverse, append-assoc, reverse-append}
+use Prim.Native.Nat.{ℕ, suc, _+_, _≤_, _<_}
 use native.Mathlib.Omega.{arith}
 use lib.Dec.{ltb}
-use lib.ListN.{length, set, drop, length-set}
-use lib.Seq.{drop-cons, getD-set-same, drop-set-lt}
+use lib.ListN.{length, set, take, drop, length-set, take-append-drop}
+use lib.Seq.{take-suc-set, drop-set-lt}
 use borrow.Author.Tests.{lt-ltb, le-ltb}
 
--- the action at distance p from the end of a plan of `total` actions; where the plan is not that long nothing is written
+-- the action at place p of a buffer of which `total` places may be written; behind them nothing is
 unfoldable pub put : ℕ → ℕ → ℕ → List ℕ → List ℕ
-put total p x plan = cond (ltb p total) (set plan (total - (p + 1)) x) plan
+put total p x plan = cond (ltb p total) (set plan p x) plan
 
--- the actions from the last to the first, the first of them at distance p from the end
+-- the actions one by one, the first of them at place p
 unfoldable pub laid : ℕ → ℕ → List ℕ → List ℕ → List ℕ
 laid total p [] plan = plan
 laid total p (x ∷ xs) plan = laid total (p + 1) xs (put total p x plan)
 
 -- ---- one action
 
--- inside the plan
-pub put-in : (total p x : ℕ) (plan : List ℕ) → p < total → put total p x plan ≡ set plan (total - (p + 1)) x
+-- inside
+pub put-in : (total p x : ℕ) (plan : List ℕ) → p < total → put total p x plan ≡ set plan p x
 unfolding put
 put-in total p x plan h = rw (lt-ltb p total h)
 
--- before its begin
+-- behind
 pub put-out : (total p x : ℕ) (plan : List ℕ) → total ≤ p → put total p x plan ≡ plan
 unfolding put
 put-out total p x plan h = rw (le-ltb p total h)
 
 -- ---- a list of actions
 
--- of a plan without actions nothing is written
+-- where no place may be written nothing is
 pub laid-none : (p : ℕ) (xs plan : List ℕ) → laid 0 p xs plan ≡ plan
 unfolding laid
 laid-none p [] plan = refl
@@ -46,24 +46,22 @@ laid-append total p (x ∷ xs) ys plan =
     let e : p + 1 + length xs ≡ p + suc (length xs) = omega arith in
     laid-append total (p + 1) xs ys (put total p x plan) ∙ ap (λ (k : ℕ). laid total k ys (laid total (p + 1) xs (put total p x plan))) e
 
--- what is set at a place is the first from there on
-drop-set : (plan : List ℕ) (n x : ℕ) → n < length plan → drop n (set plan n x) ≡ x ∷ drop (suc n) plan
-drop-set plan n x h =
-    rw (drop-cons (set plan n x) n 0 (rw length-set h), getD-set-same plan n x 0 h, drop-set-lt (suc n) plan n x (omega arith))
-
--- the rest of a plan, where p actions are written
-laid-rest : (total p : ℕ) (xs plan : List ℕ) → p + length xs ≡ total → length xs ≤ length plan
-    → laid total p xs plan ≡ reverseAux xs (drop (length xs) plan)
+-- a list that there is room for, from place p on
+laid-from : (total p : ℕ) (xs plan : List ℕ) → p + length xs ≤ total → total ≤ length plan
+    → laid total p xs plan ≡ take p plan ++ (xs ++ drop (p + length xs) plan)
 unfolding laid
-laid-rest total p [] plan e h = refl
-laid-rest total p (x ∷ xs) plan e h =
-    let q : total - (p + 1) ≡ length xs = omega arith in
-    let rest = laid-rest total (p + 1) xs (set plan (length xs) x) (omega arith) (rw length-set (omega arith)) in
-    rw (put-in total p x plan (omega arith), q, rest, drop-set plan (length xs) x h)
+laid-from total p [] plan e h = let q : p + 0 ≡ p = omega arith in rw q (sym (take-append-drop p plan))
+laid-from total p (x ∷ xs) plan e h =
+    let one : p + 1 ≡ suc p = omega arith in
+    let many : p + 1 + length xs ≡ p + suc (length xs) = omega arith in
+    let rest = laid-from total (p + 1) xs (set plan p x) (omega arith) (rw length-set h) in
+    let front = (rw (← one) at (take-suc-set plan p x (omega arith))) in
+    let back = drop-set-lt (p + 1 + length xs) plan p x (omega arith) in
+    rw (put-in total p x plan (omega arith)) (rest ∙ rw (front, back, many, append-assoc))
 
--- a whole plan
-pub laid-all : (xs plan : List ℕ) → length xs ≤ length plan → laid (length xs) 0 xs plan ≡ reverse xs ++ drop (length xs) plan
-laid-all xs plan h = laid-rest (length xs) 0 xs plan (omega arith) h ∙ reverseAux-eq xs (drop (length xs) plan)
+-- a whole list
+pub laid-all : (total : ℕ) (xs plan : List ℕ) → length xs ≤ total → total ≤ length plan → laid total 0 xs plan ≡ xs ++ drop (length xs) plan
+laid-all total xs plan e h = let z : 0 + length xs ≡ length xs = omega arith in laid-from total 0 xs plan (omega arith) h ∙ rw z
 
 -- ---- from the end
 

@@ -9,12 +9,6 @@ returns : tie.Need-returns
 unfolding put
 returns c = rw (le-ltb _ _ (c .if1 .taken))
 
-add-plan : tie.Need-add-plan
-add-plan c = search needs
-
-sub-plan : tie.Need-sub-plan
-sub-plan c = search needs
-
 slice-write-plan : tie.Need-slice-write-plan
 slice-write-plan c = search needs
 
@@ -26,4 +20,4 @@ unfolding put
 returns-2 c = rw (lt-ltb _ _ (c .if1 .left))
 
 pub put-spec : {M : Type 1} → statement M
-put-spec = tie.close (tie.spec returns add-plan sub-plan slice-write-plan same-length returns-2)
+put-spec = tie.close (tie.spec returns slice-write-plan same-length returns-2)
