@@ -1,6 +1,6 @@
 // What the search scans: chains of nodes, blocks, dominance, the choice of the next node.
+use dominance::test_row;
 use leaf::MARK;
-use rows::test_row;
 use task::Centre;
 ghost use mathlib.Core.Path.{_≡_};
 ghost use Prim.Native.Nat.{_+_, _*_, _≤_, _<_, min};

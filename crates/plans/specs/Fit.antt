@@ -17,7 +17,7 @@ use Rattle.layer.specs.Board.{Board, Fits, Sound, baseOn, rowOn, statesOn, enab
 use Rattle.layer.specs.Board.Laws.{states-on, row-on, part-on, enabled-on, pass-on}
 use Rattle.tables.specs.Tables.{Tabled}
 use Rattle.tables.specs.Fit.{boardOf, tables-fit}
-use Rattle.search.specs.Node.{Node, firstNode}
+use Rattle.search.specs.Node.{firstNode}
 use Rattle.search.specs.Explore.{Search, nodeAt}
 use Rattle.search.specs.Plan.{begins, backIn, over}
 use Rattle.search.specs.Plan.Real.{Real, node-part, begins-length, begins-cap}

@@ -17,7 +17,7 @@ use Rattle.search.specs.Plan.{Back, begins, backIn, over}
 use Rattle.search.specs.Plan.Backwards.{layerBack, statesBefore, planBack, planBack-last, planBack-more, planBack-ext}
 use Rattle.search.specs.Plan.Laid.{laid, laid-append}
 use Rattle.search.specs.Plan.Stages.{priceIn, backIn-led, over-is}
-use Rattle.plans.specs.Walk.{nodeOn, pricesOn, actsOn, beginsOn, backOn, WalkableOn, overOn, backs, LayerWalked, NodeWalked}
+use Rattle.plans.specs.Walk.{nodeOn, backOn, WalkableOn, overOn, backs, LayerWalked, NodeWalked}
 use Rattle.plans.specs.Fit.{back-short, Grounds, searchOn, node-on, inside, parent-below, prices-on, prices-length, walk-on, way-on, over-on}
 
 -- ---- the actions of a layer

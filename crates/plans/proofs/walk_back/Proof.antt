@@ -3,7 +3,7 @@ use mathlib.Core.Path.{_≡_, refl, sym, subst, _∙_}
 use Prim.Native.Nat.{ℕ, _+_, _*_, _≤_, _<_}
 use native.Mathlib.Nat.{suc-mul, mul-le-mul}
 use native.Mathlib.Omega.{arith}
-use lib.ListN.{length, getD, length-replicate}
+use lib.ListN.{length, getD}
 use borrow.Author.Needs.{needs, length-unmapped}
 use Rattle.task.specs.declared.Task.{Task}
 use Rattle.task.specs.Factors.{allStates}

@@ -1,15 +1,14 @@
--- `rows::place_by_sign` meets its contract. The invariant: the states of the bits below k are done, and `rest` holds the bits from k on. Assumes nothing.
-use mathlib.Core.Path.{_≡_, refl, sym, _∙_}
+-- `dominance::place_by_sign` meets its contract. The invariant: the states of the bits below k are done, and `rest` holds the bits from k on. Assumes nothing.
+use mathlib.Core.Path.{_≡_, sym, _∙_}
 use Prim.Native.Nat.{ℕ, _+_, _-_, _/_, _^_, _≤_, _<_}
 use native.Mathlib.Nat.{not-suc-le-zero, div-one}
 use native.Mathlib.Omega.{arith}
 use lib.ListN.{getD}
 use lib.Count.{trailingZeros, trailing-le}
-use borrow.Author.Needs.{needs}
 use Rattle.leaf.specs.Price.{mark}
 use Rattle.rows.specs.Sign.Bits.{Passed, bit-lt, rest-more, passed-more, passed-all}
-use Rattle.rows.proofs.place_by_sign.Statement.{statement}
-use Rattle.rows.proofs.place_by_sign.Tie as tie
+use Rattle.dominance.proofs.place_by_sign.Statement.{statement}
+use Rattle.dominance.proofs.place_by_sign.Tie as tie
 
 abbrev Inv-loop : tie.InvT-loop
 Inv-loop row states prices sign rest₀ k₀ rest k = (k ≤ 64) × (rest ≡ sign / 2 ^ k) × Passed states row prices k

@@ -1,12 +1,12 @@
--- `rows::place_from` meets its contract. The invariant: no price so far is higher. Assumes nothing.
+-- `dominance::place_from` meets its contract. The invariant: no price so far is higher. Assumes nothing.
 use mathlib.Core.Path.{_≡_, refl}
 use Prim.Native.Nat.{_+_, _-_, _≤_}
 use native.Mathlib.Omega.{arith}
 use borrow.Author.Needs.{needs}
 use Rattle.rows.specs.Row.{NotAbove}
 use Rattle.rows.specs.Row.Laws.{higher-more, above-at, above-none}
-use Rattle.rows.proofs.place_from.Statement.{statement}
-use Rattle.rows.proofs.place_from.Tie as tie
+use Rattle.dominance.proofs.place_from.Statement.{statement}
+use Rattle.dominance.proofs.place_from.Tie as tie
 
 abbrev Inv-loop : tie.InvT-loop
 Inv-loop row states prices from k₀ k = (k ≤ states) × NotAbove row prices k

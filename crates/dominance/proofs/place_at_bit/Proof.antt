@@ -1,9 +1,8 @@
--- `rows::place_at_bit` meets its contract. Assumes nothing.
-use native.Mathlib.Omega.{arith}
+-- `dominance::place_at_bit` meets its contract. Assumes nothing.
 use borrow.Author.Needs.{needs}
 use Rattle.rows.specs.Sign.Bits.{at-bit-found, at-bit-none}
-use Rattle.rows.proofs.place_at_bit.Statement.{statement}
-use Rattle.rows.proofs.place_at_bit.Tie as tie
+use Rattle.dominance.proofs.place_at_bit.Statement.{statement}
+use Rattle.dominance.proofs.place_at_bit.Tie as tie
 
 is-above-requires : tie.Need-is-above-requires
 is-above-requires c κs = search needs

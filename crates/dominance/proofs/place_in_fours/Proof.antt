@@ -1,14 +1,14 @@
--- `rows::place_in_fours` meets its contract. The invariant: no price so far is higher. Assumes nothing.
+-- `dominance::place_in_fours` meets its contract. The invariant: no price so far is higher. Assumes nothing.
 use mathlib.Core.Path.{_≡_, refl}
 use Prim.Native.Nat.{ℕ, _+_, _-_, _≤_}
 use native.Mathlib.Nat.{not-suc-le-zero}
 use native.Mathlib.Omega.{arith}
 use lib.ListN.{getD}
 use borrow.Author.Needs.{needs}
 use Rattle.rows.specs.Row.{NotAbove}
 use Rattle.rows.specs.Row.Laws.{higher-more}
-use Rattle.rows.proofs.place_in_fours.Statement.{statement}
-use Rattle.rows.proofs.place_in_fours.Tie as tie
+use Rattle.dominance.proofs.place_in_fours.Statement.{statement}
+use Rattle.dominance.proofs.place_in_fours.Tie as tie
 
 abbrev Inv-loop : tie.InvT-loop
 Inv-loop row states prices k₀ k = (k ≤ states) × NotAbove row prices k

@@ -1,10 +1,10 @@
--- `rows::is_above` meets its contract. Assumes nothing.
+-- `dominance::is_above` meets its contract. Assumes nothing.
 use mathlib.Core.Bool.{true≢false}
 use mathlib.Core.Path.{sym}
 use native.Mathlib.Omega.{arith}
 use borrow.Author.Needs.{needs}
-use Rattle.rows.proofs.is_above.Statement.{statement}
-use Rattle.rows.proofs.is_above.Tie as tie
+use Rattle.dominance.proofs.is_above.Statement.{statement}
+use Rattle.dominance.proofs.is_above.Tie as tie
 
 returns : tie.Need-returns
 returns c = record { yes-is = λ e. absurd (true≢false (sym e)); no-is = λ _ l. absurd (omega (arith, c .if1 .taken)) }

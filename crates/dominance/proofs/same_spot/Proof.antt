@@ -1,4 +1,4 @@
--- `rows::same_spot` meets its contract: four packs are compared, and they are the same only where all values are. Assumes nothing.
+-- `dominance::same_spot` meets its contract: four packs are compared, and they are the same only where all values are. Assumes nothing.
 use mathlib.Core.Path.{_≡_, sym, _∙_}
 use mathlib.Core.Bool.{Bool, false}
 use Prim.Native.Nat.{ℕ, _≤_}
@@ -10,11 +10,11 @@ use mir.Syntax.{w8}
 use mir.Val.{Fits}
 use Rattle.loops.specs.Count.{all}
 use Rattle.task.specs.Centre.{valueIn}
 use Rattle.rows.specs.Row.{spotOf, packOf}
 use Rattle.rows.specs.Row.Packs.{packs-same, packs-other}
 use Rattle.rows.specs.Row.Laws.{spot-lt}
-use Rattle.rows.proofs.same_spot.Statement.{statement}
-use Rattle.rows.proofs.same_spot.Tie as tie
+use Rattle.dominance.proofs.same_spot.Statement.{statement}
+use Rattle.dominance.proofs.same_spot.Tie as tie
 
 shared-slice-read-if1 : tie.Need-shared-slice-read-if1
 shared-slice-read-if1 c = search needs

@@ -1,11 +1,11 @@
--- `rows::test_row` meets its contract, by what each refusal says of the row. Assumes nothing.
+-- `dominance::test_row` meets its contract, by what each refusal says of the row. Assumes nothing.
 use mathlib.Core.Path.{_≡_}
 use native.Mathlib.Omega.{arith}
 use borrow.Author.Needs.{needs}
 use Rattle.loops.specs.Count.Laws.{told}
 use Rattle.rows.specs.Row.Laws.{test-paid, test-price, test-spot, test-found}
-use Rattle.rows.proofs.test_row.Statement.{statement}
-use Rattle.rows.proofs.test_row.Tie as tie
+use Rattle.dominance.proofs.test_row.Statement.{statement}
+use Rattle.dominance.proofs.test_row.Tie as tie
 
 shared-slice-read-if1 : tie.Need-shared-slice-read-if1
 shared-slice-read-if1 c = search needs
