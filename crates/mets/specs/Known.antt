@@ -215,25 +215,32 @@ module _ (b : Board) (c : Centre) (F vs S S₁ S₂ : List ℕ) (few : b .action
 
 -- ---- a slot among the others
 
+-- what is lent of slot s, and the known words where that is S now
+abbrev slotIn : List ℕ → ℕ → List ℕ
+slotIn K s = take (s * 576 + 576 - s * 576) (drop (s * 576) K)
+
+abbrev withSlot : List ℕ → ℕ → List ℕ → List ℕ
+withSlot K s S = take (s * 576) K ++ (S ++ drop (s * 576 + 576 - s * 576) (drop (s * 576) K))
+
 module _ (b : Board) (K : List ℕ) (k : Known b K) (few : b .actions ≤ 255) (s : ℕ) (l : s < 128) where
   -- one that holds the centre state's values
-  pub known-told : (c : Centre) → let S = take (s * 576 + 576 - s * 576) (drop (s * 576) K) in
-      (getD S 288 0 ≡ 0 → ⊥) × ((v : ℕ) → v < 32 → getD S (256 + v) 0 ≡ valueIn c v) → Told b c (λ i. getD K (s * 576 + i) 0)
+  pub known-told : (c : Centre) → (getD (slotIn K s) 288 0 ≡ 0 → ⊥) × ((v : ℕ) → v < 32 → getD (slotIn K s) (256 + v) 0 ≡ valueIn c v)
+      → Told b c (λ i. getD K (s * 576 + i) 0)
   known-told c same = k .slots s l (λ e. same .0 (at 288 (omega arith) ∙ e)) c (λ v h. sym (at (256 + v) (omega arith)) ∙ same .1 v h)
     where
-      at : (i : ℕ) → i < 576 → getD (take (s * 576 + 576 - s * 576) (drop (s * 576) K)) i 0 ≡ getD K (s * 576 + i) 0
+      at : (i : ℕ) → i < 576 → getD (slotIn K s) i 0 ≡ getD K (s * 576 + i) 0
       at i h = lent-at K (s * 576) (s * 576 + 576) i (omega arith)
 
   -- one that is filled anew
-  module _ (S : List ℕ) (long : length S ≡ length (take (s * 576 + 576 - s * 576) (drop (s * 576) K))) where
-    new : Stored (s * 576) (s * 576 + 576 - s * 576) S K (take (s * 576) K ++ (S ++ drop (s * 576 + 576 - s * 576) (drop (s * 576) K)))
+  module _ (S : List ℕ) (long : length S ≡ length (slotIn K s)) where
+    -- it stands in its place
+    new : Stored (s * 576) (s * 576 + 576 - s * 576) S K (withSlot K s S)
     new = stored-part K S (s * 576) (s * 576 + 576) (omega arith) (omega (arith, k .long)) (long ∙ simp (length-take, length-drop) (omega (arith, k .long)))
 
-    pub told-filled : (c : Centre) → Told b c (λ i. getD S i 0)
-        → Told b c (λ i. getD (take (s * 576) K ++ (S ++ drop (s * 576 + 576 - s * 576) (drop (s * 576) K))) (s * 576 + i) 0)
+    pub told-filled : (c : Centre) → Told b c (λ i. getD S i 0) → Told b c (λ i. getD (withSlot K s S) (s * 576 + i) 0)
     told-filled c t = told-ext b c _ _ few (λ i h. sym (new .inside i (omega arith))) t
 
-    pub known-filled : Slot b (λ i. getD S i 0) → Known b (take (s * 576) K ++ (S ++ drop (s * 576 + 576 - s * 576) (drop (s * 576) K)))
+    pub known-filled : Slot b (λ i. getD S i 0) → Known b (withSlot K s S)
     known-filled slot = record { long = new .long ∙ k .long; slots = λ r h. go r h (ℕ-discrete r s) }
       where
         -- outside the slot all is as it was
@@ -244,11 +251,11 @@ module _ (b : Board) (K : List ℕ) (k : Known b K) (few : b .actions ≤ 255) (
             side (yes q) = inl (omega arith)
             side (no q) = inr (let z : s < r = omega (arith, d) in omega arith)
 
-        go : (r : ℕ) → r < 128 → Dec (r ≡ s) → Slot b (λ i. getD (take (s * 576) K ++ (S ++ drop (s * 576 + 576 - s * 576) (drop (s * 576) K))) (r * 576 + i) 0)
+        go : (r : ℕ) → r < 128 → Dec (r ≡ s) → Slot b (λ i. getD (withSlot K s S) (r * 576 + i) 0)
         go r h (no d) = slot-ext b _ _ few (λ i m. sym (new .outside (r * 576 + i) (other r i d m))) (k .slots r h)
         go r h (yes e) = rw e (slot-ext b _ _ few (λ i m. sym (new .inside i (omega arith))) slot)
 
--- ---- the list of a slot is copied
+-- ---- the list of a slot, copied to the front of L, is that of the centre state
 
 pub list-copied : (b : Board) (c : Centre) (K L L′ : List ℕ) (at count : ℕ) → Told b c (λ i. getD K (at + i) 0) → count ≡ getD K (at + 289) 0
     → Stored 0 count (take (at + 320 + count - (at + 320)) (drop (at + 320) K)) L L′ → Listed (metOn b c) (b .actions) count (λ j. getD L′ j 0)

@@ -43,21 +43,8 @@ listed-ext p q n m f g tests same s =
     }
 
 -- a number more, written behind the others, which counts where the test holds for it
-module _ (p : ℕ → Bool) (n m : ℕ) (f g : ℕ → ℕ) (s : Listed p n m f) (same : (j : ℕ) → j < m → f j ≡ g j) (last : g m ≡ n) where
-  -- those that were listed
-  old-inside : (j : ℕ) → j < m → g j < n
-  old-inside j l = rw (← same j l) (s .inside j l)
-
-  old-holds : (j : ℕ) → j < m → p (g j) ≡ true
-  old-holds j l = rw (← same j l) (s .holds j l)
-
-  old-rise : (i j : ℕ) → i < j → j < m → g i < g j
-  old-rise i j h l = rw (← same i (omega arith), ← same j l) (s .rise i j h l)
-
-  old-every : (k a : ℕ) → m ≤ k → a < n → p a ≡ true → (j : ℕ) × ((j < k) × (g j ≡ a))
-  old-every k a h l e = let w = s .every a l e in (w .0, (omega (arith, w .1 .0), sym (same (w .0) (w .1 .0)) ∙ w .1 .1))
-
-  more-met : p n ≡ true → Listed p (n + 1) (m + 1) g
+module _ (p : ℕ → Bool) (n m : ℕ) (f : ℕ → ℕ) (s : Listed p n m f) (last : f m ≡ n) where
+  more-met : p n ≡ true → Listed p (n + 1) (m + 1) f
   more-met met =
       record {
         few = omega (arith, s .few);
@@ -67,40 +54,40 @@ module _ (p : ℕ → Bool) (n m : ℕ) (f g : ℕ → ℕ) (s : Listed p n m f)
         every = λ a l e. every a (below-cases (omega arith)) e;
       }
     where
-      inside : (j : ℕ) → (j < m) ⊎ (j ≡ m) → g j < n + 1
-      inside j (inl l) = omega (arith, old-inside j l)
+      inside : (j : ℕ) → (j < m) ⊎ (j ≡ m) → f j < n + 1
+      inside j (inl l) = omega (arith, s .inside j l)
       inside j (inr e) = rw (e, last) (omega arith)
 
-      holds : (j : ℕ) → (j < m) ⊎ (j ≡ m) → p (g j) ≡ true
-      holds j (inl l) = old-holds j l
+      holds : (j : ℕ) → (j < m) ⊎ (j ≡ m) → p (f j) ≡ true
+      holds j (inl l) = s .holds j l
       holds j (inr e) = rw (e, last) met
 
-      rise : (i j : ℕ) → i < j → (j < m) ⊎ (j ≡ m) → g i < g j
-      rise i j h (inl l) = old-rise i j h l
-      rise i j h (inr e) = rw (e, last) (old-inside i (omega arith))
+      rise : (i j : ℕ) → i < j → (j < m) ⊎ (j ≡ m) → f i < f j
+      rise i j h (inl l) = s .rise i j h l
+      rise i j h (inr e) = rw (e, last) (s .inside i (omega arith))
 
-      every : (a : ℕ) → (a < n) ⊎ (a ≡ n) → p a ≡ true → (j : ℕ) × ((j < m + 1) × (g j ≡ a))
-      every a (inl l) e = old-every (m + 1) a (omega arith) l e
+      every : (a : ℕ) → (a < n) ⊎ (a ≡ n) → p a ≡ true → (j : ℕ) × ((j < m + 1) × (f j ≡ a))
+      every a (inl l) e = let w = s .every a l e in (w .0, (omega (arith, w .1 .0), w .1 .1))
       every a (inr q) e = (m, (omega arith, last ∙ sym q))
 
-  more-unmet : p n ≡ false → Listed p (n + 1) m g
+  more-unmet : p n ≡ false → Listed p (n + 1) m f
   more-unmet unmet =
       record {
         few = omega (arith, s .few);
-        inside = λ j l. omega (arith, old-inside j l);
-        holds = old-holds;
-        rise = old-rise;
+        inside = λ j l. omega (arith, s .inside j l);
+        holds = s .holds;
+        rise = s .rise;
         every = λ a l e. every a (below-cases (omega arith)) e;
       }
     where
-      every : (a : ℕ) → (a < n) ⊎ (a ≡ n) → p a ≡ true → (j : ℕ) × ((j < m) × (g j ≡ a))
-      every a (inl l) e = old-every m a (omega arith) l e
-      every a (inr q) e = absurd (true≢false (sym e ∙ (rw q unmet)))
+      every : (a : ℕ) → (a < n) ⊎ (a ≡ n) → p a ≡ true → (j : ℕ) × ((j < m) × (f j ≡ a))
+      every a (inl l) e = s .every a l e
+      every a (inr q) e = absurd (true≢false (sym e ∙ rw q unmet))
 
-  pub listed-more : (k : ℕ) → k ≡ cond (p n) 1 0 → Listed p (n + 1) (m + k) g
-  listed-more k e = go (p n) e (λ t. more-met t) (λ t. more-unmet t)
+  pub listed-more : (k : ℕ) → k ≡ cond (p n) 1 0 → Listed p (n + 1) (m + k) f
+  listed-more k e = go (p n) e more-met more-unmet
     where
-      go : (t : Bool) → k ≡ cond t 1 0 → (t ≡ true → Listed p (n + 1) (m + 1) g) → (t ≡ false → Listed p (n + 1) m g) → Listed p (n + 1) (m + k) g
+      go : (t : Bool) → k ≡ cond t 1 0 → (t ≡ true → Listed p (n + 1) (m + 1) f) → (t ≡ false → Listed p (n + 1) m f) → Listed p (n + 1) (m + k) f
       go true q one none = rw q (one refl)
       go false q one none = let z : m + k ≡ m = omega arith in rw z (none refl)
 

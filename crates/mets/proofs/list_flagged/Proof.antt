@@ -73,8 +73,9 @@ loop-again c =
       omega (arith, flag c),
       length-set (l .slot) (320 + l .count) (l .a) ∙ l .inv .2,
       kept c,
-      λ p e. listed-more p (l .a) (l .count) (λ j. getD (l .slot) (320 + j) 0) (λ j. getD (turned c) (320 + j) 0) (l .inv .4 p e)
-          (λ j h. sym (getD-set-other (l .slot) (320 + l .count) (320 + j) (l .a) 0 (λ q. omega arith)))
+      λ p e. listed-more p (l .a) (l .count) (λ j. getD (turned c) (320 + j) 0)
+          (listed-ext p p (l .a) (l .count) (λ j. getD (l .slot) (320 + j) 0) _ (λ a _. refl)
+          (λ j h. sym (getD-set-other (l .slot) (320 + l .count) (320 + j) (l .a) 0 (λ q. omega arith))) (l .inv .4 p e))
           (getD-set-same (l .slot) (320 + l .count) (l .a) 0 room)
           (getD (turned c) (l .a) 0) (kept c (l .a) (omega (arith, s .pre .0)) ∙ e (l .a) inside),
     )
