@@ -100,13 +100,13 @@ pub fn still_leaves(leaves: usize, actions: usize, bases: &[usize], moves: &[u16
     stills
 }
 
-// Whether an action whose moves begin at `from` is stuck in the leaf behind i leaves: no state that is reached passes. Where `still` is not 0 it leaves
+// Whether an action whose moves begin at `from` is stuck in the leaf behind i leaves: no state that is reached passes. Where `stays` is not 0 it leaves
 // the leaf's states as they are, and they are not looked at.
 fn is_stuck_in(
     bases: &[usize],
     moves: &[u16],
     from: usize,
-    still: u8,
+    stays: u8,
     old: &[u64],
     i: usize,
 ) -> bool
@@ -114,7 +114,7 @@ fn is_stuck_in(
         × (from + getD (now bases) (i + 1) 0 ≤ length (now moves)) ⌝ }
     ensures { λ r. ⌜ (r ≡ true → StuckIn i (now (bases .entry)) (now (moves .entry)) from (now (old .entry))) ⌝ }
 {
-    if still != 0 {
+    if stays != 0 {
         return false;
     }
     let at = bases[i];

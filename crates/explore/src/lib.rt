@@ -8,8 +8,7 @@ use layer::first_layer;
 use layer::pairs_of;
 use leaf::MARK;
 use leaf::add_price;
-use mets::mets_of;
-use mets::next_met;
+use mets::list_mets;
 use nodes::choose;
 use nodes::fresh;
 use nodes::retire;
@@ -33,7 +32,7 @@ ghost use Rattle.task.specs.Valid.{Valid};
 ghost use Rattle.layer.specs.Board.{Sound, metOn};
 ghost use Rattle.layer.specs.First.{Firsts};
 ghost use Rattle.layer.specs.Lent.{boardOf};
-ghost use Rattle.mets.specs.Mets.{Mets};
+ghost use Rattle.mets.specs.Listed.{Listed};
 ghost use Rattle.mets.specs.Known.{Known};
 ghost use Rattle.edges.specs.Edges.{Edges};
 ghost use Rattle.tables.specs.Tables.{Tabled, Goals};
@@ -95,7 +94,6 @@ fn turn(
     table: &mut [u64],
     scan: &mut [u64],
     known: &mut [u8],
-    flags: &mut [u8],
     run: Run,
 ) -> Turned
     requires { ⌜ Sound (boardOf leaves actions (now bases) (now moves) (now costs) (now kinds) factors (now conditions)) ⌝ }
@@ -104,7 +102,7 @@ fn turn(
         × Edges (boardOf leaves actions (now bases) (now moves) (now costs) (now kinds) factors (now conditions)) (now edges) (now ends)
         × Known (boardOf leaves actions (now bases) (now moves) (now costs) (now kinds) factors (now conditions)) (now known)
         × (metOn (boardOf leaves actions (now bases) (now moves) (now costs) (now kinds) factors (now conditions)) spot a ≡ true)
-        × (length (now flags) ≡ 256) × Stills leaves actions (now bases) (now moves) (now stills) ⌝ }
+        × Stills leaves actions (now bases) (now moves) (now stills) ⌝ }
     requires { ⌜ (length (now effects) ≡ 8192) × (length (now goals) ≡ 1024) × (length (now old) ≡ 1024) × (length (now next) ≡ 1024) × (u < run .count) × (a < actions) ⌝ }
     requires { ⌜ sign ≡ signOf (take (getD (now bases) leaves 0) (now old)) ⌝ }
     requires { ⌜ Room (getD (now bases) leaves 0) nodes (now table) (now scan) run ⌝ }
@@ -185,12 +183,11 @@ fn turn(
         table,
         scan,
         known,
-        flags,
         run,
     )
 }
 
-// All actions of node u whose flag in `mets` is set, by rising number; the node's parts, key and signature are given.
+// All actions of node u whose centre conditions hold, which `mets` lists by rising number; the node's parts, key and signature are given.
 fn turns(
     leaves: usize,
     actions: usize,
@@ -220,7 +217,6 @@ fn turns(
     table: &mut [u64],
     scan: &mut [u64],
     known: &mut [u8],
-    flags: &mut [u8],
     run: Run,
 ) -> Turned
     requires { ⌜ Sound (boardOf leaves actions (now bases) (now moves) (now costs) (now kinds) factors (now conditions)) ⌝ }
@@ -228,8 +224,9 @@ fn turns(
         × Firsts (boardOf leaves actions (now bases) (now moves) (now costs) (now kinds) factors (now conditions)) (now firsts)
         × Edges (boardOf leaves actions (now bases) (now moves) (now costs) (now kinds) factors (now conditions)) (now edges) (now ends)
         × Known (boardOf leaves actions (now bases) (now moves) (now costs) (now kinds) factors (now conditions)) (now known)
-        × Mets (boardOf leaves actions (now bases) (now moves) (now costs) (now kinds) factors (now conditions)) spot (now mets)
-        × (length (now flags) ≡ 256) × Stills leaves actions (now bases) (now moves) (now stills) ⌝ }
+        × Listed (metOn (boardOf leaves actions (now bases) (now moves) (now costs) (now kinds) factors (now conditions)) spot) actions
+        (length (now mets)) (λ j. getD (now mets) j 0)
+        × Stills leaves actions (now bases) (now moves) (now stills) ⌝ }
     requires { ⌜ (length (now effects) ≡ 8192) × (length (now goals) ≡ 1024) × (length (now old) ≡ 1024) × (length (now next) ≡ 1024) × (u < run .count) ⌝ }
     requires { ⌜ (sign ≡ signOf (take (getD (now bases) leaves 0) (now old)))
         × Has (nodeIn (getD (now bases) leaves 0) (now table) u) spot paid (take (getD (now bases) leaves 0) (now old)) ⌝ }
@@ -243,8 +240,8 @@ fn turns(
         (now (conditions .entry))) (now (known .exit)) ⌝ }
 {
     let mut going = run;
-    let mut a = next_met(mets, 0, actions);
-    while a < actions {
+    for j in 0..mets.len() {
+        let a = mets[j] as usize;
         let r = turn(
             leaves,
             actions,
@@ -274,14 +271,12 @@ fn turns(
             table,
             scan,
             known,
-            flags,
             going,
         );
         if r.full {
             return r;
         }
         going = r.run;
-        a = next_met(mets, a + 1, actions);
     }
     Turned {
         full: false,
@@ -289,7 +284,7 @@ fn turns(
     }
 }
 
-// All actions of node u, whose key is given, by rising number; `old`, `next`, `flags` and `mets` are room to work in.
+// All actions of node u, whose key is given, by rising number; `old`, `next` and `mets` are room to work in.
 fn expand(
     leaves: usize,
     actions: usize,
@@ -313,7 +308,6 @@ fn expand(
     table: &mut [u64],
     scan: &mut [u64],
     known: &mut [u8],
-    flags: &mut [u8],
     mets: &mut [u8],
     old: &mut [u64],
     next: &mut [u64],
@@ -324,7 +318,7 @@ fn expand(
         × Firsts (boardOf leaves actions (now bases) (now moves) (now costs) (now kinds) factors (now conditions)) (now firsts)
         × Edges (boardOf leaves actions (now bases) (now moves) (now costs) (now kinds) factors (now conditions)) (now edges) (now ends)
         × Known (boardOf leaves actions (now bases) (now moves) (now costs) (now kinds) factors (now conditions)) (now known)
-        × (length (now flags) ≡ 256) × (length (now mets) ≡ 256) × Stills leaves actions (now bases) (now moves) (now stills) ⌝ }
+        × (length (now mets) ≡ 256) × Stills leaves actions (now bases) (now moves) (now stills) ⌝ }
     requires { ⌜ (length (now effects) ≡ 8192) × (length (now goals) ≡ 1024) × (u < run .count) ⌝ }
     requires { ⌜ Room (getD (now bases) leaves 0) nodes (now table) (now scan) run ⌝ }
     requires { ⌜ (length (now old) ≡ 1024) × (length (now next) ≡ 1024) ⌝ }
@@ -344,7 +338,7 @@ fn expand(
     let paid = table[at + 32];
     copy_words(&table[at + 40..end], old, states);
     let sign = scan[4096 + u];
-    mets_of(
+    let many = list_mets(
         actions,
         firsts,
         factors,
@@ -376,14 +370,13 @@ fn expand(
         paid,
         key,
         sign,
-        &mets[..],
+        &mets[..many],
         &old[..],
         u,
         next,
         table,
         scan,
         known,
-        flags,
         run,
     )
 }
@@ -480,7 +473,6 @@ fn next_round(
     table: &mut [u64],
     scan: &mut [u64],
     known: &mut [u8],
-    flags: &mut [u8],
     mets: &mut [u8],
     old: &mut [u64],
     next: &mut [u64],
@@ -491,7 +483,7 @@ fn next_round(
         × Firsts (boardOf leaves actions (now bases) (now moves) (now costs) (now kinds) factors (now conditions)) (now firsts)
         × Edges (boardOf leaves actions (now bases) (now moves) (now costs) (now kinds) factors (now conditions)) (now edges) (now ends)
         × Known (boardOf leaves actions (now bases) (now moves) (now costs) (now kinds) factors (now conditions)) (now known)
-        × (length (now flags) ≡ 256) × (length (now mets) ≡ 256) × Stills leaves actions (now bases) (now moves) (now stills) ⌝ }
+        × (length (now mets) ≡ 256) × Stills leaves actions (now bases) (now moves) (now stills) ⌝ }
     requires { ⌜ (length (now effects) ≡ 8192) × (length (now goals) ≡ 1024) × (run .begun ≤ 4096) ⌝ }
     requires { ⌜ Room (getD (now bases) leaves 0) nodes (now table) (now scan) run ⌝ }
     requires { ⌜ (length (now old) ≡ 1024) × (length (now next) ≡ 1024) ⌝ }
@@ -547,7 +539,6 @@ fn next_round(
         table,
         scan,
         known,
-        flags,
         mets,
         old,
         next,
@@ -598,8 +589,7 @@ pub fn explore(
     let stills = still_leaves(leaves, actions, bases, moves);
     let firsts = first_conditions(factors, &conditions, actions);
     let mut run = start(task, bases, moves, costs, kinds, starts, goals, table, scan);
-    let mut known = [0u8; 40960];
-    let mut flags = [0u8; 256];
+    let mut known = [0u8; 73728];
     let mut mets = [0u8; 256];
     let mut old = [MARK; 1024];
     let mut next = [MARK; 1024];
@@ -626,7 +616,6 @@ pub fn explore(
             table,
             scan,
             &mut known,
-            &mut flags,
             &mut mets,
             &mut old,
             &mut next,

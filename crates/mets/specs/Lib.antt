@@ -1,2 +1,3 @@
 pub mod Mets
+pub mod Listed
 pub mod Known

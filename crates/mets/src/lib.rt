@@ -1,16 +1,18 @@
 // Which actions' centre conditions hold in a centre state, found once for each of the centre states met lately.
 //
-// The known words are 128 slots of 320 bytes: a flag for each of 256 actions, the 32 values of the centre state, and 1 once the slot is filled. A
-// centre state has its slot by its class; the last one that came to a slot stands there.
+// The known words are 128 slots of 576 bytes: a flag for each of 256 actions, the 32 values of the centre state, at 288 a 1 once the slot is filled, at 289
+// how many actions are listed, and from 320 on those whose flag is set, by rising number. A centre state has its slot by its class; the last one that came
+// to a slot stands there.
 use layer::met_by;
 use task::Centre;
 ghost use mathlib.Core.Path.{_≡_};
-ghost use mathlib.Core.Bool.{cond, true};
-ghost use Prim.Native.Nat.{ℕ, _+_, _*_, _≤_, _<_};
+ghost use mathlib.Core.Bool.{Bool, cond, true};
+ghost use Prim.Native.Nat.{ℕ, _+_, _≤_, _<_};
 ghost use lib.ListN.{length, getD};
+ghost use Rattle.layer.specs.Board.{metOn};
 ghost use Rattle.layer.specs.First.{Firsts, asksOf};
-ghost use Rattle.mets.specs.Mets.{Mets};
-ghost use Rattle.mets.specs.Known.{Known, Stored, Flagged};
+ghost use Rattle.mets.specs.Listed.{Listed};
+ghost use Rattle.mets.specs.Known.{Flagged, Stored, Told, Slot, Known};
 
 // The first `count` bytes of `from`, in `into` from `at` on.
 fn store(from: &[u8], into: &mut [u8], at: usize, count: usize)
@@ -51,18 +53,34 @@ fn find(
     }
 }
 
-// Whether a slot, which begins at `at`, is filled with what holds in the centre state of these values. All are compared: without a branch that is quicker.
-fn is_known(known: &[u8], at: usize, values: &[u8]) -> bool
-    requires { ⌜ (at + 320 ≤ length (now known)) × (length (now values) ≡ 32) ⌝ }
-    ensures { λ r. ⌜ (r ≡ true → (getD (now (known .entry)) (at + 288) 0 ≡ 0 → ⊥)
-        × ((v : ℕ) → v < 32 → getD (now (known .entry)) (at + 256 + v) 0 ≡ getD (now (values .entry)) v 0)) ⌝ }
+// The actions whose flag is set are listed in the slot, by rising number. Each is written at the end of the list, which grows by its flag: without a branch
+// that is quicker.
+fn list_flagged(actions: usize, slot: &mut [u8])
+    requires { ⌜ (actions ≤ 255) × (length (now slot) ≡ 576) × ((a : ℕ) → a < actions → getD (now slot) a 0 ≤ 1) ⌝ }
+    ensures { λ _. ⌜ ((i : ℕ) → i < 289 → getD (now (slot .exit)) i 0 ≡ getD (now (slot .entry)) i 0)
+        × ((p : ℕ → Bool) → ((a : ℕ) → a < actions → getD (now (slot .entry)) a 0 ≡ cond (p a) 1 0)
+        → Listed p actions (getD (now (slot .exit)) 289 0) (λ j. getD (now (slot .exit)) (320 + j) 0)) ⌝ }
 {
-    if known[at + 288] == 0 {
+    let mut count: usize = 0;
+    for a in 0..actions {
+        slot[320 + count] = a as u8;
+        count += slot[a] as usize;
+    }
+    slot[289] = count as u8;
+}
+
+// Whether a slot is filled with what holds in the centre state of these values. All are compared: without a branch that is quicker.
+fn is_known(slot: &[u8], values: &[u8]) -> bool
+    requires { ⌜ (length (now slot) ≡ 576) × (length (now values) ≡ 32) ⌝ }
+    ensures { λ r. ⌜ (r ≡ true → (getD (now (slot .entry)) 288 0 ≡ 0 → ⊥)
+        × ((v : ℕ) → v < 32 → getD (now (slot .entry)) (256 + v) 0 ≡ getD (now (values .entry)) v 0)) ⌝ }
+{
+    if slot[288] == 0 {
         return false;
     }
     let mut same = true;
     for v in 0..32 {
-        same = same & (known[at + 256 + v] == values[v]);
+        same = same & (slot[256 + v] == values[v]);
     }
     same
 }
@@ -75,33 +93,37 @@ fn slot_of(class: usize) -> usize
     (class % 128 + class / 128 * 11) % 128
 }
 
-// The flags are found, and stand in a slot from now on.
-fn learn(
+// A slot is filled with what holds in a centre state, whose values are given.
+fn fill(
     actions: usize,
     firsts: &[u8],
     values: &[u8],
     factors: [u8; 32],
     conditions: &[u8],
     centre: Centre,
-    slot: usize,
-    known: &mut [u8],
-    flags: &mut [u8],
+    slot: &mut [u8],
 )
     requires { ⌜ (actions ≤ 255) × (length (now conditions) ≡ 8192) × Firsts (asksOf actions factors (now conditions)) (now firsts)
-        × (slot < 128) × (length (now flags) ≡ 256) × Known (asksOf actions factors (now conditions)) (now known)
-        × (now values ≡ centre .values) × (length (now values) ≡ 32) ⌝ }
-    ensures { λ _. ⌜ Known (asksOf actions factors (now (conditions .entry))) (now (known .exit))
-        × Mets (asksOf actions factors (now (conditions .entry))) centre (now (flags .exit)) ⌝ }
+        × (length (now slot) ≡ 576) × (now values ≡ centre .values) × (length (now values) ≡ 32) ⌝ }
+    ensures { λ _. ⌜ Slot (asksOf actions factors (now (conditions .entry))) (λ i. getD (now (slot .exit)) i 0)
+        × Told (asksOf actions factors (now (conditions .entry))) centre (λ i. getD (now (slot .exit)) i 0) ⌝ }
 {
-    find(actions, firsts, values, factors, conditions, centre, flags);
-    let at = slot * 320;
-    store(flags, known, at, 256);
-    store(values, known, at + 256, 32);
-    known[at + 288] = 1;
+    find(
+        actions,
+        firsts,
+        values,
+        factors,
+        conditions,
+        centre,
+        &mut slot[0..256],
+    );
+    store(values, slot, 256, 32);
+    slot[288] = 1;
+    list_flagged(actions, slot);
 }
 
-// The flags of all actions in a centre state of this class, in `flags`.
-pub fn mets_of(
+// Where the slot begins that holds what is known of a centre state of this class; it is filled where it holds another.
+pub fn slot_for(
     actions: usize,
     firsts: &[u8],
     factors: [u8; 32],
@@ -109,43 +131,50 @@ pub fn mets_of(
     centre: Centre,
     class: usize,
     known: &mut [u8],
-    flags: &mut [u8],
-)
+) -> usize
     requires { ⌜ (actions ≤ 255) × (length (now conditions) ≡ 8192) × Firsts (asksOf actions factors (now conditions)) (now firsts)
-        × (class < 4096) × (length (now flags) ≡ 256) × Known (asksOf actions factors (now conditions)) (now known) ⌝ }
-    ensures { λ _. ⌜ Known (asksOf actions factors (now (conditions .entry))) (now (known .exit))
-        × Mets (asksOf actions factors (now (conditions .entry))) centre (now (flags .exit)) ⌝ }
+        × (class < 4096) × Known (asksOf actions factors (now conditions)) (now known) ⌝ }
+    ensures { λ r. ⌜ (r + 576 ≤ 73728) × Known (asksOf actions factors (now (conditions .entry))) (now (known .exit))
+        × Told (asksOf actions factors (now (conditions .entry))) centre (λ i. getD (now (known .exit)) (r + i) 0) ⌝ }
 {
     let values = centre.values;
-    let slot = slot_of(class);
-    let at = slot * 320;
-    if is_known(known, at, &values) {
-        store(&known[at..at + 256], flags, 0, 256);
-        return;
+    let at = slot_of(class) * 576;
+    let end = at + 576;
+    if is_known(&known[at..end], &values) {
+        return at;
     }
-    learn(
+    fill(
         actions,
         firsts,
         &values,
         factors,
         conditions,
         centre,
-        slot,
-        known,
-        flags,
+        &mut known[at..end],
     );
+    at
 }
 
-// The first action from `from` on whose flag is not 0; `actions` where there is none.
-pub fn next_met(flags: &[u8], from: usize, actions: usize) -> usize
-    requires { ⌜ (from ≤ actions) × (actions ≤ length (now flags)) ⌝ }
-    ensures { λ r. ⌜ (from ≤ r) × (r ≤ actions) × ((a : ℕ) → from ≤ a → a < r → getD (now (flags .entry)) a 0 ≡ 0)
-        × (r < actions → getD (now (flags .entry)) r 0 ≡ 0 → ⊥) ⌝ }
+// The actions whose centre conditions hold in a centre state of this class, by rising number, at the front of `list`: how many.
+pub fn list_mets(
+    actions: usize,
+    firsts: &[u8],
+    factors: [u8; 32],
+    conditions: &[u8],
+    centre: Centre,
+    class: usize,
+    known: &mut [u8],
+    list: &mut [u8],
+) -> usize
+    requires { ⌜ (actions ≤ 255) × (length (now conditions) ≡ 8192) × Firsts (asksOf actions factors (now conditions)) (now firsts)
+        × (class < 4096) × (length (now list) ≡ 256) × Known (asksOf actions factors (now conditions)) (now known) ⌝ }
+    ensures { λ r. ⌜ Known (asksOf actions factors (now (conditions .entry))) (now (known .exit)) × (r ≤ 256)
+        × Listed (metOn (asksOf actions factors (now (conditions .entry))) centre) actions r (λ j. getD (now (list .exit)) j 0) ⌝ }
 {
-    for a in from..actions {
-        if flags[a] != 0 {
-            return a;
-        }
-    }
-    actions
+    let at = slot_for(actions, firsts, factors, conditions, centre, class, known);
+    let count = known[at + 289] as usize;
+    let from = at + 320;
+    let end = from + count;
+    store(&known[from..end], list, 0, count);
+    count
 }

@@ -1,5 +1,5 @@
 // A successor is offered to the search that the lent table holds: dropped, refused for a full table, or settled and kept.
-use mets::mets_of;
+use mets::slot_for;
 use nodes::is_dominated;
 use nodes::link;
 use rows::class_of;
@@ -113,7 +113,7 @@ pub fn keep(
     }
 }
 
-// A layer's begin settles; `spot` is its centre state, of this class. `flags` is room to work in. Whether a leaf was swept: else all is as it was.
+// A layer's begin settles; `spot` is its centre state, of this class. Whether a leaf was swept: else all is as it was.
 fn settle_begin(
     leaves: usize,
     actions: usize,
@@ -130,29 +130,20 @@ fn settle_begin(
     class: usize,
     begin: &mut [u64],
     known: &mut [u8],
-    flags: &mut [u8],
 ) -> bool
     requires { ⌜ Sound (boardOf leaves actions (now bases) (now moves) (now costs) (now kinds) factors (now conditions)) ⌝ }
     requires { ⌜ Firsts (boardOf leaves actions (now bases) (now moves) (now costs) (now kinds) factors (now conditions)) (now firsts)
         × Edges (boardOf leaves actions (now bases) (now moves) (now costs) (now kinds) factors (now conditions)) (now edges) (now ends)
         × Known (boardOf leaves actions (now bases) (now moves) (now costs) (now kinds) factors (now conditions)) (now known)
-        × (class < 4096) × (length (now flags) ≡ 256) × (getD (now bases) leaves 0 ≤ length (now begin)) ⌝ }
+        × (class < 4096) × (getD (now bases) leaves 0 ≤ length (now begin)) ⌝ }
     ensures { λ r. ⌜ (now (begin .exit) ≡ settledOn (boardOf leaves actions (now (bases .entry)) (now (moves .entry)) (now (costs .entry)) (now (kinds .entry)) factors
         (now (conditions .entry))) spot (now (begin .entry)) ++ drop (getD (now (bases .entry)) leaves 0) (now (begin .entry)))
         × Known (boardOf leaves actions (now (bases .entry)) (now (moves .entry)) (now (costs .entry)) (now (kinds .entry)) factors
         (now (conditions .entry))) (now (known .exit))
         × (r ≡ false → now (begin .exit) ≡ now (begin .entry)) ⌝ }
 {
-    mets_of(
-        actions,
-        firsts,
-        factors,
-        conditions,
-        spot,
-        class,
-        known,
-        flags,
-    );
+    let slot = slot_for(actions, firsts, factors, conditions, spot, class, known);
+    let end = slot + 256;
     settle_edges(
         leaves,
         actions,
@@ -162,7 +153,7 @@ fn settle_begin(
         kinds,
         factors,
         conditions,
-        &flags[..],
+        &known[slot..end],
         edges,
         ends,
         spot,
@@ -219,14 +210,12 @@ pub fn offer(
     table: &mut [u64],
     scan: &mut [u64],
     known: &mut [u8],
-    flags: &mut [u8],
     run: Run,
 ) -> Turned
     requires { ⌜ Sound (boardOf leaves actions (now bases) (now moves) (now costs) (now kinds) factors (now conditions)) ⌝ }
     requires { ⌜ Firsts (boardOf leaves actions (now bases) (now moves) (now costs) (now kinds) factors (now conditions)) (now firsts)
         × Edges (boardOf leaves actions (now bases) (now moves) (now costs) (now kinds) factors (now conditions)) (now edges) (now ends)
-        × Known (boardOf leaves actions (now bases) (now moves) (now costs) (now kinds) factors (now conditions)) (now known)
-        × (length (now flags) ≡ 256) ⌝ }
+        × Known (boardOf leaves actions (now bases) (now moves) (now costs) (now kinds) factors (now conditions)) (now known) ⌝ }
     requires { ⌜ Cut leaves (now bases) (length (now begin)) × Cut leaves (now bases) (length (now goals)) ⌝ }
     requires { ⌜ (sign ≡ signOf (take (getD (now bases) leaves 0) (begunWords still (getD (now bases) leaves 0) (now old) (now begin))))
         × (getD (now bases) leaves 0 ≤ length (now old)) ⌝ }
@@ -277,7 +266,6 @@ pub fn offer(
         class,
         begin,
         known,
-        flags,
     );
     let more = keep(
         leaves,

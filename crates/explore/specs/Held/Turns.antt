@@ -22,7 +22,7 @@ use Rattle.layer.specs.Layer.Laws.{next-length}
 use Rattle.layer.specs.Layer.Front.{part-front, applies-front, after-list}
 use Rattle.layer.specs.Board.{Board, rowOn, metOn, beginOn, settledOn, appliesOn}
 use Rattle.layer.specs.Board.Laws.{joined-ext, row-on, met-on, applies-on}
-use Rattle.mets.specs.Mets.{Mets}
+use Rattle.mets.specs.Listed.{Listed, past, past-next, past-end, listed-gap}
 use Rattle.search.specs.Node.{Node, nextNode, key}
 use Rattle.search.specs.Made.{Made, made-next}
 use Rattle.search.specs.Small.{made-key, made-paid}
@@ -399,11 +399,21 @@ module _ (b : Board) (effects goals goalPairs : List ℕ) (nodes u opens : ℕ) 
         moved (yes k) = moved-unmet b effects goals goalPairs nodes spot paid old opens u a T O r few (l .room .count-few) known inside k false (sym e) refl
         moved (no k) = moved-leaf b effects goals goalPairs nodes spot paid old opens u a T O r few (l .room .count-few) known inside k
 
-    module _ (flags : List ℕ) (mets : Mets b spot flags) where
-      -- up to the next action whose flag is set
-      pub passed-skip : (a n : ℕ) → a ≤ n → n ≤ b .actions → ((i : ℕ) → a ≤ i → i < n → getD flags i 0 ≡ 0) → Passed T O r a → Passed T O r n
-      passed-skip a n h m e l =
-          climb (Passed T O r) a n h (λ i p q x. let known = lt-of-lt-of-le q m in passed-unmet i known (mets .unmet i known (e i p q)) x) l
+    passed-skip : (a n : ℕ) → a ≤ n → n ≤ b .actions → ((i : ℕ) → a ≤ i → i < n → metOn b spot i ≡ false) → Passed T O r a → Passed T O r n
+    passed-skip a n h m e l = climb (Passed T O r) a n h (λ i p q x. passed-unmet i (lt-of-lt-of-le q m) (e i p q) x) l
+
+    -- where all actions whose conditions hold are listed: up to the next of them, and behind the last
+    module _ (acts : List ℕ) (listed : Listed (metOn b spot) (b .actions) (length acts) (λ j. getD acts j 0)) where
+      pub passed-next : (j : ℕ) → j < length acts → Passed T O r (past (λ i. getD acts i 0) j) → Passed T O r (getD acts j 0)
+      passed-next j l =
+          let inside = listed .inside j l in
+          passed-skip _ _ (past-next _ _ _ _ listed j l) (omega (arith, inside))
+          (λ i p q. listed-gap _ _ _ _ listed j i (omega arith) (omega (arith, inside)) p (λ _. q))
+
+      pub passed-last : Passed T O r (past (λ i. getD acts i 0) (length acts)) → Passed T O r (b .actions)
+      passed-last =
+          passed-skip _ _ (past-end _ _ _ _ listed (length acts) (omega arith)) (omega arith)
+          (λ i p q. listed-gap _ _ _ _ listed (length acts) i (omega arith) q p (λ h. absurd (omega (arith, h))))
 
   -- behind the last action
   pub passed-all : (T O : List ℕ) (r : Run) (a : ℕ) → b .actions ≤ a → Passed T O r a

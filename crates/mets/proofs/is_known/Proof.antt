@@ -13,13 +13,10 @@ use Rattle.mets.proofs.is_known.Statement.{statement}
 use Rattle.mets.proofs.is_known.Tie as tie
 
 abbrev Inv-loop : tie.InvT-loop
-Inv-loop known at values same₀ v₀ same v = (v ≤ 32) × (same ≡ true → (k : ℕ) → k < v → getD known (at + 256 + k) 0 ≡ getD values k 0)
+Inv-loop slot values same₀ v₀ same v = (v ≤ 32) × (same ≡ true → (k : ℕ) → k < v → getD slot (256 + k) 0 ≡ getD values k 0)
 
 abbrev μ-loop : tie.MeasureT-loop
-μ-loop known at values same₀ v₀ same v = 32 - v
-
-add-if1 : tie.Need-add-if1 Inv-loop μ-loop
-add-if1 c = search needs
+μ-loop slot values same₀ v₀ same v = 32 - v
 
 shared-slice-read-if1 : tie.Need-shared-slice-read-if1 Inv-loop μ-loop
 shared-slice-read-if1 c = search needs
@@ -32,9 +29,6 @@ loop-holds c = (omega arith, λ e k l. absurd (not-suc-le-zero l))
 
 add-same : tie.Need-add-same Inv-loop μ-loop
 add-same c = search needs
-
-add-same-2 : tie.Need-add-same-2 Inv-loop μ-loop
-add-same-2 c = search needs
 
 shared-slice-read-same : tie.Need-shared-slice-read-same Inv-loop μ-loop
 shared-slice-read-same c = search needs
@@ -62,12 +56,10 @@ is-known-spec =
     (tie.spec
     Inv-loop
     μ-loop
-    add-if1
     shared-slice-read-if1
     returns
     loop-holds
     add-same
-    add-same-2
     shared-slice-read-same
     shared-slice-read-same-2
     add-v

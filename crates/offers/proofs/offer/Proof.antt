@@ -42,7 +42,7 @@ shared-slice-read-states c = search needs
 
 returns : tie.Need-returns
 returns c =
-    let s = c .before .before .before .before .before .before .before .before .before .before .before .before .before .before .before .before .before .before in
+    let s = c .before .before .before .before .before .before .before .before .before .before .before .before .before .before .before .before .before in
     let a = s .args in (
       offered-above (board s) (now (a .goals)) (a .goal) (a .nodes) (now (a .table)) (now (a .scan)) (a .run)
           (a .spot) (a .paid) (begun s) (a .parent) (a .action) (s .pre .1 .1 .1 .1 .few-nodes) (s .pre .1 .1 .1 .1 .count-few)
@@ -58,7 +58,7 @@ read-from-requires c κs = search needs
 
 -- where the function starts
 abbrev from-read : tie.After-read-from → tie.Start
-from-read c = c .before .before .before .before .before .before .before .before .before .before .before .before .before .before .before .before .before .before .before .before .before .before .before
+from-read c = c .before .before .before .before .before .before .before .before .before .before .before .before .before .before .before .before .before .before .before .before .before .before
 
 -- what is read are the begin's prices
 read-is : (c : tie.After-read-from) → let s = from-read c in take (rowOn (board s)) (now (c .read-from .result)) ≡ take (rowOn (board s)) (begun s)
@@ -137,18 +137,18 @@ filled c = c .fill-begin .kept .1 .0
 
 settle-begin-requires : tie.Need-settle-begin-requires
 settle-begin-requires c κs =
-    let f = c .before .before .before .before .before in
+    let f = c .before .before .before .before in
     let s = from-read (f .before .before .before .before .before .before .before) in
-    (s .pre .0, (s .pre .1 .0 .0, s .pre .1 .0 .1, s .pre .1 .0 .2, omega (arith, class-lt (s .args .spot), c .before .before .before .before .before .before .before .before .before .before .before .before .before .before .before .before .class-of .ensures), s .pre .1 .0 .3, omega (arith, filled f, s .pre .1 .1 .0 .0 .fits)))
+    (s .pre .0, (s .pre .1 .0 .0, s .pre .1 .0 .1, s .pre .1 .0 .2, omega (arith, class-lt (s .args .spot), c .before .before .before .before .before .before .before .before .before .before .before .before .before .before .before .class-of .ensures), omega (arith, filled f, s .pre .1 .1 .0 .0 .fits)))
 
 keep-requires : tie.Need-keep-requires
 keep-requires c κs =
-    let n = c .before .before .before .before .before .before .before .before .before .settle-begin in
-    let f = c .before .before .before .before .before .before .before .before .before .before .before .before .before .before .before in
-    let d = c .before .before .before .before .before .before .before .before .before .before .before .before .before .before .before .before .before .before .before .before .before in
+    let n = c .before .before .before .before .before .before .before .settle-begin in
+    let f = c .before .before .before .before .before .before .before .before .before .before .before .before in
+    let d = c .before .before .before .before .before .before .before .before .before .before .before .before .before .before .before .before .before .before in
     let s = from-read (d .before) in
     let room = s .pre .1 .1 .1 .1 in
-    let left = c .before .before .before .before .before .before .before .before .before .before .before .before .before .before .before .before .before .if3 .left in
+    let left = c .before .before .before .before .before .before .before .before .before .before .before .before .before .before .if3 .left in
     let new = n .last .1 .1 .1 .1 .1 .1 .1 .1 .1 .1 .1 .1 .1 .0 in
     let kept : length new ≡ length (f .fill-begin .last .1 .0) = n .kept .1 .1 .1 .1 .1 .1 .1 .1 .1 .1 .1 .1 .1 .0 in
     let fits = s .pre .1 .1 .0 .0 .fits in
@@ -168,7 +168,7 @@ same-length-8 c = search needs
 
 same-length-9 : tie.Need-same-length-9
 same-length-9 c =
-    let d = c .before .before .before .before .before .before .before .before .before .before .before .before .before .before .before .before .before .before .before .before .before .before .before .before .before .before in
+    let d = c .before .before .before .before .before .before .before .before .before .before .before .before .before .before .before .before .before .before .before .before .before .before .before in
     let w = c .before .before .before .before .keep in
     let kept : length (w .last .1 .1 .1 .1 .1 .1 .1 .1 .1 .1 .1 .1 .1 .1 .0) ≡ length (words d) = w .kept .1 .1 .1 .1 .1 .1 .1 .1 .1 .1 .1 .1 .1 .1 .0 in
     kept ∙ d .is-dominated .kept .1 .1 .1 .0
@@ -176,20 +176,17 @@ same-length-9 c =
 same-length-10 : tie.Need-same-length-10
 same-length-10 c = search needs
 
-same-length-11 : tie.Need-same-length-11
-same-length-11 c = search needs
-
 returns-4 : tie.Need-returns-4
 returns-4 c =
     let w = c .before .before .before .before .keep in
-    let n = c .before .before .before .before .before .before .before .before .before .before .before .before .before .before .settle-begin in
-    let f = c .before .before .before .before .before .before .before .before .before .before .before .before .before .before .before .before .before .before .before .before .fill-begin in
-    let d = c .before .before .before .before .before .before .before .before .before .before .before .before .before .before .before .before .before .before .before .before .before .before .before .before .before .before in
+    let n = c .before .before .before .before .before .before .before .before .before .before .before .before .settle-begin in
+    let f = c .before .before .before .before .before .before .before .before .before .before .before .before .before .before .before .before .before .fill-begin in
+    let d = c .before .before .before .before .before .before .before .before .before .before .before .before .before .before .before .before .before .before .before .before .before .before .before in
     let s = from-read (d .before) in
     let a = s .args in (
       offered-kept (board s) (now (a .goals)) (a .goal) (a .nodes) (now (a .table)) (now (a .scan)) (a .run)
           (a .spot) (a .paid) (begun s) (a .parent) (a .action) (s .pre .1 .1 .1 .1 .few-nodes) (s .pre .1 .1 .1 .1 .count-few)
-          (a .key) (c .before .before .before .before .before .before .before .before .before .before .before .before .before .before .before .before .before .before .before .before .before .before .before .before .before .before .before .before .before .before .before .before .if1 .left) (d .is-dominated .result) (found-is d) (words d) (d .is-dominated .ensures .1) (c .before .before .before .before .before .before .before .before .before .before .before .before .before .before .before .before .before .before .before .before .before .before .before .if2 .left) (c .before .before .before .before .before .before .before .before .before .before .before .before .before .before .before .before .before .before .before .before .before .before .if3 .left)
+          (a .key) (c .before .before .before .before .before .before .before .before .before .before .before .before .before .before .before .before .before .before .before .before .before .before .before .before .before .before .before .before .before .if1 .left) (d .is-dominated .result) (found-is d) (words d) (d .is-dominated .ensures .1) (c .before .before .before .before .before .before .before .before .before .before .before .before .before .before .before .before .before .before .before .before .if2 .left) (c .before .before .before .before .before .before .before .before .before .before .before .before .before .before .before .before .before .before .before .if3 .left)
           (s .pre .1 .1 .1 .1 .scan-long) (n .last .1 .1 .1 .1 .1 .1 .1 .1 .1 .1 .1 .1 .1 .0) (rw (f .ensures) at (n .ensures .0)) (w .last .1 .1 .1 .1 .1 .1 .1 .1 .1 .1 .1 .1 .1 .0) (w .last .1 .1 .1 .1 .1 .1 .1 .1 .1 .1 .1 .1 .1 .1 .0) (w .result) (w .ensures),
       n .ensures .1,
     )
@@ -219,5 +216,4 @@ offer-spec =
     same-length-8
     same-length-9
     same-length-10
-    same-length-11
     returns-4)
