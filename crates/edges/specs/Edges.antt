@@ -14,9 +14,26 @@ unfoldable pub those : (ℕ → Bool) → ℕ → List ℕ
 those p zero = []
 those p (suc a) = cond (p a) (those p a ++ (a ∷ [])) (those p a)
 
--- whether action a is a leaf action of the leaf behind i leaves and moves state s, counted over all leaves; an action has `row` moves
+-- of the first n entries of a list, those that pass a test, in their order
+unfoldable pub picked : (ℕ → Bool) → List ℕ → ℕ → List ℕ
+picked p xs zero = []
+picked p xs (suc j) = cond (p (getD xs j 0)) (picked p xs j ++ (getD xs j 0 ∷ [])) (picked p xs j)
+
+-- whether action a is a leaf action of the leaf behind i leaves
+abbrev pub ofLeaf : List ℕ → ℕ → ℕ → Bool
+ofLeaf kinds i a = eqb (getD kinds a 0) (i + 1)
+
+-- whether action a moves state s, counted over all leaves; an action has `row` moves
+abbrev pub movedBy : List ℕ → ℕ → ℕ → ℕ → Bool
+movedBy moves row s a = not (eqb (getD moves (a * row + s) 0) 0)
+
+-- whether action a is a leaf action of the leaf behind i leaves and moves state s
 abbrev pub edgeBy : List ℕ → ℕ → List ℕ → ℕ → ℕ → ℕ → Bool
-edgeBy moves row kinds i s a = eqb (getD kinds a 0) (i + 1) && not (eqb (getD moves (a * row + s) 0) 0)
+edgeBy moves row kinds i s a = ofLeaf kinds i a && movedBy moves row s a
+
+-- the edges of state s, where the actions of its leaf are listed
+abbrev pub edgesIn : List ℕ → ℕ → List ℕ → ℕ → List ℕ
+edgesIn moves row own s = picked (movedBy moves row s) own (length own)
 
 -- ---- the table
 

@@ -1,131 +1,54 @@
--- `edges::fill_leaf` meets its contract. The invariant: the table has the edges of the states below s. Assumes nothing.
-use mathlib.Core.Path.{_≡_, refl, _∙_}
-use Prim.Native.Nat.{_-_, _≤_, _<_}
-use native.Mathlib.Nat.{le-antisymm}
+-- `edges::fill_leaf` meets its contract: what is lent on is the front of the list, the leaf's actions. Assumes nothing.
+use mathlib.Core.Path.{_≡_}
 use native.Mathlib.Omega.{arith}
-use lib.ListN.{length}
+use lib.ListN.{length, take, length-take}
 use borrow.Author.Needs.{needs}
-use Rattle.layer.specs.Board.{Board, rowOn}
-use Rattle.layer.specs.Board.Turns.{base-in, row-in}
-use Rattle.layer.specs.Lent.{boardOf}
-use Rattle.edges.specs.Edges.{Listed}
-use Rattle.edges.specs.Edges.Fill.{edges-more, edges-room}
+use Rattle.layer.specs.Board.Turns.{front-these, front-many}
 use Rattle.edges.proofs.fill_leaf.Statement.{statement}
 use Rattle.edges.proofs.fill_leaf.Tie as tie
 
-abbrev Inv-loop : tie.InvT-loop
-Inv-loop leaves actions bases moves costs kinds conditions i edges₀ ends₀ row from to s₀ edges ends s =
-    (from ≤ s) × (s ≤ to) × (length edges ≡ length edges₀) × (length ends ≡ length ends₀) × Listed leaves actions bases moves kinds s edges ends
+slice-aggregate-actions-of : tie.Need-slice-aggregate-actions-of
+slice-aggregate-actions-of c = search needs
 
-abbrev μ-loop : tie.MeasureT-loop
-μ-loop leaves actions bases moves costs kinds conditions i edges₀ ends₀ row from to s₀ edges ends s = to - s
+actions-of-requires : tie.Need-actions-of-requires
+actions-of-requires c κs = search needs
 
-mul-row : tie.Need-mul-row Inv-loop μ-loop
-mul-row c = search needs
+-- the front of the list is as long as told
+counted : (c : tie.After-actions-of) → c .actions-of .result ≡ length (take (c .actions-of .result) (c .actions-of .last .1 .1 .1 .0))
+counted c = front-many (c .actions-of .ensures)
 
-shared-slice-read-row : tie.Need-shared-slice-read-row Inv-loop μ-loop
-shared-slice-read-row c = search needs
+array-share-prefix-own : tie.Need-array-share-prefix-own
+array-share-prefix-own c =
+    let e = c .before in
+    omega (arith, counted e, length-take (e .actions-of .result) (e .actions-of .last .1 .1 .1 .0))
 
-mul-from : tie.Need-mul-from Inv-loop μ-loop
-mul-from c = search needs
+slice-aggregate-fill-states : tie.Need-slice-aggregate-fill-states
+slice-aggregate-fill-states c = counted (c .before .before)
 
-shared-slice-read-from : tie.Need-shared-slice-read-from Inv-loop μ-loop
-shared-slice-read-from c = search needs
+fill-states-requires : tie.Need-fill-states-requires
+fill-states-requires c κs =
+    let e = c .before .before .before .before in
+    let s = e .before .before .before .before .before .before .before .before .before in
+    (s .pre .0, s .pre .1, s .pre .2, front-these (e .actions-of .ensures))
 
-add-to : tie.Need-add-to Inv-loop μ-loop
-add-to c = search needs
+same-length : tie.Need-same-length
+same-length c = search needs
 
-mul-to : tie.Need-mul-to Inv-loop μ-loop
-mul-to c = search needs
+same-length-2 : tie.Need-same-length-2
+same-length-2 c = search needs
 
-shared-slice-read-to : tie.Need-shared-slice-read-to Inv-loop μ-loop
-shared-slice-read-to c = search needs
-
-loop-holds : tie.Need-loop-holds Inv-loop μ-loop
-loop-holds c =
-    let s = c .before .before .before .before .before .before .before .before .before .before in
-    (omega arith, s .pre .0 .bases-rise (s .args .i) (s .pre .1), refl, refl, s .pre .2)
-
--- where the function starts, and the Board that is lent
-abbrev start : tie.In-loop Inv-loop μ-loop → tie.Start Inv-loop μ-loop
-start t = t .before .before .before .before .before .before .before .before .before .before .before .before
-
-abbrev board : tie.In-loop Inv-loop μ-loop → Board
-board t =
-    let a = start t .args in
-    boardOf (a .leaves) (a .actions) (a .bases .now) (a .moves .now) (a .costs .now) (a .kinds .now) (a .factors) (a .conditions .now)
-
--- the state is one of the leaf's
-inside : (t : tie.In-loop Inv-loop μ-loop) → t .before .loop .s < rowOn (board t)
-inside t =
-    let s = start t in
-    omega (arith, t .loop-test .taken, base-in (board t) (s .pre .0) (s .args .i) (s .pre .1))
-
-fill-state-requires : tie.Need-fill-state-requires Inv-loop μ-loop
-fill-state-requires c κs =
-    let t = c .before .before in
-    let s = start t in
-    let l = t .before .loop in (
-      omega (arith, s .pre .0 .few-leaves, s .pre .1),
-      s .pre .0 .few-actions,
-      omega (arith, s .pre .0 .few-actions, s .pre .0 .kinds-long),
-      omega (arith, inside t, l .inv .4 .ends-long),
-      edges-room (board t) (s .pre .0) (l .s) _ _ (inside t) (l .inv .4),
-      λ a h. omega (arith, row-in (board t) (s .pre .0) a h, inside t),
-    )
-
-add-s : tie.Need-add-s Inv-loop μ-loop
-add-s c =
-    let t = c .before .before .before .before .before .before .before in
-    omega (arith, inside t, start t .pre .0 .few-all)
-
-loop-less : tie.Need-loop-less Inv-loop μ-loop
-loop-less c =
-    let t = c .before .before .before .before .before .before .before in
-    omega (arith, t .loop-test .taken)
-
-loop-again : tie.Need-loop-again Inv-loop μ-loop
-loop-again c =
-    let called = c .before .before .before .before in
-    let t = called .before .before .before in
-    let s = start t in
-    let l = t .before .loop in
-    let e = called .fill-state .ensures in
-    let more = edges-more (board t) (s .pre .0) (s .args .i) (l .s) (s .pre .1) (l .inv .0) (t .loop-test .taken) _ _ _ _ refl (l .inv .4) (e .0) in (
-      omega (arith, l .inv .0),
-      omega (arith, t .loop-test .taken),
-      called .fill-state .kept .1 .1 .1 .1 .1 .1 .0 ∙ l .inv .2,
-      called .fill-state .kept .1 .1 .1 .1 .1 .1 .1 .0 ∙ l .inv .3,
-      rw (e .1) more,
-    )
-
-same-length : tie.Need-same-length Inv-loop μ-loop
-same-length c = c .before .loop .inv .2
-
-same-length-2 : tie.Need-same-length-2 Inv-loop μ-loop
-same-length-2 c = c .before .loop .inv .3
-
-returns : tie.Need-returns Inv-loop μ-loop
-returns c = rw (le-antisymm (c .before .loop .inv .1) (c .loop-test .left)) at (c .before .loop .inv .4)
+returns : tie.Need-returns
+returns c = search needs
 
 pub fill-leaf-spec : {M : Type 1} → statement M
 fill-leaf-spec =
     tie.close
     (tie.spec
-    Inv-loop
-    μ-loop
-    mul-row
-    shared-slice-read-row
-    mul-from
-    shared-slice-read-from
-    add-to
-    mul-to
-    shared-slice-read-to
-    loop-holds
-    fill-state-requires
-    add-s
-    loop-less
-    loop-again
+    slice-aggregate-actions-of
+    actions-of-requires
+    array-share-prefix-own
+    slice-aggregate-fill-states
+    fill-states-requires
     same-length
     same-length-2
     returns)
