@@ -2,7 +2,7 @@
 -- a layer is made. Assumes nothing.
 use mathlib.Core.Path.{_≡_, refl, sym, ap, _∙_}
 use mathlib.Core.Logic.{_⊎_, inl, inr}
-use mathlib.Core.Bool.{Bool, true, false, not, _&&_, and-false, true≢false}
+use mathlib.Core.Bool.{false, not, _&&_, and-false}
 use mathlib.Core.List.{List, [], _++_, append-nil}
 use Prim.Native.Nat.{ℕ, zero, suc, _+_, _-_, _*_, _/_, _%_, _≤_, _<_, min}
 use native.Mathlib.Nat.{not-suc-le-zero, mul-le-mul-right}
@@ -59,6 +59,10 @@ pub record Entries (n leaves : ℕ) (bases moves stills : List ℕ) : Type 0 whe
 abbrev pub Stills : ℕ → ℕ → List ℕ → List ℕ → List ℕ → Type 0
 Stills leaves actions bases moves stills = Entries (actions * 8) leaves bases moves stills
 
+-- none of the entries of action a, of the first n leaves, is 0
+abbrev pub Marked : ℕ → List ℕ → ℕ → Type 0
+Marked n stills a = (i : ℕ) → i < n → getD stills (a * 8 + i) 0 ≡ 0 → ⊥
+
 -- over an action whose moves begin at `from` no state of the leaf behind i leaves passes
 abbrev pub StuckIn : ℕ → List ℕ → List ℕ → ℕ → List ℕ → Type 0
 StuckIn i bases moves from old =
@@ -66,11 +70,6 @@ StuckIn i bases moves from old =
     any (length P) (λ x. ltb (getD P x mark) mark && not (eqb (getD moves (from + getD bases i 0 + x) 0) 0)) ≡ false
 
 -- ---- finding them
-
--- a test that is not left out holds
-pub not-false : (b : Bool) → not b ≡ false → b ≡ true
-not-false true e = refl
-not-false false e = absurd (true≢false e)
 
 -- a leaf's moves lie within the action's, which begin at `from`
 pub within : (leaves : ℕ) (bases : List ℕ) (n : ℕ) → Cut leaves bases n → (from : ℕ) → from + getD bases leaves 0 ≤ n → (i : ℕ) → i < leaves
@@ -80,25 +79,13 @@ within leaves bases n cut from h i l =
     let inside = cut-in leaves bases (getD bases leaves 0) tight i l in
     (omega (arith, inside), omega (arith, inside))
 
--- a state more
-pub leaf-more : (moves : List ℕ) (at n : ℕ) → ((x : ℕ) → x < n → getD moves (at + x) 0 ≡ x + 1) → getD moves (at + n) 0 ≡ n + 1
-    → (x : ℕ) → x < n + 1 → getD moves (at + x) 0 ≡ x + 1
-leaf-more moves at n h e x l = go (below-cases (omega arith))
+-- what holds of the numbers below n, and of n, holds of those below n + 1
+pub one-more : (P : ℕ → Type 0) (n : ℕ) → ((x : ℕ) → x < n → P x) → P n → (x : ℕ) → x < n + 1 → P x
+one-more P n h e x l = go (below-cases (omega arith))
   where
-    go : (x < n) ⊎ (x ≡ n) → getD moves (at + x) 0 ≡ x + 1
+    go : (x < n) ⊎ (x ≡ n) → P x
     go (inl k) = h x k
     go (inr q) = rw q e
-
--- a leaf more
-pub stays-more : (n : ℕ) (bases moves : List ℕ) (from : ℕ) → Stays n bases moves from
-    → StaysIn n bases moves from → Stays (n + 1) bases moves from
-stays-more n bases moves from h e i x l = go (below-cases (omega arith))
-  where
-    go : (i < n) ⊎ (i ≡ n) → x < getD bases (i + 1) 0 - getD bases i 0 → getD moves (from + (getD bases i 0 + x)) 0 ≡ x + 1
-    go (inl k) m = h i x k m
-    go (inr q) m =
-        let z : from + (getD bases n 0 + x) ≡ from + getD bases n 0 + x = omega arith in
-        rw (q, z) (e x (rw q at m))
 
 -- an action's moves lie within the table
 pub action-in : (n a w m : ℕ) → a < n → n * w ≤ m → a * w + w ≤ m
@@ -136,6 +123,13 @@ entries-more leaves k bases moves stills f few h s =
         let leaf : k % 8 ≡ i = rw (sym q) (digits-mod a {m = 8} {r = i} e) in
         let act : k / 8 ≡ a = rw (sym q) (digits-div a {m = 8} {r = i} e) in
         rw (leaf, act) at (h (rw (q, getD-set-same stills k f 0 (omega (arith, s .long))) at d))
+
+-- an action none of whose entries is 0 leaves each state of each leaf as it is
+pub marked-stays : (leaves actions : ℕ) (bases moves stills : List ℕ) (a : ℕ) → leaves ≤ 8 → a < actions → Stills leaves actions bases moves stills
+    → Marked leaves stills a → Stays leaves bases moves (a * getD bases leaves 0)
+marked-stays leaves actions bases moves stills a few below s m i x l k =
+    let z : a * getD bases leaves 0 + (getD bases i 0 + x) ≡ a * getD bases leaves 0 + getD bases i 0 + x = omega arith in
+    rw z (s .stays a i (omega arith) (omega arith) (m i l) x k)
 
 -- ---- keys that rise
 

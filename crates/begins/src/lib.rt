@@ -8,7 +8,7 @@ use task::Centre;
 use words::copy_words;
 ghost use mathlib.Core.Path.{_≡_};
 ghost use mathlib.Core.Bool.{true, false};
-ghost use mathlib.Core.List.{_++_};
+ghost use mathlib.Core.List.{List, _++_};
 ghost use Prim.Native.Nat.{ℕ, _+_, _*_, _/_, _%_, _≤_, _<_};
 ghost use lib.ListN.{length, getD, take, drop};
 ghost use Rattle.leaf.specs.Price.{mark};
@@ -19,7 +19,7 @@ ghost use Rattle.search.specs.Node.{leastOf};
 ghost use Rattle.rows.specs.Begun.{begunWords};
 ghost use Rattle.rows.specs.Scan.{Cut, keyBy};
 ghost use Rattle.rows.specs.Sign.{signOf};
-ghost use Rattle.begins.specs.Still.{StaysIn, Stays, Still, Stills, StuckIn};
+ghost use Rattle.begins.specs.Still.{StaysIn, Still, Stills, Marked, StuckIn};
 
 // The key and the signature of a layer's begin.
 pub struct Begun {
@@ -38,35 +38,6 @@ fn is_still_leaf(moves: &[u16], at: usize, states: usize) -> bool
         }
     }
     true
-}
-
-// 1 if an action whose moves begin at `from` leaves each state of each leaf as it is, else 0.
-fn is_still(leaves: usize, bases: &[usize], moves: &[u16], from: usize) -> u8
-    requires { ⌜ Cut leaves (now bases) (length (now moves)) × (from + getD (now bases) leaves 0 ≤ length (now moves)) ⌝ }
-    ensures { λ r. ⌜ ((r ≡ 0 → ⊥) → Stays leaves (now (bases .entry)) (now (moves .entry)) from) ⌝ }
-{
-    for i in 0..leaves {
-        let at = bases[i];
-        let to = bases[i + 1];
-        if !is_still_leaf(moves, from + at, to - at) {
-            return 0;
-        }
-    }
-    1
-}
-
-// The actions that leave each state of each leaf as it is: 1 for those, 0 for the others.
-pub fn still_actions(leaves: usize, actions: usize, bases: &[usize], moves: &[u16]) -> [u8; 256]
-    requires { ⌜ Cut leaves (now bases) 1024 × (actions ≤ 255) × (actions * getD (now bases) leaves 0 ≤ length (now moves)) ⌝ }
-    ensures { λ r. ⌜ Still leaves actions (now (bases .entry)) (now (moves .entry)) r ⌝ }
-{
-    let row = bases[leaves];
-    let mut still = [0u8; 256];
-    for a in 0..actions {
-        let stays = is_still(leaves, bases, moves, a * row);
-        still[a] = stays;
-    }
-    still
 }
 
 // Entry k of the table by action and leaf: 1 if action k / 8 leaves each state of the leaf behind k % 8 leaves as it is, else 0.
@@ -98,6 +69,33 @@ pub fn still_leaves(leaves: usize, actions: usize, bases: &[usize], moves: &[u16
         stills[k] = stays;
     }
     stills
+}
+
+// 1 if none of the entries of action a, one for each leaf, is 0, else 0.
+fn is_still(leaves: usize, stills: &[u8], a: usize) -> u8
+    requires { ⌜ a * 8 + leaves ≤ length (now stills) ⌝ }
+    ensures { λ r. ⌜ ((r ≡ 0 → ⊥) → Marked leaves (now (stills .entry)) a) ⌝ }
+{
+    for i in 0..leaves {
+        if stills[a * 8 + i] == 0 {
+            return 0;
+        }
+    }
+    1
+}
+
+// The actions that leave each state of each leaf as it is: 1 for those, 0 for the others. They are read off the table by action and leaf, so that
+// no move is looked at twice.
+pub fn still_actions(leaves: usize, actions: usize, stills: &[u8]) -> [u8; 256]
+    requires { ⌜ (leaves ≤ 8) × (actions ≤ 255) × (length (now stills) ≡ 2048) ⌝ }
+    ensures { λ r. ⌜ ((bases moves : List ℕ) → Stills leaves actions bases moves (now (stills .entry)) → Still leaves actions bases moves r) ⌝ }
+{
+    let mut still = [0u8; 256];
+    for a in 0..actions {
+        let stays = is_still(leaves, stills, a);
+        still[a] = stays;
+    }
+    still
 }
 
 // Whether an action whose moves begin at `from` is stuck in the leaf behind i leaves: no state that is reached passes. Where `stays` is not 0 it leaves

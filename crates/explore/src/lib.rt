@@ -585,8 +585,8 @@ pub fn explore(
     let goal = task.goal;
     let conditions = task.conditions;
     let effects = task.effects;
-    let still = still_actions(leaves, actions, bases, moves);
     let stills = still_leaves(leaves, actions, bases, moves);
+    let still = still_actions(leaves, actions, &stills);
     let firsts = first_conditions(factors, &conditions, actions);
     let mut run = start(task, bases, moves, costs, kinds, starts, goals, table, scan);
     let mut known = [0u8; 73728];

@@ -6,7 +6,7 @@ use native.Mathlib.Nat.{not-suc-le-zero}
 use native.Mathlib.Omega.{arith}
 use lib.ListN.{getD}
 use borrow.Author.Needs.{needs}
-use Rattle.begins.specs.Still.{leaf-more}
+use Rattle.begins.specs.Still.{one-more}
 use Rattle.begins.proofs.is_still_leaf.Statement.{statement}
 use Rattle.begins.proofs.is_still_leaf.Tie as tie
 
@@ -47,7 +47,7 @@ loop-again : tie.Need-loop-again Inv-loop μ-loop
 loop-again c =
     let l = c .before .before .before .loop in
     let a = c .before .before .before .before .args in
-    (omega arith, leaf-more (a .moves .now) (a .at) (l .x) (l .inv .1) (c .if1 .left))
+    (omega arith, one-more (λ y. getD (a .moves .now) (a .at + y) 0 ≡ y + 1) (l .x) (l .inv .1) (c .if1 .left))
 
 returns-2 : tie.Need-returns-2 Inv-loop μ-loop
 returns-2 c = λ _ x k. c .before .loop .inv .1 x (omega (arith, c .loop-test .left))

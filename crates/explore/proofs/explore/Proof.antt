@@ -12,6 +12,7 @@ use Rattle.layer.specs.First.{firsts-part}
 use Rattle.layer.specs.Lent.{boardOf}
 use Rattle.mets.specs.Known.{Known, known-none}
 use Rattle.rows.specs.Scan.{Cut}
+use Rattle.begins.specs.Still.{Still}
 use Rattle.explore.specs.declared.Round.the-variants.{Goes}
 use Rattle.explore.specs.Held.{Suits}
 use Rattle.offers.specs.Held.{Room}
@@ -23,7 +24,7 @@ use Rattle.explore.proofs.explore.Statement.{statement}
 use Rattle.explore.proofs.explore.Tie as tie
 
 abbrev Inv-loop : tie.InvT-loop
-Inv-loop bases moves costs kinds starts goals nodes budget edges ends table₀ scan₀ leaves actions factors goal conditions effects still stills firsts run₀ known₀ mets₀ old₀ next₀ table scan run known mets old next =
+Inv-loop bases moves costs kinds starts goals nodes budget edges ends table₀ scan₀ leaves actions factors goal conditions effects stills still firsts run₀ known₀ mets₀ old₀ next₀ table scan run known mets old next =
     (length table ≡ length table₀) × (length scan ≡ 57616)
     × AheadBy (boardOf leaves actions bases moves costs kinds factors conditions) effects goals goal nodes budget table₀ scan₀ run₀ table scan run
     × (length old ≡ 1024) × (length next ≡ 1024)
@@ -31,7 +32,7 @@ Inv-loop bases moves costs kinds starts goals nodes budget edges ends table₀ s
     × (length mets ≡ 256)
 
 abbrev μ-loop : tie.MeasureT-loop
-μ-loop bases moves costs kinds starts goals nodes budget edges ends table₀ scan₀ leaves actions factors goal conditions effects still stills firsts run₀ known₀ mets₀ old₀ next₀ table scan run known mets old next =
+μ-loop bases moves costs kinds starts goals nodes budget edges ends table₀ scan₀ leaves actions factors goal conditions effects stills still firsts run₀ known₀ mets₀ old₀ next₀ table scan run known mets old next =
     suc nodes - run .begun
 
 -- the Board of the task
@@ -53,7 +54,7 @@ fit s =
 
 -- the start, seen from the loop
 abbrev first : tie.At-loop Inv-loop μ-loop → tie.Start Inv-loop μ-loop
-first l = l .before .before .before .before .before .before .before .before .before .before .before .before .before .before .before .before .before .before .before .before .before .before .before .before .before .before .before .before
+first l = l .before .before .before .before .before .before .before .before .before .before .before .before .before .before .before .before .before .before .before .before .before .before .before .before .before .before .before .before .before
 
 -- before each round the rest of the task's search is ahead
 ahead : (l : tie.At-loop Inv-loop μ-loop) → let a = first l .args in
@@ -106,27 +107,39 @@ lent s =
     let sound = fit s .1 in
     (cut {n = 1024} sound (sound .few-all), sound .few-actions, sound .moves-long)
 
-still-actions-requires : tie.Need-still-actions-requires Inv-loop μ-loop
-still-actions-requires c κs = lent (c .before .before .before .before .before .before .before .before .before .before .before .before .before .before .before .before)
-
 still-leaves-requires : tie.Need-still-leaves-requires Inv-loop μ-loop
-still-leaves-requires c κs = lent (c .before .before .before .before .before .before .before .before .before .before .before .before .before .before .before .before .before)
+still-leaves-requires c κs = lent (c .before .before .before .before .before .before .before .before .before .before .before .before .before .before .before .before)
+
+slice-aggregate-still-actions : tie.Need-slice-aggregate-still-actions Inv-loop μ-loop
+slice-aggregate-still-actions c = sym (c .before .still-leaves .ensures .long)
+
+still-actions-requires : tie.Need-still-actions-requires Inv-loop μ-loop
+still-actions-requires c κs =
+    let sound = fit (c .before .before .before .before .before .before .before .before .before .before .before .before .before .before .before .before .before .before) .1 in
+    (sound .few-leaves, sound .few-actions, c .before .still-leaves .ensures .long)
+
+-- what the table by action and leaf says of whole actions
+stays : (e : tie.After-still-actions Inv-loop μ-loop) → let a = e .before .before .before .before .before .before .before .before .before .before .before .before .before .before .before .before .before .before .before .args in
+    Still (a .task .leaves) (a .task .actions) (now (a .bases)) (now (a .moves)) (e .still-actions .result)
+stays e =
+    let a = e .before .before .before .before .before .before .before .before .before .before .before .before .before .before .before .before .before .before .before .args in
+    e .still-actions .ensures (now (a .bases)) (now (a .moves)) (e .before .before .still-leaves .ensures)
 
 slice-aggregate-first-conditions : tie.Need-slice-aggregate-first-conditions Inv-loop μ-loop
-slice-aggregate-first-conditions c = sym (lists (c .before .before .before .before .before .before .before .before .before .before .before .before .before .before .before .before .before .before .before) .1)
+slice-aggregate-first-conditions c = sym (lists (c .before .before .before .before .before .before .before .before .before .before .before .before .before .before .before .before .before .before .before .before) .1)
 
 first-conditions-requires : tie.Need-first-conditions-requires Inv-loop μ-loop
-first-conditions-requires c κs = (fit (c .before .before .before .before .before .before .before .before .before .before .before .before .before .before .before .before .before .before .before) .1 .few-actions, lists (c .before .before .before .before .before .before .before .before .before .before .before .before .before .before .before .before .before .before .before) .1)
+first-conditions-requires c κs = (fit (c .before .before .before .before .before .before .before .before .before .before .before .before .before .before .before .before .before .before .before .before) .1 .few-actions, lists (c .before .before .before .before .before .before .before .before .before .before .before .before .before .before .before .before .before .before .before .before) .1)
 
 start-requires : tie.Need-start-requires Inv-loop μ-loop
 start-requires c κs =
-    let s = c .before .before .before .before .before .before .before .before .before .before .before .before .before .before .before .before .before .before .before .before .before .before in
+    let s = c .before .before .before .before .before .before .before .before .before .before .before .before .before .before .before .before .before .before .before .before .before .before .before in
     let row = mul-le-mul-right {m = 1} {n = s .args .nodes + 1} (40 + allStates (s .args .task)) (omega arith) in
     (s .pre .0, (s .pre .1 .0, (omega (arith, row, s .pre .1 .1 .1 .2), s .pre .1 .1 .1 .3, s .pre .1 .1 .1 .4)))
 
 loop-holds : tie.Need-loop-holds Inv-loop μ-loop
 loop-holds c =
-    let s = c .before .before .before .before .before .before .before .before .before .before .before .before .before .before .before .before .before .before .before .before .before .before .before .before .before .before .before in
+    let s = c .before .before .before .before .before .before .before .before .before .before .before .before .before .before .before .before .before .before .before .before .before .before .before .before .before .before .before .before in
     let f = c .before .before .before .before .start in
     (refl, f .kept .1 .1 .1 .1 .1 .1 .1 .1 .0 ∙ s .pre .1 .1 .1 .3, (λ t f a. a), search needs, search needs, known-none (board s), search needs)
 
@@ -134,10 +147,10 @@ slice-aggregate-next-round : tie.Need-slice-aggregate-next-round Inv-loop μ-loo
 slice-aggregate-next-round c = sym (lists (first (c .before)) .1)
 
 slice-aggregate-next-round-2 : tie.Need-slice-aggregate-next-round-2 Inv-loop μ-loop
-slice-aggregate-next-round-2 c = sym (c .before .before .before .before .before .before .before .before .before .before .before .before .before .still-actions .ensures .long)
+slice-aggregate-next-round-2 c = sym (stays (c .before .before .before .before .before .before .before .before .before .before .before .before) .long)
 
 slice-aggregate-next-round-3 : tie.Need-slice-aggregate-next-round-3 Inv-loop μ-loop
-slice-aggregate-next-round-3 c = sym (c .before .before .before .before .before .before .before .before .before .before .before .before .before .still-leaves .ensures .long)
+slice-aggregate-next-round-3 c = sym (c .before .before .before .before .before .before .before .before .before .before .before .before .before .before .before .still-leaves .ensures .long)
 
 slice-aggregate-next-round-4 : tie.Need-slice-aggregate-next-round-4 Inv-loop μ-loop
 slice-aggregate-next-round-4 c = sym (c .before .before .before .before .before .before .before .before .before .before .before .before .first-conditions .ensures .long)
@@ -164,7 +177,7 @@ next-round-requires c κs =
     let asked = firsts-part (board s) (c .before .before .before .before .before .before .before .before .before .before .before .before .before .before .before .before .before .before .before .first-conditions .result) (c .before .before .before .before .before .before .before .before .before .before .before .before .before .before .before .before .before .before .before .first-conditions .ensures) in (
       fit s .1,
       (
-        (c .before .before .before .before .before .before .before .before .before .before .before .before .before .before .before .before .before .before .before .before .before .before .still-actions .ensures, asked, s .pre .1 .1 .0, l .loop .inv .5, l .loop .inv .6, c .before .before .before .before .before .before .before .before .before .before .before .before .before .before .before .before .before .before .before .before .before .still-leaves .ensures),
+        (stays (c .before .before .before .before .before .before .before .before .before .before .before .before .before .before .before .before .before .before .before .before .before), asked, s .pre .1 .1 .0, l .loop .inv .5, l .loop .inv .6, c .before .before .before .before .before .before .before .before .before .before .before .before .before .before .before .before .before .before .before .before .before .before .before .still-leaves .ensures),
         ((lists s .2, s .pre .1 .0 .1 .long, omega (arith, few l, s .pre .1 .1 .1 .1)), (room l, (l .loop .inv .3, l .loop .inv .4))),
       ),
     )
@@ -176,7 +189,7 @@ same-length : tie.Need-same-length Inv-loop μ-loop
 same-length c = c .before .before .before .before .before .before .before .before .before .before .before .next-round .kept .1 .1 .1 .1 .1 .1 .1 .1 .1 .1 .1 .1 .1 .1 .1 .1 .1 .1 .0 ∙ long (c .before .before .before .before .before .before .before .before .before .before .before .before .before .before .before .before .before .before .before .before .before .before .before)
 
 same-length-2 : tie.Need-same-length-2 Inv-loop μ-loop
-same-length-2 c = c .before .before .before .before .before .before .before .before .before .before .before .next-round .kept .1 .1 .1 .1 .1 .1 .1 .1 .1 .1 .1 .1 .1 .1 .1 .1 .1 .1 .1 .0 ∙ c .before .before .before .before .before .before .before .before .before .before .before .before .before .before .before .before .before .before .before .before .before .before .before .loop .inv .1 ∙ sym (c .before .before .before .before .before .before .before .before .before .before .before .before .before .before .before .before .before .before .before .before .before .before .before .before .before .before .before .before .before .before .before .before .before .before .before .before .before .before .before .before .before .before .before .before .before .before .before .before .before .before .before .pre .1 .1 .1 .3)
+same-length-2 c = c .before .before .before .before .before .before .before .before .before .before .before .next-round .kept .1 .1 .1 .1 .1 .1 .1 .1 .1 .1 .1 .1 .1 .1 .1 .1 .1 .1 .1 .0 ∙ c .before .before .before .before .before .before .before .before .before .before .before .before .before .before .before .before .before .before .before .before .before .before .before .loop .inv .1 ∙ sym (c .before .before .before .before .before .before .before .before .before .before .before .before .before .before .before .before .before .before .before .before .before .before .before .before .before .before .before .before .before .before .before .before .before .before .before .before .before .before .before .before .before .before .before .before .before .before .before .before .before .before .before .before .pre .1 .1 .1 .3)
 
 returns : tie.Need-returns Inv-loop μ-loop
 returns c =
@@ -210,8 +223,9 @@ explore-spec =
     μ-loop
     cast-leaves
     cast-actions
-    still-actions-requires
     still-leaves-requires
+    slice-aggregate-still-actions
+    still-actions-requires
     slice-aggregate-first-conditions
     first-conditions-requires
     start-requires
