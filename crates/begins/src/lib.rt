@@ -235,7 +235,8 @@ pub fn begin_of(
     requires { ⌜ Still leaves actions (now bases) (now moves) (now still) × Stills leaves actions (now bases) (now moves) (now stills) ⌝ }
     requires { ⌜ (a < actions) × (getD (now bases) leaves 0 ≤ length (now old)) × (getD (now bases) leaves 0 ≤ length (now next)) ⌝ }
     requires { ⌜ sign ≡ signOf (take (getD (now bases) leaves 0) (now old)) ⌝ }
-    ensures { λ r. ⌜ (begunWords (getD (now (still .entry)) a 0) (getD (now (bases .entry)) leaves 0) (now (old .entry)) (now (next .exit)) ≡ beginOn (boardOf leaves actions (now (bases .entry)) (now (moves .entry)) (now (costs .entry)) (now (kinds .entry))
+    ensures { λ r. ⌜ (begunWords (getD (now (still .entry)) a 0) (getD (now (bases .entry)) leaves 0) (now (old .entry)) (now (next .exit))
+        ≡ beginOn (boardOf leaves actions (now (bases .entry)) (now (moves .entry)) (now (costs .entry)) (now (kinds .entry))
         factors (now (conditions .entry))) a (now (old .entry)) ++ drop (getD (now (bases .entry)) leaves 0) (now (next .entry)))
         × ((spent : ℕ) → low ≡ keyBy leaves (now (bases .entry)) spent (now (old .entry)) → r .key ≡ keyBy leaves (now (bases .entry)) spent
         (begunWords (getD (now (still .entry)) a 0) (getD (now (bases .entry)) leaves 0) (now (old .entry)) (now (next .exit))))

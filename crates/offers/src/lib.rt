@@ -182,7 +182,8 @@ fn fill_begin(old: &[u64], begin: &mut [u64], still: u8, states: usize)
     copy_words(old, begin, states);
 }
 
-// A successor of node `parent` by `action`, from its layer's begin, which is `old` where `still` is not 0: dropped, refused for a full table, or settled and kept under the next number.
+// A successor of node `parent` by `action`, from its layer's begin, which is `old` where `still` is not 0: dropped, refused for a full table, or settled
+// and kept under the next number.
 pub fn offer(
     leaves: usize,
     actions: usize,

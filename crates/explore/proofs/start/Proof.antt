@@ -15,7 +15,8 @@ use Rattle.layer.specs.Lent.{boardOf}
 use Rattle.tables.specs.Fit.{start-in}
 use Rattle.rows.specs.Scan.{Cut}
 use Rattle.explore.specs.Held.{Suits}
-use Rattle.explore.specs.Held.Start.{sound-cut, tables-suit, start-is}
+use Rattle.offers.specs.Held.Laws.{cut}
+use Rattle.explore.specs.Held.Start.{tables-suit, start-is}
 use Rattle.explore.proofs.start.Statement.{statement}
 use Rattle.explore.proofs.start.Tie as tie
 
@@ -44,12 +45,12 @@ wide f =
     kept ∙ s .pre .1 .1 .1
 
 -- the first layer's prices are cut into leaves
-cut : (c : tie.After-first-layer) → let s = c .before .before .before .before .before .before .before .before .before .before .before .before .before .before .before .before .before .before .before .before .before .before .before in
+layer-cut : (c : tie.After-first-layer) → let s = c .before .before .before .before .before .before .before .before .before .before .before .before .before .before .before .before .before .before .before .before .before .before .before in
     Cut (s .args .task .leaves) (now (s .args .bases)) (length (c .first-layer .last .1 .1 .1 .1 .1 .1 .1 .1 .1 .1 .0))
-cut c =
+layer-cut c =
     let s = c .before .before .before .before .before .before .before .before .before .before .before .before .before .before .before .before .before .before .before .before .before .before .before in
     let kept : length (c .first-layer .last .1 .1 .1 .1 .1 .1 .1 .1 .1 .1 .0) ≡ 1024 = c .first-layer .kept .1 .1 .1 .1 .1 .1 .1 .1 .1 .1 .0 in
-    sound-cut (board s) (fit s .1) _ (omega (arith, fit s .1 .few-all))
+    cut (fit s .1) (omega (arith, fit s .1 .few-all))
 
 fresh-requires : tie.Need-fresh-requires
 fresh-requires c κs = search needs
@@ -84,7 +85,7 @@ slice-aggregate-key-of : tie.Need-slice-aggregate-key-of
 slice-aggregate-key-of c = search needs
 
 key-of-requires : tie.Need-key-of-requires
-key-of-requires c κs = cut (c .before .before)
+key-of-requires c κs = layer-cut (c .before .before)
 
 slice-aggregate-keep : tie.Need-slice-aggregate-keep
 slice-aggregate-keep c = search needs
@@ -93,7 +94,7 @@ keep-requires : tie.Need-keep-requires
 keep-requires c κs =
     let s = c .before .before .before .before .before .before .before .before .before .before .before .before .before .before .before .before .before .before .before .before .before .before .before .before .before .before .before .before .before in
     let w = fit s in (
-      (cut (c .before .before .before .before .before .before), sound-cut (board s) (w .1) (length (now (s .args .goals))) (omega (arith, w .1 .few-all, s .pre .1 .0 .1 .long))),
+      (layer-cut (c .before .before .before .before .before .before), cut {n = length (now (s .args .goals))} (w .1) (omega (arith, w .1 .few-all, s .pre .1 .0 .1 .long))),
       ((w .1 .few-all, omega arith, omega (arith, row-on (s .args .task) (board s) (w .0 .fits), s .pre .1 .1 .0), wide (c .before .before .before .before .before .before .before .before .before .before .before .before .before .before .before .before .before .before .before)), λ e. absurd (true≢false e)),
     )
 

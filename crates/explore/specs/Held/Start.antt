@@ -2,7 +2,7 @@
 use mathlib.Core.Path.{_≡_, refl, ap, _∙_}
 use mathlib.Core.Bool.{true}
 use mathlib.Core.List.{List, _++_}
-use Prim.Native.Nat.{ℕ, _+_, _≤_, _<_}
+use Prim.Native.Nat.{ℕ, _+_, _<_}
 use native.Mathlib.Omega.{arith}
 use lib.ListN.{length, getD, take}
 use lib.Seq.{take-at}
@@ -28,7 +28,7 @@ use Rattle.search.specs.Explore.{keep, start}
 use Rattle.search.specs.Explore.Laws.{Base}
 use Rattle.search.specs.Explore.Rounds.{base-none}
 use Rattle.rows.specs.Row.{nodesIn, nodeWith}
-use Rattle.rows.specs.Scan.{Cut, keyBy, goalCostBy}
+use Rattle.rows.specs.Scan.{keyBy, goalCostBy}
 use Rattle.nodes.specs.Block.{freshTo}
 use Rattle.nodes.specs.Block.Laws.{fresh-length}
 use Rattle.nodes.specs.Chain.{Chained}
@@ -40,10 +40,6 @@ use Rattle.offers.specs.Held.Laws.{key-is, goal-is, keep-is, keep-cached}
 use Rattle.explore.specs.Held.Turns.{suits-scans}
 
 -- ---- the tables
-
--- S entries can be cut into leaves
-pub sound-cut : (b : Board) → Sound b → (n : ℕ) → rowOn b ≤ n → Cut (b .leaves) (b .bases) n
-sound-cut b s n h = record { few = s .few-leaves; long = s .bases-long; rise = s .bases-rise; fits = h }
 
 -- the tables of a valid task suit it, and can be indexed
 pub tables-suit : (t : Task) → Valid t → (bases moves costs kinds starts goals : List ℕ) → Tabled t bases moves costs kinds starts → Goals t goals
