@@ -30,6 +30,13 @@ pub record FirstOf (K : List ℕ) (n w k : ℕ) : Type 0 where
   pub before : (i : ℕ) → i < k → getD K i 0 ≡ w → ⊥
   pub here : k < n → getD K k 0 ≡ w
 
+-- r is the least of the n words from place f on
+pub record LeastFrom (C : List ℕ) (f n r : ℕ) : Type 0 where
+  pub lower : (k : ℕ) → k < n → r ≤ getD C (f + k) 0
+  pub place : ℕ
+  pub inside : place < n
+  pub there : getD C (f + place) 0 ≡ r
+
 -- one of the first n keys is in block b and is k
 pub record Held (K : List ℕ) (n b k : ℕ) : Type 0 where
   pub node : ℕ

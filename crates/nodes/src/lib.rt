@@ -11,7 +11,7 @@ ghost use Rattle.search.specs.Node.{dominates};
 ghost use Rattle.rows.specs.Row.{rowIn, nodeIn, nodeWith, Packed, Tested};
 ghost use Rattle.rows.specs.Sign.{classOf, signOf};
 ghost use Rattle.nodes.specs.Choice.{chooseBy};
-ghost use Rattle.nodes.specs.Block.{blockSize, leastIn, FirstOf, Blocked, freshTo, loweredTo, raisedTo, retiredTo};
+ghost use Rattle.nodes.specs.Block.{blockSize, leastIn, FirstOf, LeastFrom, Blocked, freshTo, loweredTo, raisedTo, retiredTo};
 ghost use Rattle.nodes.specs.Chain.{groupsIn, slotOf, lacking, allLack, hasRoom, groupFor, withGroup, openedTo, joinedTo, linkedTo, Chained, Recalled, Dominator, Tried};
 
 // ---- chains
@@ -138,6 +138,37 @@ fn least_from(scan: &[u64], from: usize, count: usize) -> u64
     scan[from + (first - 1)]
 }
 
+// The least of four words.
+fn least_four(scan: &[u64], from: usize) -> u64
+    requires { ⌜ from + 4 ≤ length (now scan) ⌝ }
+    ensures { λ r. ⌜ LeastFrom (now (scan .entry)) from 4 r ⌝ }
+{
+    let low = lesser(scan[from], scan[from + 1]);
+    let high = lesser(scan[from + 2], scan[from + 3]);
+    lesser(low, high)
+}
+
+// The least of 16 words. They are compared in pairs, so that few comparisons wait for another.
+fn least_block(scan: &[u64], from: usize) -> u64
+    requires { ⌜ from + 16 ≤ length (now scan) ⌝ }
+    ensures { λ r. ⌜ LeastFrom (now (scan .entry)) from 16 r ⌝ }
+{
+    let low = lesser(least_four(scan, from), least_four(scan, from + 4));
+    let high = lesser(least_four(scan, from + 8), least_four(scan, from + 12));
+    lesser(low, high)
+}
+
+// The least of the keys of a block, which begin at `from`; most blocks are full.
+fn least_key(scan: &[u64], from: usize, count: usize) -> u64
+    requires { ⌜ from + count ≤ length (now scan) ⌝ }
+    ensures { λ r. ⌜ r ≡ leastIn (drop from (now (scan .entry))) count ⌝ }
+{
+    if count == 16 {
+        return least_block(scan, from);
+    }
+    least_from(scan, from, count)
+}
+
 // How many of `count` keys are in a block.
 fn block_size(block: usize, count: usize) -> usize
     requires { ⌜ block * 16 ≤ count ⌝ }
@@ -151,7 +182,7 @@ fn raise(scan: &mut [u64], from: usize, at: usize, block: usize, count: usize)
     requires { ⌜ (length (now scan) ≡ 57616) × (from ≤ 16384) × (at ≤ 16640) × (block * 16 ≤ count) × (count ≤ 4096) ⌝ }
     ensures { λ _. ⌜ now (scan .exit) ≡ raisedTo (now (scan .entry)) from at count block ⌝ }
 {
-    let low = least_from(scan, from + block * 16, block_size(block, count));
+    let low = least_key(scan, from + block * 16, block_size(block, count));
     scan[at + block] = low;
 }
 

@@ -6,17 +6,17 @@ use Rattle.nodes.specs.Block.{raisedTo}
 use Rattle.nodes.proofs.raise.Statement.{statement}
 use Rattle.nodes.proofs.raise.Tie as tie
 
-mul-least-from : tie.Need-mul-least-from
-mul-least-from c = search needs
+mul-least-key : tie.Need-mul-least-key
+mul-least-key c = search needs
 
-add-least-from : tie.Need-add-least-from
-add-least-from c = search needs
+add-least-key : tie.Need-add-least-key
+add-least-key c = search needs
 
 block-size-requires : tie.Need-block-size-requires
 block-size-requires c κs = search needs
 
-least-from-requires : tie.Need-least-from-requires
-least-from-requires c κs = search needs
+least-key-requires : tie.Need-least-key-requires
+least-key-requires c κs = search needs
 
 add-scan : tie.Need-add-scan
 add-scan c = search needs
@@ -34,16 +34,16 @@ returns : tie.Need-returns
 unfolding raisedTo
 returns c =
     let a = c .before .before .before .before .args in
-    rw (c .least-from .ensures, c .before .block-size .ensures, drop-drop (a .block * 16) (a .from) (a .scan .now))
+    rw (c .least-key .ensures, c .before .block-size .ensures, drop-drop (a .block * 16) (a .from) (a .scan .now))
 
 pub raise-spec : {M : Type 1} → statement M
 raise-spec =
     tie.close
     (tie.spec
-    mul-least-from
-    add-least-from
+    mul-least-key
+    add-least-key
     block-size-requires
-    least-from-requires
+    least-key-requires
     add-scan
     mul-scan
     slice-write-scan

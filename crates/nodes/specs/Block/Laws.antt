@@ -13,7 +13,7 @@ use Rattle.loops.specs.Count.Laws.{below-cases}
 use Rattle.leaf.specs.Price.{mark}
 use Rattle.nodes.specs.Choice.{keyOf, chooseBy, Picked, Choice}
 use Rattle.nodes.specs.Choice.Laws.{choose-cases, choose-none, choose-fewer}
-use Rattle.nodes.specs.Block.{blockSize, leastIn, leastOfBlock, FirstOf, Held, Under, blockWords, upperWords, Blocked, freshTo, loweredTo, raisedTo, retiredTo}
+use Rattle.nodes.specs.Block.{blockSize, leastIn, leastOfBlock, FirstOf, LeastFrom, Held, Under, blockWords, upperWords, Blocked, freshTo, loweredTo, raisedTo, retiredTo}
 
 -- ---- the least key
 
@@ -42,6 +42,50 @@ module _ (K : List ℕ) (n : ℕ) where
       go : Choice mark K n (chooseBy mark K n) → (leastIn K n ≡ mark) ⊎ ((k : ℕ) × ((k < n) × (getD K k 0 ≡ leastIn K n)))
       go (inl (e, _)) = inl (least-none e)
       go (inr (u, (e, p))) = inr (u, (p .inside, sym (least-some u e)))
+
+-- ---- the least of some words
+
+-- a word by itself
+pub least-one : (C : List ℕ) (f : ℕ) → LeastFrom C f 1 (getD C f 0)
+least-one C f =
+    let e : f + 0 ≡ f = omega arith in
+    record { lower = λ k l. let z : f + k ≡ f = omega arith in rw z (omega arith); place = 0; inside = omega arith; there = rw e }
+
+-- of two halves
+least-two : (C : List ℕ) (f g m n a b : ℕ) → g ≡ f + m → LeastFrom C f m a → LeastFrom C g n b → LeastFrom C f (m + n) (min a b)
+least-two C f g m n a b e p q = go (decLt b a)
+  where
+    here : (k : ℕ) → getD C (f + (m + k)) 0 ≡ getD C (g + k) 0
+    here k = let z : f + (m + k) ≡ g + k = omega arith in rw z
+
+    low : (k : ℕ) → k < m + n → min a b ≤ getD C (f + k) 0
+    low k l = pick (decLt k m)
+      where
+        pick : Dec (k < m) → min a b ≤ getD C (f + k) 0
+        pick (yes h) = omega (arith, p .lower k h)
+        pick (no h) = let z : m + (k - m) ≡ k = omega arith in omega (arith, q .lower (k - m) (omega arith), rw z at (here (k - m)))
+
+    go : Dec (b < a) → LeastFrom C f (m + n) (min a b)
+    go (yes h) =
+        record { lower = low; place = m + q .place; inside = omega (arith, q .inside); there = here (q .place) ∙ q .there ∙ omega arith }
+    go (no h) = record { lower = low; place = p .place; inside = omega (arith, p .inside); there = p .there ∙ omega arith }
+
+-- of four quarters
+pub least-quarters : (C : List ℕ) (f g h i n a b c d : ℕ) → g ≡ f + n → h ≡ f + 2 * n → i ≡ f + 3 * n
+    → LeastFrom C f n a → LeastFrom C g n b → LeastFrom C h n c → LeastFrom C i n d → LeastFrom C f (n + n + (n + n)) (min (min a b) (min c d))
+least-quarters C f g h i n a b c d e k l p q r s =
+    least-two C f h (n + n) (n + n) (min a b) (min c d) (omega arith) (least-two C f g n n a b e p q) (least-two C h i n n c d (omega arith) r s)
+
+-- the least of words that are not above the mark is the least key
+pub least-is : (C : List ℕ) (f n r : ℕ) → r ≤ mark → LeastFrom C f n r → r ≡ leastIn (drop f C) n
+least-is C f n r h p = go (least-cases (drop f C) n)
+  where
+    low : leastIn (drop f C) n ≤ r
+    low = omega (arith, least-low (drop f C) n (p .place) (p .inside), getD-drop f C (p .place) 0, p .there)
+
+    go : (leastIn (drop f C) n ≡ mark) ⊎ ((k : ℕ) × ((k < n) × (getD (drop f C) k 0 ≡ leastIn (drop f C) n))) → r ≡ leastIn (drop f C) n
+    go (inl e) = omega (arith, low)
+    go (inr (k, (l, e))) = omega (arith, low, p .lower k l, getD-drop f C k 0)
 
 -- ---- the keys of a block
 
