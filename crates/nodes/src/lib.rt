@@ -1,9 +1,10 @@
 // What the search scans: chains of nodes, blocks, dominance, the choice of the next node.
 use dominance::test_row;
 use leaf::MARK;
+use rows::lesser;
 use task::Centre;
 ghost use mathlib.Core.Path.{_≡_};
-ghost use Prim.Native.Nat.{_+_, _*_, _≤_, _<_, min};
+ghost use Prim.Native.Nat.{_+_, _*_, _≤_, _<_};
 ghost use lib.ListN.{length, take, drop};
 ghost use Rattle.loops.specs.Count.{any};
 ghost use Rattle.leaf.specs.Price.{mark};
@@ -15,16 +16,6 @@ ghost use Rattle.nodes.specs.Block.{blockSize, leastIn, FirstOf, LeastFr
 ghost use Rattle.nodes.specs.Chain.{groupsIn, slotOf, lacking, allLack, hasRoom, groupFor, withGroup, openedTo, joinedTo, linkedTo, Chained, Recalled, Dominator, Tried};
 
 // ---- chains
-
-// The lesser of two words.
-fn lesser(a: u64, b: u64) -> u64
-    ensures { λ r. ⌜ r ≡ min a b ⌝ }
-{
-    if b < a {
-        return b;
-    }
-    a
-}
 
 // The word at a place no higher than the key.
 fn lower(scan: &mut [u64], at: usize, key: u64)

@@ -1,5 +1,5 @@
 -- The loops of the scans, a turn at a time: the least price, the key, the goal cost. Assumes nothing.
-use mathlib.Core.Path.{_≡_}
+use mathlib.Core.Path.{_≡_, ap, _∙_}
 use mathlib.Core.Bool.{cond}
 use mathlib.Core.List.{List, [], _∷_, _++_}
 use Prim.Native.Nat.{ℕ, zero, suc, _+_, _*_, _≤_, _<_, min}
@@ -33,6 +33,29 @@ leastOf-snoc (y ∷ xs) x = omega (arith, leastOf-snoc xs x)
 -- a turn of a loop over the prices
 pub least-more : (P : List ℕ) (k : ℕ) → k < length P → leastOf (take (k + 1) P) ≡ min (leastOf (take k P)) (getD P k 0)
 least-more P k h = rw (add-one, take-suc P k 0 h) (leastOf-snoc (take k P) (getD P k 0))
+
+-- the least of three, in whatever pairs
+min-assoc : (a b c : ℕ) → min (min a b) c ≡ min a (min b c)
+min-assoc a b c = omega arith
+
+-- four prices more, compared in pairs
+pub least-four-more : (P : List ℕ) (k : ℕ) → k + 4 ≤ length P
+    → leastOf (take (k + 4) P) ≡ min (leastOf (take k P)) (min (min (getD P k 0) (getD P (k + 1) 0)) (min (getD P (k + 2) 0) (getD P (k + 3) 0)))
+least-four-more P k h =
+    let L = leastOf (take k P) in
+    let p = getD P k 0 in
+    let q = getD P (k + 1) 0 in
+    let r = getD P (k + 2) 0 in
+    let s = getD P (k + 3) 0 in
+    let two : k + 1 + 1 ≡ k + 2 = omega arith in
+    let three : k + 2 + 1 ≡ k + 3 = omega arith in
+    let four : k + 3 + 1 ≡ k + 4 = omega arith in
+    let a = least-more P k (omega arith) in
+    let b = rw two at (least-more P (k + 1) (omega arith)) in
+    let c = rw three at (least-more P (k + 2) (omega arith)) in
+    let d = rw four at (least-more P (k + 3) (omega arith)) in
+    d ∙ ap (λ (x : ℕ). min x s) (c ∙ ap (λ (x : ℕ). min x r) (b ∙ ap (λ (x : ℕ). min x q) a ∙ min-assoc L p q))
+    ∙ min-assoc (min L (min p q)) r s ∙ min-assoc L (min p q) (min r s)
 
 -- the price that counts at state k: its own where it is a goal state
 abbrev pub goalBy : List ℕ → List ℕ → ℕ → ℕ
