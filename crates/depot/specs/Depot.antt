@@ -1,7 +1,7 @@
 -- The planner's and the pricer's answers as the numbers and words that a controller takes.
 pub mod Laws
 use mathlib.Core.Bool.{true, false, _&&_}
-use mathlib.Core.List.{List, [], _∷_, _++_}
+use mathlib.Core.List.{List, _∷_}
 use Prim.Native.Nat.{ℕ}
 use lib.Dec.{leb}
 use lib.ListN.{length, drop}

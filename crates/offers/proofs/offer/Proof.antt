@@ -1,6 +1,5 @@
 -- `offers::offer` meets its contract: one law for each of its four ends. Assumes nothing.
 use mathlib.Core.Path.{_≡_, sym, ap, _∙_}
-use mathlib.Core.Bool.{Bool}
 use mathlib.Core.List.{List}
 use Prim.Native.Nat.{ℕ, _+_, _≤_}
 use native.Mathlib.Omega.{arith}
@@ -10,7 +9,7 @@ use Rattle.loops.specs.Count.{any}
 use Rattle.layer.specs.Board.{Board, rowOn}
 use Rattle.layer.specs.Lent.{boardOf}
 use Rattle.search.specs.Node.{dominates}
-use Rattle.rows.specs.Begun.{readFrom, begunWords, read-begun, read-long}
+use Rattle.rows.specs.Begun.{begunWords, read-begun, read-long}
 use Rattle.rows.specs.Row.{nodeIn, nodeWith}
 use Rattle.rows.specs.Sign.{signOf}
 use Rattle.rows.specs.Sign.Laws.{class-lt}

@@ -1,5 +1,5 @@
 -- `planner::plan_task` meets its contract: 20, then 21, then the search. Assumes nothing.
-use mathlib.Core.Path.{_≡_, sym, _∙_}
+use mathlib.Core.Path.{_≡_}
 use native.Mathlib.Omega.{arith}
 use denote.Ref.{now}
 use Prim.Native.Nat.{_+_, _*_, _≤_}

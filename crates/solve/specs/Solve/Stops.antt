@@ -1,17 +1,17 @@
 -- A search that has stopped, as the code hands it on: the table's rows and the counts. Assumes nothing.
 use mathlib.Core.Path.{_≡_, refl, sym, ap, _∙_}
-use mathlib.Core.Bool.{Bool, true, false}
+use mathlib.Core.Bool.{true, false}
 use mathlib.Core.List.{List, [], _++_}
 use Prim.Native.Nat.{ℕ, zero, suc, _+_, _-_, _*_, _≤_, _<_}
 use native.Mathlib.Nat.{mul-le-mul-right}
 use native.Mathlib.Omega.{arith}
 use lib.Dec.{leb}
-use lib.ListN.{length, getD, drop, replicate}
+use lib.ListN.{length, drop, replicate}
 use lib.Seq.{drop-at}
 use borrow.Author.Tests.{lt-leb, le-leb}
 use Rattle.task.specs.declared.Task.{Task}
 use Rattle.task.specs.Factors.{allStates}
-use Rattle.search.specs.Node.{Node, firstNode, isGoal, goalCost}
+use Rattle.search.specs.Node.{firstNode, isGoal, goalCost}
 use Rattle.search.specs.Explore.{Search, Reason, finished, tableFull, budgetSpent, Stopped, nodeAt, explored}
 use Rattle.search.specs.Explore.Laws.{Base}
 use Rattle.search.specs.Explore.Rounds.{explored-base}

@@ -1,6 +1,6 @@
 -- `sweeps::settle_leaf` meets its contract. The enabled actions lead where the leaf's edges do; where no edge has its flag set they lead nowhere.
 -- Assumes nothing.
-use mathlib.Core.Path.{_≡_, refl, _∙_}
+use mathlib.Core.Path.{refl, _∙_}
 use mathlib.Core.Bool.{true≢false}
 use mathlib.Core.List.{List}
 use Prim.Native.Nat.{ℕ, _+_, _≤_, _<_}
