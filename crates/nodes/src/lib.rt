@@ -384,17 +384,21 @@ pub fn is_dominated(
 
 // ---- the choice
 
-// The first place of a word among the `count` words that begin at `from`, `count` if it is none of them.
+// The first place of a word among the `count` words that begin at `from`, `count` if it is none of them. All are looked at, the last first: where
+// the place is cannot be foretold, and a branch that is taken there takes longer.
 fn find(scan: &[u64], from: usize, count: usize, word: u64) -> usize
     requires { ⌜ from + count ≤ length (now scan) ⌝ }
     ensures { λ r. ⌜ FirstOf (drop from (now (scan .entry))) count word r ⌝ }
 {
-    for k in 0..count {
+    let mut found = count;
+    let mut k = count;
+    while k > 0 {
+        k -= 1;
         if scan[from + k] == word {
-            return k;
+            found = k;
         }
     }
-    count
+    found
 }
 
 // One more than the node with the least key below the bound, the lowest on ties; 0 for none. An upper word is picked, of those that the first `count`
