@@ -9,7 +9,7 @@ ghost use Rattle.loops.specs.Count.{all};
 ghost use Rattle.task.specs.Centre.{valueIn};
 ghost use Rattle.rows.specs.Row.{spotOf, nodeOf, nodeWith, Packed, NotAbove, Above, Tested};
 ghost use Rattle.rows.specs.Sign.{signOf};
-ghost use Rattle.rows.specs.Sign.Bits.{HigherAt, AtBit};
+ghost use Rattle.rows.specs.Sign.Bits.{AboveInBits};
 
 // Whether the row's node has this centre state: the same packs are the same values.
 fn same_spot(row: &[u64], spot: Centre) -> bool
@@ -68,50 +68,37 @@ fn place_from(row: &[u64], states: usize, prices: &[u64], from: usize) -> usize
     states
 }
 
-// Whether the row's price of state k, where there is one, is higher.
-fn is_above(row: &[u64], states: usize, prices: &[u64], k: usize) -> bool
-    requires { ⌜ (length (now row) ≡ 40 + states) × (states ≤ length (now prices)) ⌝ }
-    ensures { λ r. ⌜ HigherAt states (now (row .entry)) (now (prices .entry)) k r ⌝ }
+// A place where the row's price is higher among the bits of the prices' signature, each that of one state below 64; the number of states if there is
+// none.
+fn place_in_bits(row: &[u64], states: usize, prices: &[u64], sign: u64) -> usize
+    requires { ⌜ (length (now row) ≡ 40 + states) × (states ≤ length (now prices)) × (sign ≡ signOf (take states (now prices))) ⌝ }
+    ensures { λ r. ⌜ AboveInBits states (now (row .entry)) (now (prices .entry)) sign r ⌝ }
 {
-    if k >= states {
-        return false;
-    }
-    row[40 + k] > prices[k]
-}
-
-// A place where the row's price is higher among the states of bit k of a signature; the number of states if there is none.
-fn place_at_bit(row: &[u64], states: usize, prices: &[u64], k: usize) -> usize
-    requires { ⌜ (states < 128) × (length (now row) ≡ 40 + states) × (states ≤ length (now prices)) × (k < 64) ⌝ }
-    ensures { λ r. ⌜ AtBit states (now (row .entry)) (now (prices .entry)) k r ⌝ }
-{
-    if is_above(row, states, prices, k) {
-        return k;
-    }
-    if is_above(row, states, prices, k + 64) {
-        return k + 64;
+    let mut rest = sign;
+    while rest > 0 {
+        let k = u64::trailing_zeros(rest) as usize;
+        if row[40 + k] > prices[k] {
+            return k;
+        }
+        rest = rest & (rest - 1);
     }
     states
 }
 
-// A place where the row's price is higher, the number of states if there is none, by the bits of the prices' signature: fewer than 128 states are
-// each looked at there, and what cannot be reached has no lower price.
+// A place where the row's price is higher, the number of states if there is none: below 64 by the bits of the prices' signature, as what cannot be
+// reached has no lower price, and from there on one by one.
 fn place_by_sign(row: &[u64], states: usize, prices: &[u64], sign: u64) -> usize
     requires { ⌜ (states < 128) × (length (now row) ≡ 40 + states) × (states ≤ length (now prices)) × (sign ≡ signOf (take states (now prices))) ⌝ }
     ensures { λ r. ⌜ Above states (now (row .entry)) (now (prices .entry)) r ⌝ }
 {
-    let mut rest = sign;
-    let mut k: usize = 0;
-    while rest > 0 {
-        let skip = u64::trailing_zeros(rest);
-        let bit = k + skip as usize;
-        let place = place_at_bit(row, states, prices, bit);
-        if place < states {
-            return place;
-        }
-        rest = (rest >> skip) / 2;
-        k = bit + 1;
+    let place = place_in_bits(row, states, prices, sign);
+    if place < states {
+        return place;
     }
-    states
+    if states <= 64 {
+        return states;
+    }
+    place_from(row, states, prices, 64)
 }
 
 // The same of any number of states. `hint` is tried first: where one node was too high the next is often too.

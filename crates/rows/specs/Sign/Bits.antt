@@ -1,25 +1,25 @@
--- The bits of a signature, the lowest first. Where each state is looked at, a bit that is not set says that its states cannot be reached, so
--- that no price there is higher than theirs. Assumes nothing.
+-- The bits of a signature, the lowest first. Where each state is looked at, a bit that is set is that of a state below 64, and one that is not set
+-- says that its states cannot be reached, so that no price there is higher than theirs. Assumes nothing.
 use mathlib.Core.Path.{_≡_, refl, sym, ap, _∙_}
 use mathlib.Core.Logic.{_⊎_, inl, inr}
-use mathlib.Core.Bool.{Bool, true, false, cond}
+use mathlib.Core.Bool.{cond}
 use mathlib.Core.List.{List}
 use Prim.Native.Nat.{ℕ, zero, suc, _+_, _-_, _*_, _/_, _%_, _^_, _≤_, _<_, max}
-use native.Mathlib.Nat.{not-suc-le-zero, div-self, div-one, mul-one, zero-div}
+use native.Mathlib.Nat.{not-suc-le-zero, div-self, div-one, mul-one, zero-div, div-eq-of-lt}
 use native.Mathlib.Decide.{decLt, ℕ-discrete}
 use native.Mathlib.Numerals.{add-one}
 use native.Mathlib.Omega.{arith}
 use borrow.Author.Tests.{lt-ltb, le-ltb}
-use lib.Bits.{bitOr, or-shr}
+use lib.Bits.{bitAnd, bitOr, and-step, and-self, and-shr, or-shr}
 use lib.Count.{trailingZeros, under}
 use lib.Dec.{ltb}
 use lib.ListN.{length, getD, take}
-use lib.Pow.{pow-pos, shr-lt, shr-shr}
+use lib.Pow.{pow-pos, pow-lt, shr-lt, shr-shr}
 use lib.Seq.{getD-take, length-take-le}
 use Rattle.loops.specs.Count.Laws.{below-cases}
 use Rattle.leaf.specs.Price.{mark}
 use Rattle.leaf.specs.Settle.Turns.{at-any}
-use Rattle.rows.specs.Row.{NotAbove, Above}
+use Rattle.rows.specs.Row.{NotAbove}
 use Rattle.rows.specs.Sign.{signTo, strideOf, signOf}
 use Rattle.rows.specs.Sign.Laws.{or-odd}
 
@@ -27,51 +27,45 @@ use Rattle.rows.specs.Sign.Laws.{or-odd}
 abbrev pub Clear : ℕ → ℕ → Type 0
 Clear s b = s / 2 ^ b % 2 ≡ 0
 
--- no price of the row is higher at the states of the bits below k
-abbrev pub Passed : ℕ → List ℕ → List ℕ → ℕ → Type 0
-Passed S row P k = (i : ℕ) → i < S → i % 64 < k → getD row (40 + i) 0 ≤ getD P i 0
-
--- b says whether k is a place below S where the row's price is higher
-pub record HigherAt (S : ℕ) (row P : List ℕ) (k : ℕ) (b : Bool) : Type 0 where
-  pub yes-is : b ≡ true → (k < S) × (getD P k 0 < getD row (40 + k) 0)
-  pub no-is : b ≡ false → k < S → getD row (40 + k) 0 ≤ getD P k 0
-
--- k is a place below S where the row's price is higher, or S where there is none at the states of bit b
-pub record AtBit (S : ℕ) (row P : List ℕ) (b k : ℕ) : Type 0 where
+-- k is a place below S where the row's price is higher than that of P, or S where there is none at the bits below 64 that are set in s
+pub record AboveInBits (S : ℕ) (row P : List ℕ) (s k : ℕ) : Type 0 where
   pub inside : k ≤ S
   pub higher : k < S → getD P k 0 < getD row (40 + k) 0
-  pub none : k ≡ S → (i : ℕ) → i < S → i % 64 ≡ b → getD row (40 + i) 0 ≤ getD P i 0
+  pub none : k ≡ S → (i : ℕ) → i < 64 → (Clear s i → ⊥) → getD row (40 + i) 0 ≤ getD P i 0
 
--- a place where the row's price is higher
-pub at-bit-found : (S : ℕ) (row P : List ℕ) (b k : ℕ) → (k < S) × (getD P k 0 < getD row (40 + k) 0) → AtBit S row P b k
-at-bit-found S row P b k (l, h) = record { inside = omega arith; higher = λ _. h; none = λ e. absurd (omega arith) }
-
--- a bit has two states at most
-pub at-bit-none : (S : ℕ) (row P : List ℕ) (b : ℕ) → S < 128 → b < 64 → (b < S → getD row (40 + b) 0 ≤ getD P b 0)
-    → (b + 64 < S → getD row (40 + (b + 64)) 0 ≤ getD P (b + 64) 0) → AtBit S row P b S
-at-bit-none S row P b few small one two = record { inside = omega arith; higher = λ l. absurd (omega arith); none = λ _ i l e. go i l e (ℕ-discrete i b) }
-  where
-    go : (i : ℕ) → i < S → i % 64 ≡ b → Dec (i ≡ b) → getD row (40 + i) 0 ≤ getD P i 0
-    go i l e (yes q) = rw q (one (omega arith))
-    go i l e (no q) = let z : i ≡ b + 64 = omega arith in rw z (two (omega arith))
+-- `rest` is what is left of the bits of s: where one is gone, no price of the row is higher
+pub record Left (row P : List ℕ) (s rest : ℕ) : Type 0 where
+  pub of-all : (i : ℕ) → Clear s i → Clear rest i
+  pub gone : (i : ℕ) → i < 64 → (Clear s i → ⊥) → Clear rest i → getD row (40 + i) 0 ≤ getD P i 0
 
 -- ---- bits of a union
 
+-- a bit is set where it is in one or the other
 or-bit : (a b k : ℕ) → bitOr a b / 2 ^ k % 2 ≡ max (a / 2 ^ k % 2) (b / 2 ^ k % 2)
 or-bit a b k = ap (λ (x : ℕ). x % 2) (or-shr a b k) ∙ or-odd (a / 2 ^ k) (b / 2 ^ k)
 
+-- so where it is not, it is in neither
 clear-left : (a b k : ℕ) → Clear (bitOr a b) k → Clear a k
 clear-left a b k e = omega (arith, or-bit a b k)
 
 clear-right : (a b k : ℕ) → Clear (bitOr a b) k → Clear b k
 clear-right a b k e = omega (arith, or-bit a b k)
 
--- a bit is set in its own word
+-- and the other way round
+clear-both : (a b k : ℕ) → Clear a k → Clear b k → Clear (bitOr a b) k
+clear-both a b k e f = omega (arith, or-bit a b k)
+
+-- a power of two has no bit above its own
+bit-above : (k i : ℕ) → k < i → Clear (2 ^ k) i
+bit-above k i l = ap (λ (x : ℕ). x % 2) (div-eq-of-lt (pow-lt l))
+
+-- and has its own
 bit-set : (k : ℕ) → Clear (2 ^ k) k → ⊥
 bit-set k e = omega (arith, ap (λ (x : ℕ). x % 2) (div-self {n = 2 ^ k} (pow-pos k)))
 
 -- ---- what a bit of a signature says
 
+-- the state of a bit that is not set, where it was looked at, cannot be reached
 sign-clear : (step : ℕ) (P : List ℕ) (n i : ℕ) → i < n → Clear (signTo step P n) (i % 64) → mark ≤ getD P (i * step) mark
 unfolding signTo
 sign-clear step P zero i l e = absurd (not-suc-le-zero l)
@@ -96,85 +90,144 @@ stride-one n l = go (decLt n 64)
     go (yes h) = rw (lt-ltb n 64 h)
     go (no h) = rw (le-ltb n 64 (omega arith)) (omega arith)
 
+-- the same of all states, fewer than 128
 unreached : (P : List ℕ) → length P < 128 → (i : ℕ) → i < length P → Clear (signOf P) (i % 64) → mark ≤ getD P i mark
 unfolding signOf
 unreached P few i l e =
     let one = stride-one (length P) few in
     rw mul-one at (sign-clear 1 P (length P / 1) i (omega (arith, div-one (length P))) (rw one at e))
 
--- ---- the zeros below a number's lowest set bit
+-- no bit is set above those of the states looked at
+sign-above : (step : ℕ) (P : List ℕ) (n i : ℕ) → n ≤ i → i < 64 → Clear (signTo step P n) i
+unfolding signTo
+sign-above step P zero i l small = ap (λ (x : ℕ). x % 2) (zero-div (2 ^ i))
+sign-above step P (suc n) i l small = go (decLt (getD P (n * step) mark) mark) (sign-above step P n i (omega arith) small)
+  where
+    go : Dec (getD P (n * step) mark < mark) → Clear (signTo step P n) i → Clear (signTo step P (suc n)) i
+    go (yes h) c =
+        let e : n % 64 ≡ n = omega arith in
+        rw (signTo, lt-ltb (getD P (n * step) mark) mark h, e) (clear-both (signTo step P n) (2 ^ n) i c (bit-above n i l))
+    go (no h) c = rw (signTo, le-ltb (getD P (n * step) mark) mark (omega arith)) c
 
+-- so none below 64 is set for which there is no state
+no-state : (P : List ℕ) (i : ℕ) → length P ≤ i → i < 64 → Clear (signOf P) i
+unfolding signOf
+no-state P i l small =
+    let one = stride-one (length P) (omega arith) in
+    rw one (sign-above 1 P (length P / 1) i (omega (arith, div-one (length P))) small)
+
+-- ---- the lowest set bit of a number
+
+-- bit j of the half is bit j + 1
 half-shr : (n j : ℕ) → n / 2 / 2 ^ j ≡ n / 2 ^ suc j
 half-shr n j = let e : 1 + j ≡ suc j = omega arith in rw e at (shr-shr n 1 j)
 
-trailing-clear : (d n j : ℕ) → j < trailingZeros d n → Clear n j
+clear-half : (n j : ℕ) → Clear n (suc j) → Clear (n / 2) j
+clear-half n j e = ap (λ (x : ℕ). x % 2) (half-shr n j) ∙ e
+
+half-clear : (n j : ℕ) → Clear (n / 2) j → Clear n (suc j)
+half-clear n j e = ap (λ (x : ℕ). x % 2) (sym (half-shr n j)) ∙ e
+
+-- a number of d bits has its lowest set bit among them
+low-lt : (d n : ℕ) → 0 < n → n < 2 ^ d → trailingZeros d n < d
 unfolding trailingZeros
-trailing-clear zero n j l = absurd (not-suc-le-zero l)
-trailing-clear (suc d) n j l = go (n % 2) refl (trailing-clear d (n / 2)) j l
+low-lt zero n p h = absurd (omega arith)
+low-lt (suc d) n p h = go (n % 2) refl (λ q. low-lt d (n / 2) q (shr-lt {n = n} d 1 (rw add-one h)))
   where
-    go : (r : ℕ) → n % 2 ≡ r → ((k : ℕ) → k < trailingZeros d (n / 2) → Clear (n / 2) k) → (j : ℕ) → j < under r (trailingZeros d (n / 2)) → Clear n j
-    go zero e ih zero h = ap (λ (x : ℕ). x % 2) (div-one n) ∙ e
-    go zero e ih (suc j) h = ap (λ (x : ℕ). x % 2) (sym (half-shr n j)) ∙ ih j (omega arith)
-    go (suc r) e ih j h = absurd (not-suc-le-zero h)
+    go : (r : ℕ) → n % 2 ≡ r → (0 < n / 2 → trailingZeros d (n / 2) < d) → under r (trailingZeros d (n / 2)) < suc d
+    go zero e ih = omega (arith, ih (omega arith))
+    go (suc r) e ih = omega arith
 
-trailing-lt : (d e n : ℕ) → e ≤ d → 0 < n → n < 2 ^ e → trailingZeros d n < e
+-- it is set
+low-set : (d n : ℕ) → 0 < n → n < 2 ^ d → Clear n (trailingZeros d n) → ⊥
 unfolding trailingZeros
-trailing-lt d zero n l p h = absurd (omega arith)
-trailing-lt zero (suc e) n l p h = absurd (not-suc-le-zero l)
-trailing-lt (suc d) (suc e) n l p h =
-    let below : n / 2 < 2 ^ e = shr-lt {n = n} e 1 (rw add-one h) in
-    go (n % 2) refl (λ q. trailing-lt d e (n / 2) (omega arith) q below)
+low-set zero n p h = absurd (omega arith)
+low-set (suc d) n p h = go (n % 2) refl (λ q. low-set d (n / 2) q (shr-lt {n = n} d 1 (rw add-one h)))
   where
-    go : (r : ℕ) → n % 2 ≡ r → (0 < n / 2 → trailingZeros d (n / 2) < e) → under r (trailingZeros d (n / 2)) < suc e
-    go zero q ih = omega (arith, ih (omega arith))
-    go (suc r) q ih = omega arith
+    go : (r : ℕ) → n % 2 ≡ r → (0 < n / 2 → Clear (n / 2) (trailingZeros d (n / 2)) → ⊥) → Clear n (under r (trailingZeros d (n / 2))) → ⊥
+    go zero e ih c = ih (omega arith) (clear-half n (trailingZeros d (n / 2)) c)
+    go (suc r) e ih c = omega (arith, div-one n)
 
--- ---- walking the bits of a signature s: those below k are done, and `rest` is what is left of it
+-- `n & (n - 1)` is n without its lowest set bit. Where that is the last bit, the others stay
+less-odd : (n : ℕ) → n % 2 ≡ 1 → bitAnd n (n - 1) / 2 ≡ n / 2
+less-odd n e =
+    let h : (n - 1) / 2 ≡ n / 2 = omega arith in
+    omega (arith, rw h at (and-step n (n - 1)), and-self (n / 2))
 
-module _ (s k rest : ℕ) (small : s < 2 ^ 64) (few : k ≤ 64) (is : rest ≡ s / 2 ^ k) (some : 0 < rest) where
-  -- the next bit that is set
-  pub bit-lt : k + trailingZeros 64 rest < 64
-  bit-lt =
-      let e : 64 - k + k ≡ 64 = omega arith in
-      let low : rest < 2 ^ (64 - k) = rw is (shr-lt {n = s} (64 - k) k (rw e small)) in
-      omega (arith, trailing-lt 64 (64 - k) rest (omega arith) some low)
+-- and else they lose it
+less-even : (n : ℕ) → 0 < n → n % 2 ≡ 0 → bitAnd n (n - 1) / 2 ≡ bitAnd (n / 2) (n / 2 - 1)
+less-even n p e =
+    let h : (n - 1) / 2 ≡ n / 2 - 1 = omega arith in
+    omega (arith, rw h at (and-step n (n - 1)))
 
-  -- what is left behind it
-  pub rest-more : rest / 2 ^ trailingZeros 64 rest / 2 ≡ s / 2 ^ (k + trailingZeros 64 rest + 1)
-  rest-more = ap (λ (x : ℕ). x / 2 ^ trailingZeros 64 rest / 2) is ∙ ap (λ (x : ℕ). x / 2) (shr-shr s k (trailingZeros 64 rest)) ∙ shr-shr s (k + trailingZeros 64 rest) 1
+-- so every other bit stays
+less-other : (d n i : ℕ) → 0 < n → i < d → (i ≡ trailingZeros d n → ⊥) → Clear (bitAnd n (n - 1)) i → Clear n i
+unfolding trailingZeros
+less-other zero n i p l = absurd (not-suc-le-zero l)
+less-other (suc d) n i p l = go (n % 2) refl i l (less-other d (n / 2))
+  where
+    go : (r : ℕ) → n % 2 ≡ r → (i : ℕ) → i < suc d
+        → ((j : ℕ) → 0 < n / 2 → j < d → (j ≡ trailingZeros d (n / 2) → ⊥) → Clear (bitAnd (n / 2) (n / 2 - 1)) j → Clear (n / 2) j)
+        → (i ≡ under r (trailingZeros d (n / 2)) → ⊥) → Clear (bitAnd n (n - 1)) i → Clear n i
+    go zero e zero l ih other c = omega (arith, div-one n)
+    go zero e (suc j) l ih other c =
+        half-clear n j (ih j (omega arith) (omega arith) (λ q. other (ap suc q)) (rw (less-even n p e) at (clear-half (bitAnd n (n - 1)) j c)))
+    go (suc r) e zero l ih other c = absurd (other refl)
+    go (suc r) e (suc j) l ih other c =
+        let odd : n % 2 ≡ 1 = omega arith in
+        half-clear n j (rw (less-odd n odd) at (clear-half (bitAnd n (n - 1)) j c))
 
-  -- the bits before it are not set
-  clear-until : (b : ℕ) → k ≤ b → b < k + trailingZeros 64 rest → Clear s b
-  clear-until b low high =
-      let e : k + (b - k) ≡ b = omega arith in
-      rw e at (ap (λ (x : ℕ). x % 2) (sym (shr-shr s k (b - k))) ∙ rw is at (trailing-clear 64 rest (b - k) (omega arith)))
+-- and none is set that was not
+and-clear : (a b i : ℕ) → Clear a i → Clear (bitAnd a b) i
+and-clear a b i e = omega (arith, and-shr a b i, and-step (a / 2 ^ i) (b / 2 ^ i))
 
-module _ (S : ℕ) (row P : List ℕ) (few : S < 128) (long : S ≤ length P) (capped : (i : ℕ) → getD row i 0 ≤ mark) where
-  -- no price is higher than that of a state that cannot be reached
-  clear-low : (i : ℕ) → i < S → Clear (signOf (take S P)) (i % 64) → getD row (40 + i) 0 ≤ getD P i 0
-  clear-low i l e =
-      let n = length-take-le S P long in
-      let far = unreached (take S P) (omega (arith, n)) i (omega (arith, n)) e in
-      let same : getD (take S P) i mark ≡ getD P i 0 = getD-take S P i mark l ∙ at-any P i mark 0 (omega arith) in
-      omega (arith, far, same, capped (40 + i))
+-- ---- walking the bits of a signature s
 
-  -- a bit more
-  pub passed-more : (s k rest : ℕ) → s < 2 ^ 64 → s ≡ signOf (take S P) → k ≤ 64 → rest ≡ s / 2 ^ k → 0 < rest → Passed S row P k
-      → ((i : ℕ) → i < S → i % 64 ≡ k + trailingZeros 64 rest → getD row (40 + i) 0 ≤ getD P i 0) → Passed S row P (k + trailingZeros 64 rest + 1)
-  passed-more s k rest small own low is some h here i l m = go (decLt (i % 64) k) (ℕ-discrete (i % 64) (k + trailingZeros 64 rest))
-    where
-      go : Dec (i % 64 < k) → Dec (i % 64 ≡ k + trailingZeros 64 rest) → getD row (40 + i) 0 ≤ getD P i 0
-      go (yes a) d = h i l a
-      go (no a) (yes b) = here i l b
-      go (no a) (no b) = clear-low i l (rw own at (clear-until s k rest small low is some (i % 64) (omega arith) (omega arith)))
+module _ (row P : List ℕ) (s : ℕ) where
+  -- all are left
+  pub left-all : Left row P s s
+  left-all = record { of-all = λ i c. c; gone = λ i small set c. absurd (set c) }
 
-  -- no bit is left
-  pub passed-all : (s k : ℕ) → s ≡ signOf (take S P) → s / 2 ^ k ≡ 0 → Passed S row P k → NotAbove row P S
-  passed-all s k own is h i l = go (decLt (i % 64) k)
-    where
-      go : Dec (i % 64 < k) → getD row (40 + i) 0 ≤ getD P i 0
-      go (yes a) = h i l a
-      go (no a) =
-          let e : k + (i % 64 - k) ≡ i % 64 = omega arith in
-          let z : s / 2 ^ (i % 64) ≡ 0 = rw e at (sym (shr-shr s k (i % 64 - k)) ∙ ap (λ (x : ℕ). x / 2 ^ (i % 64 - k)) is ∙ zero-div (2 ^ (i % 64 - k))) in
-          clear-low i l (rw own at (ap (λ (x : ℕ). x % 2) z))
+  -- none is left
+  pub left-none : (S : ℕ) → Left row P s 0 → AboveInBits S row P s S
+  left-none S h = record {
+    inside = omega arith;
+    higher = λ l. absurd (omega arith);
+    none = λ _ i small set. h .gone i small set (ap (λ (x : ℕ). x % 2) (zero-div (2 ^ i)));
+  }
+
+  module _ (rest : ℕ) (word : rest < 2 ^ 64) (some : 0 < rest) (h : Left row P s rest) where
+    -- the lowest is that of a state
+    pub left-state : (S : ℕ) → S ≤ length P → s ≡ signOf (take S P) → trailingZeros 64 rest < S
+    left-state S long own = go (decLt (trailingZeros 64 rest) S)
+      where
+        go : Dec (trailingZeros 64 rest < S) → trailingZeros 64 rest < S
+        go (yes l) = l
+        go (no l) =
+            let c = no-state (take S P) (trailingZeros 64 rest) (omega (arith, length-take-le S P long)) (low-lt 64 rest some word) in
+            absurd (low-set 64 rest some word (h .of-all (trailingZeros 64 rest) (rw own c)))
+
+    -- it goes
+    pub left-less : getD row (40 + trailingZeros 64 rest) 0 ≤ getD P (trailingZeros 64 rest) 0 → Left row P s (bitAnd rest (rest - 1))
+    left-less here = record {
+      of-all = λ i c. and-clear rest (rest - 1) i (h .of-all i c);
+      gone = λ i small set c. go i small set c (ℕ-discrete i (trailingZeros 64 rest));
+    }
+      where
+        go : (i : ℕ) → i < 64 → (Clear s i → ⊥) → Clear (bitAnd rest (rest - 1)) i → Dec (i ≡ trailingZeros 64 rest) → getD row (40 + i) 0 ≤ getD P i 0
+        go i small set c (yes q) = rw q here
+        go i small set c (no q) = h .gone i small set (less-other 64 rest i some small q c)
+
+-- no price is higher than that of a state that cannot be reached, so that none below 64 is where none is at the bits
+pub bits-none : (S : ℕ) (row P : List ℕ) (s k : ℕ) → S < 128 → S ≤ length P → s ≡ signOf (take S P) → ((i : ℕ) → getD row i 0 ≤ mark)
+    → AboveInBits S row P s k → S ≤ k → (m : ℕ) → m ≤ S → m ≤ 64 → NotAbove row P m
+bits-none S row P s k few long own capped r end m low small i l = go (ℕ-discrete (s / 2 ^ i % 2) 0)
+  where
+    go : Dec (Clear s i) → getD row (40 + i) 0 ≤ getD P i 0
+    go (yes c) =
+        let n = length-take-le S P long in
+        let e : i % 64 ≡ i = omega arith in
+        let far = unreached (take S P) (omega (arith, n)) i (omega (arith, n)) (rw (e, ← own) c) in
+        let same : getD (take S P) i mark ≡ getD P i 0 = getD-take S P i mark (omega arith) ∙ at-any P i mark 0 (omega arith) in
+        omega (arith, far, same, capped (40 + i))
+    go (no set) = let e : k ≡ S = omega (arith, r .inside) in r .none e i (omega arith) set
