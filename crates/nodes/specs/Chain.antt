@@ -1,6 +1,6 @@
--- The scan words: 57,616 words. Open keys stand at u, signatures at 4096 + u, the links of groups at 8192 + g, heads at 12288 + h, the number of groups
+-- The scan words: 45,328 words. Open keys stand at u, signatures at 4096 + u, the links of groups at 8192 + g, heads at 12288 + h, the number of groups
 -- at 16383, block words at 16384 + b, upper words at 16640 + b, the signatures of entries at 16656 + 4 * g + k, the words of groups at 33040 + g, the
--- nodes of entries at 37136 + 4 * g + k, recent words at 53520 + k.
+-- nodes of entries, four in a word, at 37136 + g, recent words at 41232 + k.
 -- Nodes are chained by the class of their centre state, in groups: a group has up to four entries, each a node with its signature, so that a walk sees
 -- four signatures side by side. A link or a head is one more than a group's number, 0 for none: the link of a group is the last group before it of the
 -- same class, the head of a class is the last group of that class, to which the next node of the class goes while it has room.
@@ -12,7 +12,7 @@ pub mod Walk
 use mathlib.Core.Path.{_≡_}
 use mathlib.Core.Bool.{Bool, true, false, not, cond, _&&_}
 use mathlib.Core.List.{List}
-use Prim.Native.Nat.{ℕ, zero, suc, _+_, _-_, _*_, _/_, _%_, _≤_, _<_}
+use Prim.Native.Nat.{ℕ, zero, suc, _+_, _-_, _*_, _/_, _%_, _^_, _≤_, _<_}
 use lib.Bits.{bitOr}
 use lib.Dec.{eqb, ltb}
 use lib.ListN.{length, getD, set}
@@ -48,12 +48,19 @@ classAt C g = wordAt C g / 8
 abbrev pub fillAt : List ℕ → ℕ → ℕ
 fillAt C g = wordAt C g % 8
 
+-- entry k of the nodes in a word, 16 bits each
+unfoldable pub entryOf : ℕ → ℕ → ℕ
+entryOf w k = w / 2 ^ (16 * k) % 65536
+
 -- the signature and the node of entry k of group g
 abbrev pub shownAt : List ℕ → ℕ → ℕ → ℕ
 shownAt C g k = getD C (16656 + 4 * g + k) 0
 
+abbrev pub nodesAt : List ℕ → ℕ → ℕ
+nodesAt C g = getD C (37136 + g) 0
+
 abbrev pub entryAt : List ℕ → ℕ → ℕ → ℕ
-entryAt C g k = getD C (37136 + 4 * g + k) 0
+entryAt C g k = entryOf (nodesAt C g) k
 
 -- the place of the recent word of a class h and a signature s; any number below 4,096 is right, only speed depends on it
 unfoldable pub slotOf : ℕ → ℕ → ℕ
@@ -78,9 +85,14 @@ withGroup C h g = set (set (set (set C (8192 + g) (headAt C h)) (33040 + g) (h *
 unfoldable pub openedTo : List ℕ → ℕ → List ℕ
 openedTo C h = cond (hasRoom C (headAt C h)) C (withGroup C h (groupsIn C % 4096))
 
+-- node n is entry k of the nodes in a word, and none is behind it
+unfoldable pub withEntry : ℕ → ℕ → ℕ → ℕ
+withEntry w k n = w % 2 ^ (16 * k) + n * 2 ^ (16 * k)
+
 -- node n, of signature s, is the next entry of group g
 unfoldable pub joinedTo : List ℕ → ℕ → ℕ → ℕ → List ℕ
-joinedTo C g n s = set (set (set C (16656 + 4 * g + wordAt C g % 4) s) (37136 + 4 * g + wordAt C g % 4) n) (33040 + g) (wordAt C g % 65536 + 1)
+joinedTo C g n s =
+    set (set (set C (16656 + 4 * g + wordAt C g % 4) s) (37136 + g) (withEntry (nodesAt C g) (wordAt C g % 4) n)) (33040 + g) (wordAt C g % 65536 + 1)
 
 -- its key and its signature are stored, and its block's word is no higher than its key, nor is the upper word
 unfoldable pub blockedTo : List ℕ → ℕ → ℕ → ℕ → List ℕ
@@ -131,7 +143,7 @@ pub record Grouped (S : ℕ) (T C : List ℕ) (n : ℕ) : Type 0 where
 
 -- the first n nodes of table T have their signatures in C and are chained, the block words are those of their open keys, and their rows have their packs
 pub record Chained (S : ℕ) (T C : List ℕ) (n : ℕ) : Type 0 where
-  pub long : length C ≡ 57616
+  pub long : length C ≡ 45328
   pub signs : (u : ℕ) → u < n → signAt C u ≡ signOf (nodeIn S T u .prices)
   pub few-groups : groupsIn C ≤ n
   pub grouped : Grouped S T C n
@@ -141,7 +153,7 @@ pub record Chained (S : ℕ) (T C : List ℕ) (n : ℕ) : Type 0 where
 -- the scan words D are those of C but for recent words
 pub record Recalled (C D : List ℕ) : Type 0 where
   pub long : length D ≡ length C
-  pub same : (i : ℕ) → i < 53520 → getD D i 0 ≡ getD C i 0
+  pub same : (i : ℕ) → i < 41232 → getD D i 0 ≡ getD C i 0
 
 -- ---- the node that dominates
 

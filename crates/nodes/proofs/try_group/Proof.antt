@@ -13,11 +13,11 @@ use Rattle.nodes.proofs.try_group.Statement.{statement}
 use Rattle.nodes.proofs.try_group.Tie as tie
 
 abbrev Inv-loop : tie.InvT-loop
-Inv-loop table states count scan group sign spot paid prices fill hint₀ k₀ hint k =
+Inv-loop table states count scan group sign spot paid prices fill nodes hint₀ k₀ hint k =
     (k ≤ fill) × (hint ≤ states) × Missed states table scan (nodeWith spot paid (take states prices) 0 0) group k
 
 abbrev μ-loop : tie.MeasureT-loop
-μ-loop table states count scan group sign spot paid prices fill hint₀ k₀ hint k = fill - k
+μ-loop table states count scan group sign spot paid prices fill nodes hint₀ k₀ hint k = fill - k
 
 -- the new node
 abbrev fresh : tie.Start Inv-loop μ-loop → Node
@@ -29,7 +29,7 @@ small s = omega (arith, s .pre .1 .0, s .pre .0 .4 .few-groups, s .pre .0 .1)
 
 -- where the function starts
 abbrev start : tie.In-loop Inv-loop μ-loop → tie.Start Inv-loop μ-loop
-start c = c .before .before .before .before .before .before
+start c = c .before .before .before .before .before .before .before
 
 -- a group has four entries at most
 few : (c : tie.In-loop Inv-loop μ-loop) → c .before .loop .k < 4
@@ -51,26 +51,23 @@ mul-fill c = omega (arith, small (c .before .before .before))
 shared-slice-read-fill : tie.Need-shared-slice-read-fill Inv-loop μ-loop
 shared-slice-read-fill c = let s = c .before .before .before .before in omega (arith, small s, s .pre .0 .4 .long)
 
+add-nodes : tie.Need-add-nodes Inv-loop μ-loop
+add-nodes c = omega (arith, small (c .before .before .before .before))
+
+mul-nodes : tie.Need-mul-nodes Inv-loop μ-loop
+mul-nodes c = omega (arith, small (c .before .before .before .before))
+
+shared-slice-read-nodes : tie.Need-shared-slice-read-nodes Inv-loop μ-loop
+shared-slice-read-nodes c = let s = c .before .before .before .before .before in omega (arith, small s, s .pre .0 .4 .long)
+
 loop-holds : tie.Need-loop-holds Inv-loop μ-loop
 loop-holds c =
-    let s = c .before .before .before .before in
+    let s = c .before .before .before .before .before in
     let a = s .args in
     (omega arith, omega arith, missed-none (a .states) (a .table .now) (a .scan .now) (a .count) (fresh s) (s .pre .0 .4 .grouped) (a .group))
 
-mul-u : tie.Need-mul-u Inv-loop μ-loop
-mul-u c = omega (arith, small (start c))
-
-add-u : tie.Need-add-u Inv-loop μ-loop
-add-u c = omega (arith, small (start c))
-
-add-u-2 : tie.Need-add-u-2 Inv-loop μ-loop
-add-u-2 c = omega (arith, small (start c), few c)
-
-mul-u-2 : tie.Need-mul-u-2 Inv-loop μ-loop
-mul-u-2 c = omega (arith, small (start c), few c)
-
-shared-slice-read-u : tie.Need-shared-slice-read-u Inv-loop μ-loop
-shared-slice-read-u c = let t = c .before in omega (arith, small (start t), few t, start t .pre .0 .4 .long)
+entry-of-requires : tie.Need-entry-of-requires Inv-loop μ-loop
+entry-of-requires c κs = few c
 
 mul-theirs : tie.Need-mul-theirs Inv-loop μ-loop
 mul-theirs c = omega (arith, small (start (c .before)))
@@ -93,23 +90,32 @@ test-node-requires c κs =
     let s = start t in
     let a = s .args in
     let e = entry t in
-    let room = row-in (a .states) (a .count) (node t) (a .table .now) (e .inside) (s .pre .0 .2) in
-    ((s .pre .0 .0, room, s .pre .0 .3, t .before .loop .inv .1, s .pre .0 .4 .packed (node t) (e .inside)), (e .shown, s .pre .1 .1))
+    rw (c .before .entry-of .ensures) (
+      (
+        s .pre .0 .0,
+        row-in (a .states) (a .count) (node t) (a .table .now) (e .inside) (s .pre .0 .2),
+        s .pre .0 .3,
+        t .before .loop .inv .1,
+        s .pre .0 .4 .packed (node t) (e .inside),
+      ),
+      (e .shown, s .pre .1 .1),
+    )
 
 -- what the test of the entry tells
 tested : (c : tie.After-test-node Inv-loop μ-loop) → let t = c .before .before .before in let a = start t .args in
     Tested (a .states) (nodeIn (a .states) (a .table .now) (node t)) (fresh (start t)) (c .test-node .result)
-tested c = c .test-node .ensures
+tested c = rw (c .before .before .entry-of .ensures) at (c .test-node .ensures)
 
 add-result : tie.Need-add-result Inv-loop μ-loop
-add-result c = let t = c .before .before .before .before in omega (arith, entry t .inside, start t .pre .0 .1)
+add-result c = let t = c .before .before .before .before in rw (c .before .before .before .entry-of .ensures) (omega (arith, entry t .inside, start t .pre .0 .1))
 
 returns : tie.Need-returns Inv-loop μ-loop
 returns c =
     let t = c .before .before .before .before in
     let a = start t .args in
-    tried-found (a .states) (a .table .now) (a .scan .now) (a .count) (fresh (start t)) (start t .pre .0 .4 .grouped) (a .group) (node t) (entry t .inside)
-    (tested (c .before) .found (c .if1 .taken))
+    rw (c .before .before .before .entry-of .ensures)
+    (tried-found (a .states) (a .table .now) (a .scan .now) (a .count) (fresh (start t)) (start t .pre .0 .4 .grouped) (a .group) (node t) (entry t .inside)
+    (tested (c .before) .found (c .if1 .taken)))
 
 add-k : tie.Need-add-k Inv-loop μ-loop
 add-k c = search needs
@@ -129,7 +135,7 @@ loop-again c =
 
 returns-2 : tie.Need-returns-2 Inv-loop μ-loop
 returns-2 c =
-    let s = c .before .before .before .before .before .before in
+    let s = c .before .before .before .before .before .before .before in
     let l = c .before .loop in
     let a = s .args in
     let e : l .k ≡ fillAt (a .scan .now) (a .group) = omega (arith, l .inv .0, c .loop-test .left) in
@@ -144,12 +150,11 @@ try-group-spec =
     add-fill
     mul-fill
     shared-slice-read-fill
+    add-nodes
+    mul-nodes
+    shared-slice-read-nodes
     loop-holds
-    mul-u
-    add-u
-    add-u-2
-    mul-u-2
-    shared-slice-read-u
+    entry-of-requires
     mul-theirs
     add-theirs
     add-theirs-2

@@ -3,7 +3,7 @@ use mathlib.Core.Path.{_≡_, refl, sym, ap, _∙_}
 use mathlib.Core.Logic.{_⊎_, inl, inr}
 use mathlib.Core.Bool.{true, false, true≢false}
 use mathlib.Core.List.{List}
-use Prim.Native.Nat.{ℕ, zero, suc, _+_, _-_, _*_, _/_, _%_, _≤_, _<_}
+use Prim.Native.Nat.{ℕ, zero, suc, _+_, _-_, _*_, _/_, _%_, _^_, _≤_, _<_}
 use native.Mathlib.Nat.{not-suc-le-zero}
 use native.Mathlib.Omega.{arith}
 use native.Mathlib.Decide.{ℕ-discrete}
@@ -13,7 +13,7 @@ use lib.Seq.{getD-set-same, getD-set-other}
 use Rattle.loops.specs.Count.Laws.{below-cases, test-cases}
 use Rattle.rows.specs.Row.{nodeOf, rowIn, nodeIn}
 use Rattle.rows.specs.Sign.{classOf, signOf}
-use Rattle.nodes.specs.Chain.{signAt, linkAt, headAt, groupsIn, wordAt, classAt, fillAt, shownAt, entryAt, hasRoom, groupFor, withGroup, openedTo, joinedTo, Entry, Placed, Grouped}
+use Rattle.nodes.specs.Chain.{signAt, linkAt, headAt, groupsIn, wordAt, classAt, fillAt, entryOf, shownAt, nodesAt, entryAt, hasRoom, groupFor, withGroup, openedTo, withEntry, joinedTo, Entry, Placed, Grouped}
 
 -- ---- the group that a node goes to
 
@@ -50,6 +50,48 @@ module _ (C : List ℕ) where
       go (inl e) = omega (arith, group-last h e .0)
       go (inr e) = omega (arith, group-new h e .0)
 
+-- ---- the nodes in a word
+
+-- the unit of entry k, as a word that is shifted
+pub unit-is : (k : ℕ) → k < 4 → (1 * 2 ^ (16 * k)) % 2 ^ 64 ≡ 2 ^ (16 * k)
+unit-is zero b = refl
+unit-is (suc zero) b = refl
+unit-is (suc (suc zero)) b = refl
+unit-is (suc (suc (suc zero))) b = refl
+unit-is (suc (suc (suc (suc k)))) b = absurd (omega arith)
+
+-- it is not 0, and the entry fits a word behind what stands before it
+pub entry-fits : (w k n : ℕ) → k < 4 → n < 4096 → (0 < 2 ^ (16 * k)) × (w % 2 ^ (16 * k) + n * 2 ^ (16 * k) < 2 ^ 64)
+entry-fits w zero n b l = (omega arith, omega arith)
+entry-fits w (suc zero) n b l = (omega arith, omega arith)
+entry-fits w (suc (suc zero)) n b l = (omega arith, omega arith)
+entry-fits w (suc (suc (suc zero))) n b l = (omega arith, omega arith)
+entry-fits w (suc (suc (suc (suc k)))) n b l = absurd (omega arith)
+
+-- the entry that is stored
+pub entry-here : (w k n : ℕ) → k < 4 → n < 4096 → entryOf (withEntry w k n) k ≡ n
+unfolding entryOf withEntry
+entry-here w zero n b l = omega arith
+entry-here w (suc zero) n b l = omega arith
+entry-here w (suc (suc zero)) n b l = omega arith
+entry-here w (suc (suc (suc zero))) n b l = omega arith
+entry-here w (suc (suc (suc (suc k)))) n b l = absurd (omega arith)
+
+-- the entries before it
+pub entry-before : (w i k n : ℕ) → i < k → k < 4 → entryOf (withEntry w k n) i ≡ entryOf w i
+unfolding entryOf withEntry
+entry-before w zero (suc zero) n a b = omega arith
+entry-before w zero (suc (suc zero)) n a b = omega arith
+entry-before w zero (suc (suc (suc zero))) n a b = omega arith
+entry-before w (suc zero) (suc (suc zero)) n a b = omega arith
+entry-before w (suc zero) (suc (suc (suc zero))) n a b = omega arith
+entry-before w (suc (suc zero)) (suc (suc (suc zero))) n a b = omega arith
+entry-before w i zero n a b = absurd (omega arith)
+entry-before w (suc i) (suc zero) n a b = absurd (omega arith)
+entry-before w (suc (suc i)) (suc (suc zero)) n a b = absurd (omega arith)
+entry-before w (suc (suc (suc i))) (suc (suc (suc zero))) n a b = absurd (omega arith)
+entry-before w i (suc (suc (suc (suc k)))) n a b = absurd (omega arith)
+
 -- ---- none, and the same words
 
 -- no group
@@ -71,7 +113,7 @@ grouped-none S T C z =
 -- the words of groups are the same: links and heads, and from the entries' signatures on
 pub record SameGroups (C D : List ℕ) : Type 0 where
   pub chains : (i : ℕ) → 8192 ≤ i → i < 16384 → getD D i 0 ≡ getD C i 0
-  pub members : (i : ℕ) → 16656 ≤ i → i < 53520 → getD D i 0 ≡ getD C i 0
+  pub members : (i : ℕ) → 16656 ≤ i → i < 41232 → getD D i 0 ≡ getD C i 0
 
 module _ (S : ℕ) (T C D : List ℕ) (n : ℕ) (few : groupsIn C ≤ 4096) (s : SameGroups C D) (r : Grouped S T C n) where
   same-groups : groupsIn D ≡ groupsIn C
@@ -89,8 +131,8 @@ module _ (S : ℕ) (T C D : List ℕ) (n : ℕ) (few : groupsIn C ≤ 4096) (s :
   same-class : (g : ℕ) → g < groupsIn C → classAt D g ≡ classAt C g
   same-class g l = ap (λ (x : ℕ). x / 8) (same-word g l)
 
-  same-entry : (g k : ℕ) → g < groupsIn C → k < 4 → entryAt D g k ≡ entryAt C g k
-  same-entry g k l b = s .members (37136 + 4 * g + k) (omega arith) (omega arith)
+  same-entry : (g k : ℕ) → g < groupsIn C → entryAt D g k ≡ entryAt C g k
+  same-entry g k l = ap (λ (w : ℕ). entryOf w k) (s .members (37136 + g) (omega arith) (omega arith))
 
   same-entries : (g k : ℕ) → g < groupsIn D → k < fillAt D g → Entry S T D n g k
   same-entries g k b f =
@@ -98,7 +140,7 @@ module _ (S : ℕ) (T C D : List ℕ) (n : ℕ) (few : groupsIn C ≤ 4096) (s :
       let low : k < fillAt C g = omega (arith, same-word g l) in
       let small : k < 4 = omega (arith, r .fills g l) in
       let e = r .entries g k l low in
-      let is = same-entry g k l small in
+      let is = same-entry g k l in
       record {
         inside = omega (arith, is, e .inside);
         shown = s .members (16656 + 4 * g + k) (omega arith) (omega arith) ∙ e .shown ∙ ap (λ (u : ℕ). signOf (nodeIn S T u .prices)) (sym is);
@@ -108,13 +150,12 @@ module _ (S : ℕ) (T C D : List ℕ) (n : ℕ) (few : groupsIn C ≤ 4096) (s :
   same-placed : (w : ℕ) → w < n → Placed D w
   same-placed w l =
       let p = r .placed w l in
-      let small : p .place < 4 = omega (arith, p .filled, r .fills (p .group) (p .known)) in
       record {
         group = p .group;
         place = p .place;
         known = omega (arith, same-groups, p .known);
         filled = omega (arith, same-word (p .group) (p .known), p .filled);
-        is = same-entry (p .group) (p .place) (p .known) small ∙ p .is;
+        is = same-entry (p .group) (p .place) (p .known) ∙ p .is;
       }
 
   pub grouped-words : Grouped S T D n
@@ -156,7 +197,7 @@ grouped-same S T T′ C n s r = record {
 
 -- ---- a group is opened
 
-module _ (S : ℕ) (T C : List ℕ) (n h : ℕ) (long : length C ≡ 57616) (few : groupsIn C < 4096) (small : h < 4095) (r : Grouped S T C n) where
+module _ (S : ℕ) (T C : List ℕ) (n h : ℕ) (long : length C ≡ 45328) (few : groupsIn C < 4096) (small : h < 4095) (r : Grouped S T C n) where
   abbrev g : ℕ
   g = groupsIn C
 
@@ -217,8 +258,8 @@ module _ (S : ℕ) (T C : List ℕ) (n h : ℕ) (long : length C ≡ 57616) (few
   head-old : (i : ℕ) → i < 4095 → (i ≡ h → ⊥) → headAt D i ≡ headAt C i
   head-old i b d = open-other (12288 + i) (λ e. omega arith) (λ e. omega arith) (λ e. d (omega arith)) (λ e. omega arith)
 
-  entry-old : (f k : ℕ) → f < g → k < 4 → entryAt D f k ≡ entryAt C f k
-  entry-old f k l b = open-other (37136 + 4 * f + k) (λ e. omega arith) (λ e. omega arith) (λ e. omega arith) (λ e. omega arith)
+  entry-old : (f k : ℕ) → f < g → entryAt D f k ≡ entryAt C f k
+  entry-old f k l = ap (λ (w : ℕ). entryOf w k) (open-other (37136 + f) (λ e. omega arith) (λ e. omega arith) (λ e. omega arith) (λ e. omega arith))
 
   shown-old : (f k : ℕ) → f < g → k < 4 → shownAt D f k ≡ shownAt C f k
   shown-old f k l b = open-other (16656 + 4 * f + k) (λ e. omega arith) (λ e. omega arith) (λ e. omega arith) (λ e. omega arith)
@@ -277,7 +318,7 @@ module _ (S : ℕ) (T C : List ℕ) (n h : ℕ) (long : length C ≡ 57616) (few
       let low : k < fillAt C f = omega (arith, word-old f l) in
       let tiny : k < 4 = omega (arith, r .fills f l) in
       let e = r .entries f k l low in
-      let is = entry-old f k l tiny in
+      let is = entry-old f k l in
       record {
         inside = omega (arith, is, e .inside);
         shown = shown-old f k l tiny ∙ e .shown ∙ ap (λ (u : ℕ). signOf (nodeIn S T u .prices)) (sym is);
@@ -288,13 +329,12 @@ module _ (S : ℕ) (T C : List ℕ) (n h : ℕ) (long : length C ≡ 57616) (few
   placed-old : (w : ℕ) → w < n → Placed D w
   placed-old w l =
       let p = r .placed w l in
-      let tiny : p .place < 4 = omega (arith, p .filled, r .fills (p .group) (p .known)) in
       record {
         group = p .group;
         place = p .place;
         known = omega (arith, open-groups, p .known);
         filled = omega (arith, word-old (p .group) (p .known), p .filled);
-        is = entry-old (p .group) (p .place) (p .known) tiny ∙ p .is;
+        is = entry-old (p .group) (p .place) (p .known) ∙ p .is;
       }
 
   pub grouped-open : Grouped S T D n
@@ -312,13 +352,16 @@ module _ (S : ℕ) (T C : List ℕ) (n h : ℕ) (long : length C ≡ 57616) (few
 
 -- ---- node n joins group g of its class, which has room
 
-module _ (S : ℕ) (T C : List ℕ) (n g : ℕ) (long : length C ≡ 57616) (few : groupsIn C ≤ 4096) (known : g < groupsIn C) (room : fillAt C g < 4)
-    (own : classAt C g ≡ classOf (nodeIn S T n .spot)) (r : Grouped S T C n) where
+module _ (S : ℕ) (T C : List ℕ) (n g : ℕ) (inside : n < 4096) (long : length C ≡ 45328) (few : groupsIn C ≤ 4096) (known : g < groupsIn C)
+    (room : fillAt C g < 4) (own : classAt C g ≡ classOf (nodeIn S T n .spot)) (r : Grouped S T C n) where
   abbrev s : ℕ
   s = signOf (nodeIn S T n .prices)
 
   abbrev k : ℕ
   k = fillAt C g
+
+  abbrev w : ℕ
+  w = withEntry (nodesAt C g) k n
 
   abbrev J : List ℕ
   J = joinedTo C g n s
@@ -330,33 +373,36 @@ module _ (S : ℕ) (T C : List ℕ) (n g : ℕ) (long : length C ≡ 57616) (few
   word-is = omega (arith, r .fills g known)
 
   -- a word that is none of the three
-  pub join-other : (i : ℕ) → (i ≡ 16656 + 4 * g + k → ⊥) → (i ≡ 37136 + 4 * g + k → ⊥) → (i ≡ 33040 + g → ⊥) → getD J i 0 ≡ getD C i 0
+  pub join-other : (i : ℕ) → (i ≡ 16656 + 4 * g + k → ⊥) → (i ≡ 37136 + g → ⊥) → (i ≡ 33040 + g → ⊥) → getD J i 0 ≡ getD C i 0
   unfolding joinedTo
   join-other i a b c =
       rw (place-is, word-is)
-      (getD-set-other (set (set C (16656 + 4 * g + k) s) (37136 + 4 * g + k) n) (33040 + g) i (wordAt C g + 1) 0 c
-      ∙ getD-set-other (set C (16656 + 4 * g + k) s) (37136 + 4 * g + k) i n 0 b
+      (getD-set-other (set (set C (16656 + 4 * g + k) s) (37136 + g) w) (33040 + g) i (wordAt C g + 1) 0 c
+      ∙ getD-set-other (set C (16656 + 4 * g + k) s) (37136 + g) i w 0 b
       ∙ getD-set-other C (16656 + 4 * g + k) i s 0 a)
 
   join-word : wordAt J g ≡ wordAt C g + 1
   unfolding joinedTo
   join-word =
       rw (place-is, word-is)
-      (getD-set-same (set (set C (16656 + 4 * g + k) s) (37136 + 4 * g + k) n) (33040 + g) (wordAt C g + 1) 0 (simp length-set (omega arith)))
+      (getD-set-same (set (set C (16656 + 4 * g + k) s) (37136 + g) w) (33040 + g) (wordAt C g + 1) 0 (simp length-set (omega arith)))
+
+  join-nodes : nodesAt J g ≡ w
+  unfolding joinedTo
+  join-nodes =
+      rw (place-is, word-is)
+      (getD-set-other (set (set C (16656 + 4 * g + k) s) (37136 + g) w) (33040 + g) (37136 + g) (wordAt C g + 1) 0 (λ e. omega arith)
+      ∙ getD-set-same (set C (16656 + 4 * g + k) s) (37136 + g) w 0 (simp length-set (omega arith)))
 
   join-entry : entryAt J g k ≡ n
-  unfolding joinedTo
-  join-entry =
-      rw (place-is, word-is)
-      (getD-set-other (set (set C (16656 + 4 * g + k) s) (37136 + 4 * g + k) n) (33040 + g) (37136 + 4 * g + k) (wordAt C g + 1) 0 (λ e. omega arith)
-      ∙ getD-set-same (set C (16656 + 4 * g + k) s) (37136 + 4 * g + k) n 0 (simp length-set (omega arith)))
+  join-entry = ap (λ (x : ℕ). entryOf x k) join-nodes ∙ entry-here (nodesAt C g) k n room inside
 
   join-shown : shownAt J g k ≡ s
   unfolding joinedTo
   join-shown =
       rw (place-is, word-is)
-      (getD-set-other (set (set C (16656 + 4 * g + k) s) (37136 + 4 * g + k) n) (33040 + g) (16656 + 4 * g + k) (wordAt C g + 1) 0 (λ e. omega arith)
-      ∙ getD-set-other (set C (16656 + 4 * g + k) s) (37136 + 4 * g + k) (16656 + 4 * g + k) n 0 (λ e. omega arith)
+      (getD-set-other (set (set C (16656 + 4 * g + k) s) (37136 + g) w) (33040 + g) (16656 + 4 * g + k) (wordAt C g + 1) 0 (λ e. omega arith)
+      ∙ getD-set-other (set C (16656 + 4 * g + k) s) (37136 + g) (16656 + 4 * g + k) w 0 (λ e. omega arith)
       ∙ getD-set-same C (16656 + 4 * g + k) s 0 (omega arith))
 
   pub join-length : length J ≡ length C
@@ -396,16 +442,20 @@ module _ (S : ℕ) (T C : List ℕ) (n g : ℕ) (long : length C ≡ 57616) (few
   groups-all = join-before 16383 (omega arith)
 
   -- an entry that was there
-  entry-kept : (f i : ℕ) → f < 4096 → i < 4 → ((f ≡ g) × (i ≡ k) → ⊥) → (entryAt J f i ≡ entryAt C f i) × (shownAt J f i ≡ shownAt C f i)
+  entry-kept : (f i : ℕ) → f < 4096 → i < 4 → (f ≡ g → i < k) → (entryAt J f i ≡ entryAt C f i) × (shownAt J f i ≡ shownAt C f i)
   entry-kept f i l b d = (
-    join-other (37136 + 4 * f + i) (λ e. omega arith) (λ e. d (omega arith, omega arith)) (λ e. omega arith),
-    join-other (16656 + 4 * f + i) (λ e. d (omega arith, omega arith)) (λ e. omega arith) (λ e. omega arith),
+    go (ℕ-discrete f g),
+    join-other (16656 + 4 * f + i) (λ e. let q : f ≡ g = omega arith in omega (arith, d q)) (λ e. omega arith) (λ e. omega arith),
   )
+    where
+      go : Dec (f ≡ g) → entryAt J f i ≡ entryAt C f i
+      go (yes e) = rw e (ap (λ (x : ℕ). entryOf x i) join-nodes ∙ entry-before (nodesAt C g) i k n (d e) room)
+      go (no q) = ap (λ (x : ℕ). entryOf x i) (join-other (37136 + f) (λ e. omega arith) (λ e. q (omega arith)) (λ e. omega arith))
 
   entries-new : (f i : ℕ) → f < groupsIn C → i < fillAt J f → Entry S T J (suc n) f i
   entries-new f i l b = go (ℕ-discrete f g) (ℕ-discrete i k)
     where
-      old : i < fillAt C f → ((f ≡ g) × (i ≡ k) → ⊥) → Entry S T J (suc n) f i
+      old : i < fillAt C f → (f ≡ g → i < k) → Entry S T J (suc n) f i
       old low d =
           let e = r .entries f i l low in
           let (is, shows) = entry-kept f i (omega arith) (omega (arith, r .fills f l)) d in
@@ -424,8 +474,8 @@ module _ (S : ℕ) (T C : List ℕ) (n g : ℕ) (long : length C ≡ 57616) (few
 
       go : Dec (f ≡ g) → Dec (i ≡ k) → Entry S T J (suc n) f i
       go (yes p) (yes q) = rw (p, q) here
-      go (yes p) (no q) = old (let b′ = rw p at b in rw p (omega (arith, fill-new))) (λ e. q (e .1))
-      go (no p) q = old (omega (arith, join-other (33040 + f) (λ e. omega arith) (λ e. omega arith) (λ e. p (omega arith)))) (λ e. p (e .0))
+      go (yes p) (no q) = let b′ = rw p at b in let low : i < k = omega (arith, fill-new) in old (rw p low) (λ _. low)
+      go (no p) q = old (omega (arith, join-other (33040 + f) (λ e. omega arith) (λ e. omega arith) (λ e. p (omega arith)))) (λ e. absurd (p e))
 
   placed-new : (w : ℕ) → w < suc n → Placed J w
   placed-new w b = go (below-cases b)
@@ -435,7 +485,7 @@ module _ (S : ℕ) (T C : List ℕ) (n g : ℕ) (long : length C ≡ 57616) (few
           let p = r .placed w l in
           let far : p .group < 4096 = omega (arith, p .known) in
           let tiny : p .place < 4 = omega (arith, p .filled, r .fills (p .group) (p .known)) in
-          let apart : (p .group ≡ g) × (p .place ≡ k) → ⊥ = λ e. let same = ap (λ (x : ℕ). fillAt C x) (e .0) in omega (arith, e .1, p .filled) in
+          let apart : p .group ≡ g → p .place < k = λ e. rw e at (p .filled) in
           let (is, shows) = entry-kept (p .group) (p .place) far tiny apart in
           record {
             group = p .group;
