@@ -90,7 +90,7 @@ fn slot_of(class: usize) -> usize
     requires { ⌜ class < 4096 ⌝ }
     ensures { λ r. ⌜ r < 128 ⌝ }
 {
-    (class % 128 + class / 128 * 11) % 128
+    class % 128
 }
 
 // A slot is filled with what holds in a centre state, whose values are given.

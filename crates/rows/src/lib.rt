@@ -206,11 +206,13 @@ pub fn write_row(
     copy_words(prices, &mut row[40..], states);
 }
 
-// The class of a centre state, by its four packs.
+// The class of a centre state, by its four packs: eleven bits of a product of their mixed halves.
 pub fn class_of(spot: Centre) -> usize
     ensures { λ r. ⌜ r ≡ classOf spot ⌝ }
 {
     let low = pack(spot, 0) ^ pack(spot, 8);
     let high = pack(spot, 16) ^ pack(spot, 24);
-    ((low ^ high) % 4093) as usize
+    let all = low ^ high;
+    let mix = (all ^ (all >> 32)) % 4294967296;
+    ((mix * 2654435769 >> 21) % 2048) as usize
 }

@@ -1,6 +1,6 @@
 -- `rows::class_of` meets its contract: the four packs make the class. Assumes nothing.
 use borrow.Author.Needs.{needs}
-use Rattle.rows.specs.Sign.{classOf}
+use Rattle.rows.specs.Sign.{mixOf, classOf}
 use Rattle.rows.proofs.class_of.Statement.{statement}
 use Rattle.rows.proofs.class_of.Tie as tie
 
@@ -16,8 +16,11 @@ pack-requires-3 c κs = search needs
 pack-requires-4 : tie.Need-pack-requires-4
 pack-requires-4 c κs = search needs
 
+mul-result : tie.Need-mul-result
+mul-result c = search needs
+
 returns : tie.Need-returns
-unfolding classOf
+unfolding classOf mixOf
 returns c = rw (c .before .before .before .pack .ensures, c .before .before .pack2 .ensures, c .before .pack3 .ensures, c .pack4 .ensures)
 
 pub class-of-spec : {M : Type 1} → statement M
@@ -28,4 +31,5 @@ class-of-spec =
     pack-requires-2
     pack-requires-3
     pack-requires-4
+    mul-result
     returns)

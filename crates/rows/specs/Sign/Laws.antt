@@ -22,7 +22,7 @@ use Rattle.leaf.specs.Price.{mark}
 use Rattle.search.specs.Node.{Node, dominates}
 use Rattle.rows.specs.Row.{packOf}
 use Rattle.rows.specs.Row.Packs.{pack-same}
-use Rattle.rows.specs.Sign.{classOf, signTo, strideOf, signOf}
+use Rattle.rows.specs.Sign.{mixOf, classOf, signTo, strideOf, signOf}
 
 -- ---- bits
 
@@ -119,7 +119,7 @@ class-lt c = omega arith
 
 -- the same values have the same class
 class-alike : (c d : Centre) → ((v : ℕ) → v < 32 → valueIn c v ≡ valueIn d v) → classOf c ≡ classOf d
-unfolding classOf
+unfolding classOf mixOf
 class-alike c d h =
     let same : (b : ℕ) → b ≤ 24 → packOf c b ≡ packOf d b =
     λ b l. pack-same (c .values) (d .values) b 8 (λ v k. h v (omega arith)) in
