@@ -1,6 +1,7 @@
 -- The class of a centre state and the signature of prices: what tells nodes apart before a price is read.
 pub mod Laws
 pub mod Bits
+pub mod Few
 use mathlib.Core.Bool.{cond}
 use mathlib.Core.List.{List}
 use Prim.Native.Nat.{ℕ, zero, suc, _+_, _*_, _/_, _%_, _^_}

@@ -11,7 +11,7 @@ ghost use Rattle.search.specs.Node.{leastOf};
 ghost use Rattle.rows.specs.Four.{fourTo};
 ghost use Rattle.rows.specs.Row.{spotOf, nodeOf, nodeWith, packOf, Packed};
 ghost use Rattle.rows.specs.Scan.{Cut, goalsBy, keyBy, goalSumBy, goalCostBy};
-ghost use Rattle.rows.specs.Sign.{classOf, strideOf, signOf};
+ghost use Rattle.rows.specs.Sign.{classOf, signOf};
 
 // ---- prices
 
@@ -119,21 +119,26 @@ pub fn goal_cost(
     goal_sum(leaves, bases, goals, paid, prices)
 }
 
-// Every so many states one is looked at for the signature: each where there are fewer than 128.
-fn stride(states: usize) -> usize
-    ensures { λ r. ⌜ r ≡ strideOf states ⌝ }
-{
-    if states < 64 {
-        return 1;
-    }
-    states / 64
-}
-
-// The signature of the prices: a bit for each reachable state that is looked at, the same for every 64th.
-pub fn sign_of(prices: &[u64]) -> u64
+// The signature of fewer than 64 prices, each of which is looked at: from the last one down, so that a state takes two instructions.
+fn sign_of_few(prices: &[u64]) -> u64
+    requires { ⌜ length (now prices) < 64 ⌝ }
     ensures { λ r. ⌜ r ≡ signOf (now (prices .entry)) ⌝ }
 {
-    let step = stride(prices.len());
+    let mut sign: u64 = 0;
+    let mut k = prices.len();
+    while k > 0 {
+        k -= 1;
+        sign = sign * 2 + (prices[k] < MARK) as u64;
+    }
+    sign
+}
+
+// The signature of 64 prices or more: one of every so many is looked at, each where there are fewer than 128.
+fn sign_of_many(prices: &[u64]) -> u64
+    requires { ⌜ 64 ≤ length (now prices) ⌝ }
+    ensures { λ r. ⌜ r ≡ signOf (now (prices .entry)) ⌝ }
+{
+    let step = prices.len() / 64;
     let count = prices.len() / step;
     let mut sign = 0;
     for k in 0..count {
@@ -142,6 +147,16 @@ pub fn sign_of(prices: &[u64]) -> u64
         }
     }
     sign
+}
+
+// The signature of the prices: a bit for each reachable state that is looked at, the same for every 64th.
+pub fn sign_of(prices: &[u64]) -> u64
+    ensures { λ r. ⌜ r ≡ signOf (now (prices .entry)) ⌝ }
+{
+    if prices.len() < 64 {
+        return sign_of_few(prices);
+    }
+    sign_of_many(prices)
 }
 
 // ---- rows

@@ -62,7 +62,7 @@ one-bit k = shl-exact {a = 1} 1 (k % 64) 64 (lit< tt) (omega arith) ∙ one-mul 
 
 -- ---- signatures
 
--- the stride is not 0, and so the states looked at are among all
+-- the stride is not 0
 pub stride-some : (n : ℕ) → 1 ≤ strideOf n
 unfolding strideOf
 stride-some n = go (decLt n 64)
@@ -71,6 +71,12 @@ stride-some n = go (decLt n 64)
     go (yes l) = rw (lt-ltb n 64 l) (omega arith)
     go (no l) = rw (le-ltb n 64 (omega arith)) (omega arith)
 
+-- the stride of 64 states or more
+pub stride-many : (n : ℕ) → 64 ≤ n → n / 64 ≡ strideOf n
+unfolding strideOf
+stride-many n h = rw (le-ltb n 64 h)
+
+-- the states looked at are among all
 pub look-in : (n step k : ℕ) → 1 ≤ step → k < n / step → k * step < n
 look-in n step k h l = lt-of-lt-of-le (mul-lt-mul-of-pos-right l h) (div-mul-le-self n step)
 
