@@ -3,7 +3,7 @@
 use mathlib.Core.Path.{_≡_, refl, sym, ap, _∙_}
 use mathlib.Core.Logic.{_⊎_, inl, inr}
 use mathlib.Core.Bool.{false, not, _&&_, and-false}
-use mathlib.Core.List.{List, [], _++_, append-nil}
+use mathlib.Core.List.{List, _++_}
 use Prim.Native.Nat.{ℕ, zero, suc, _+_, _-_, _*_, _/_, _%_, _≤_, _<_, min}
 use native.Mathlib.Nat.{not-suc-le-zero, mul-le-mul-right}
 use native.Mathlib.Numerals.{add-one}
@@ -12,7 +12,7 @@ use native.Mathlib.Omega.{arith}
 use lib.Dec.{ltb, eqb}
 use lib.ListN.{length, getD, set, take, drop, length-take, length-drop, length-set, List·getD-eq-default}
 use lib.Arith.{digits-div, digits-mod}
-use lib.Seq.{take-length, drop-length, take-at, take-add, getD-take, getD-drop, getD-set-same, getD-set-other, ext-getD}
+use lib.Seq.{take-at, drop-at, take-add, getD-take, getD-drop, getD-set-same, getD-set-other, ext-getD}
 use Rattle.loops.specs.Count.{any, sum}
 use Rattle.loops.specs.Count.Laws.{below-cases, all-not, sum-more, sum-ext}
 use Rattle.task.specs.declared.Centre.{Centre}
@@ -184,12 +184,28 @@ pass-rises n thr P =
     leastOf-ge (pass mark n thr P n) (leastOf P) (leastOf-cap P) (λ y _. pass-floor mark n thr P (leastOf P) (leastOf-cap P) (λ x _. leastOf-le P x) y)
 
 -- so a copy Q of their prices is what passes, and the least of them is the same
-pub copy-passes : (thr : ℕ → ℕ) (P R Q : List ℕ) → length R ≡ length P → ((x : ℕ) → getD P x 0 ≤ mark) → ((x : ℕ) → x < length P → thr x ≡ x + 1)
-    → Q ≡ take (length P) P ++ drop (length P) R → (Q ≡ pass mark (length P) thr P (length P)) × (leastOf P + 0 ≡ leastOf Q)
-copy-passes thr P R Q long words stay isQ =
-    let none : drop (length P) R ≡ [] = rw (sym long) (drop-length R) in
-    let same : Q ≡ P = rw (none, take-length P, append-nil) at isQ in
+pub copy-passes : (thr : ℕ → ℕ) (P Q : List ℕ) → ((x : ℕ) → getD P x 0 ≤ mark) → ((x : ℕ) → x < length P → thr x ≡ x + 1)
+    → Q ≡ P → (Q ≡ pass mark (length P) thr P (length P)) × (leastOf P + 0 ≡ leastOf Q)
+copy-passes thr P Q words stay same =
     (same ∙ sym (pass-still (length P) thr P refl (word-cap P words) stay), rw same (omega arith))
+
+-- ---- a list Q whose first r words are a copy of P's
+
+module _ (r : ℕ) (P R Q : List ℕ) (long : r ≤ length P) (isQ : Q ≡ take r P ++ drop r R) where
+  copied-many : length (take r P) ≡ r
+  copied-many = simp length-take (omega arith)
+
+  -- each part of it
+  pub part-copied : (n from : ℕ) → from + n ≤ r → take n (drop from Q) ≡ take n (drop from P)
+  part-copied n from fits =
+      let front : take r Q ≡ take r P = rw isQ (take-at (take r P) (drop r R) r copied-many) in
+      sym (part-take n from r Q fits) ∙ ap (λ xs. take n (drop from xs)) front ∙ part-take n from r P fits
+
+  -- behind them the words are as they were
+  pub rest-copied : drop r Q ≡ drop r R
+  rest-copied = rw isQ (drop-at (take r P) (drop r R) r copied-many)
+
+-- ---- the begin of all leaves
 
 module _ (b : Board) (sound : Sound b) where
   -- where the states of a leaf begin is not behind where those of later leaves do

@@ -154,25 +154,25 @@ pub fn is_stuck(
 }
 
 // Each state of a leaf passes over a centre action, at its own price. The action's moves of the leaf begin at `at`; where `still` is not 0 they
-// leave each state as it is, and the prices are copied. How much the least price rises.
+// leave each state as it is, and the prices stand in `new` already. How much the least price rises.
 fn carry(old: &[u64], moves: &[u16], at: usize, still: u8, new: &mut [u64]) -> u64
     requires { ⌜ (length (now new) ≡ length (now old)) × (at + length (now old) ≤ length (now moves))
         × ((x : ℕ) → x < length (now old) → getD (now moves) (at + x) 0 ≤ length (now old))
-        × ((still ≡ 0 → ⊥) → (x : ℕ) → x < length (now old) → getD (now moves) (at + x) 0 ≡ x + 1) ⌝ }
+        × ((still ≡ 0 → ⊥) → (x : ℕ) → x < length (now old) → getD (now moves) (at + x) 0 ≡ x + 1)
+        × ((still ≡ 0 → ⊥) → now new ≡ now old) ⌝ }
     ensures { λ r. ⌜ (now (new .exit)
         ≡ pass mark (length (now (old .entry))) (λ x. getD (now (moves .entry)) (at + x) 0) (now (old .entry)) (length (now (old .entry))))
         × (leastOf (now (old .entry)) + r ≡ leastOf (now (new .exit))) ⌝ }
 {
     if still != 0 {
-        copy_words(old, new, old.len());
         return 0;
     }
     pass(old, moves, at, new);
     least(&new[..]) - least(old)
 }
 
-// The begin of the layer behind a centre action, at the front of `new`, as in `layer::begin_layer`: only the leaves that it moves pass. The
-// key there, where `low` is the key with the prices of `old`: it rises with the least prices of the leaves.
+// The begin of the layer behind a centre action, at the front of `new`, as in `layer::begin_layer`: all prices are copied at once, and only the leaves
+// that it moves pass. The key there, where `low` is the key with the prices of `old`: it rises with the least prices of the leaves.
 fn begin_moved(
     leaves: usize,
     actions: usize,
@@ -196,6 +196,7 @@ fn begin_moved(
         × ((spent : ℕ) → low ≡ keyBy leaves (now (bases .entry)) spent (now (old .entry)) → r ≡ keyBy leaves (now (bases .entry)) spent (now (new .exit))) ⌝ }
 {
     let row = bases[leaves];
+    copy_words(old, new, row);
     let mut key = low;
     for i in 0..leaves {
         let from = bases[i];

@@ -1,16 +1,16 @@
 -- `begins::begin_moved` meets its contract: each leaf is carried. The invariant: what came through of the leaves so far stands one leaf's behind the other, and behind
--- them the prices are as they were; the key has risen with their least prices. Assumes nothing.
+-- them the old prices, which were copied first; the key has risen with their least prices. Assumes nothing.
 use mathlib.Core.Path.{_≡_, sym, ap, _∙_}
-use mathlib.Core.List.{List, []}
+use mathlib.Core.List.{List, [], _++_}
 use Prim.Native.Nat.{ℕ, _+_, _*_, _-_, _≤_, _<_}
 use native.Mathlib.Omega.{arith}
-use lib.ListN.{length, getD}
+use lib.ListN.{length, getD, take, drop}
 use borrow.Author.Needs.{needs}
 use Rattle.layer.specs.Board.{Board, baseOn, rowOn, partOn, passOn, beginOn}
-use Rattle.layer.specs.Board.Turns.{base-in, moves-here, moves-stay, leaf-passed, part-length, Laid, laid-none, laid-more}
+use Rattle.layer.specs.Board.Turns.{base-in, moves-here, moves-stay, leaf-passed, part-length, Laid, laid-none, laid-more, laid-rest}
 use Rattle.layer.specs.Lent.{boardOf}
 use Rattle.search.specs.Node.{leastOf}
-use Rattle.begins.specs.Still.{Risen, risen-none, risen-more, risen-key}
+use Rattle.begins.specs.Still.{Risen, risen-none, risen-more, risen-key, part-copied, rest-copied}
 use Rattle.begins.proofs.begin_moved.Statement.{statement}
 use Rattle.begins.proofs.begin_moved.Tie as tie
 
@@ -34,14 +34,20 @@ mul-row c = search needs
 shared-slice-read-row : tie.Need-shared-slice-read-row Inv-loop μ-loop
 shared-slice-read-row c = search needs
 
+copy-words-requires : tie.Need-copy-words-requires Inv-loop μ-loop
+copy-words-requires c κs = search needs
+
 loop-holds : tie.Need-loop-holds Inv-loop μ-loop
 loop-holds c =
-    let s = c .before .before .before .before .before .before .before .before .before in
+    let s = c .before .before .before .before .before .before .before .before .before .before .before .before .before in
     (omega arith, laid-none _ _ _ (s .pre .0 .bases-first), risen-none _ _ (s .args .low) (omega (arith, s .fits .low)))
 
 -- where the function starts, and the Board that is lent
+abbrev entered : tie.At-loop Inv-loop μ-loop → tie.Start Inv-loop μ-loop
+entered c = c .before .before .before .before .before .before .before .before .before .before .before .before .before .before
+
 abbrev start : tie.In-loop Inv-loop μ-loop → tie.Start Inv-loop μ-loop
-start c = c .before .before .before .before .before .before .before .before .before .before .before
+start c = entered (c .before)
 
 abbrev lent : tie.Start Inv-loop μ-loop → Board
 lent s =
@@ -50,6 +56,14 @@ lent s =
 
 abbrev board : tie.In-loop Inv-loop μ-loop → Board
 board c = lent (start c)
+
+-- the prices with the copy, where the loop begins
+abbrev made : tie.At-loop Inv-loop μ-loop → List ℕ
+made c = c .before .before .before .copy-words .last .1 .0
+
+isMade : (c : tie.At-loop Inv-loop μ-loop) → let s = entered c in
+    made c ≡ take (rowOn (lent s)) (s .args .old .now) ++ drop (rowOn (lent s)) (s .args .new .now)
+isMade c = c .before .before .before .copy-words .ensures
 
 -- where the leaf's prices begin and end, and that they lie within both lists, and the action's moves of the leaf within the table
 abbrev from : tie.In-loop Inv-loop μ-loop → ℕ
@@ -138,7 +152,9 @@ carry-requires c κs =
     let old = part-length (s .args .old .now) (from t) (to t) (room t .2) in
     let new = part-length (t .before .loop .new) (from t) (to t) (room t .3) in
     let stay = moves-stay (board t) (s .pre .0) i (s .args .action) (t .loop-test .taken) (s .pre .2) in
-    (new ∙ sym old, rw old (in-moves t), rw old stay, λ d. rw old (s .pre .1 .stays (s .args .action) i (entry t .1) (entry t .0) d))
+    let fits : from t + (to t - from t) ≤ rowOn (board t) = omega (arith, room t .0, base-in (board t) (s .pre .0) i (t .loop-test .taken)) in
+    let copied = ap (take (to t - from t)) (laid-rest (t .before .loop .inv .1)) ∙ part-copied (rowOn (board t)) (s .args .old .now) (s .args .new .now) (made (t .before)) (s .pre .3) (isMade (t .before)) (to t - from t) (from t) fits in
+    (new ∙ sym old, rw old (in-moves t), rw old stay, λ d. rw old (s .pre .1 .stays (s .args .action) i (entry t .1) (entry t .0) d), λ _. copied)
 
 add-price-requires : tie.Need-add-price-requires Inv-loop μ-loop
 add-price-requires c κs = search needs
@@ -164,18 +180,19 @@ loop-again c =
     )
 
 same-length : tie.Need-same-length Inv-loop μ-loop
-same-length c = c .before .loop .inv .1 .kept
+same-length c = omega (arith, c .before .loop .inv .1 .kept)
 
 returns : tie.Need-returns Inv-loop μ-loop
 unfolding beginOn passOn
 returns c =
-    let s = c .before .before .before .before .before .before .before .before .before .before .before in
+    let s = entered (c .before) in
     let a = s .args in
     let l = c .before .loop in
     let all : l .i ≡ a .leaves = omega arith in
     let laid = rw all at (l .inv .1 .laid) in
     let room : rowOn (lent s) ≤ length (l .new) = omega (arith, s .pre .4, l .inv .1 .kept) in
-    (laid, λ spent isLow. risen-key (lent s) (s .pre .0) (a .action) spent (a .old .now) (l .new) _ (a .low) (l .key) room laid (rw all at (l .inv .1 .long)) (rw all at (l .inv .2)) isLow)
+    let behind = rest-copied (rowOn (lent s)) (a .old .now) (a .new .now) (made (c .before)) (s .pre .3) (isMade (c .before)) in
+    (rw behind at laid, λ spent isLow. risen-key (lent s) (s .pre .0) (a .action) spent (a .old .now) (l .new) _ (a .low) (l .key) room laid (rw all at (l .inv .1 .long)) (rw all at (l .inv .2)) isLow)
 
 pub begin-moved-spec : {M : Type 1} → statement M
 begin-moved-spec =
@@ -185,6 +202,7 @@ begin-moved-spec =
     μ-loop
     mul-row
     shared-slice-read-row
+    copy-words-requires
     loop-holds
     mul-from
     shared-slice-read-from

@@ -1,4 +1,4 @@
--- `begins::carry` meets its contract: where no state moves the copy is what passes. Assumes nothing.
+-- `begins::carry` meets its contract: where no state moves the prices that stand there are what passes. Assumes nothing.
 use mathlib.Core.Path.{ap}
 use Prim.Native.Nat.{_+_, _≤_}
 use native.Mathlib.Omega.{arith}
@@ -9,20 +9,13 @@ use borrow.Author.Needs.{needs}
 use Rattle.begins.proofs.carry.Statement.{statement}
 use Rattle.begins.proofs.carry.Tie as tie
 
-copy-words-requires : tie.Need-copy-words-requires
-copy-words-requires c κs = search needs
-
-same-length : tie.Need-same-length
-same-length c = search needs
-
 returns : tie.Need-returns
 returns c =
-    let s = c .before .before .before .before .before .before .before .before in
+    let s = c .before .before .before .before in
     let a = s .args in
-    let words = c .before .before .before .before .before .before .before .shared-slice-known .given in
-    let w = c .before .before .copy-words in
-    copy-passes (λ x. getD (a .moves .now) (a .at + x) 0) (a .old .now) (a .new .now) (w .last .1 .0) (s .pre .0) (λ x. omega (arith, words x))
-    (s .pre .3 (c .before .before .before .before .if1 .taken)) (w .ensures)
+    let words = c .before .before .before .shared-slice-known .given in
+    let stays = c .if1 .taken in
+    copy-passes (λ x. getD (a .moves .now) (a .at + x) 0) (a .old .now) (a .new .now) (λ x. omega (arith, words x)) (s .pre .3 stays) (s .pre .4 stays)
 
 pass-requires : tie.Need-pass-requires
 pass-requires c κs = search needs
@@ -42,8 +35,8 @@ rises c =
 sub-result : tie.Need-sub-result
 sub-result c = omega (arith, rises c)
 
-same-length-2 : tie.Need-same-length-2
-same-length-2 c = search needs
+same-length : tie.Need-same-length
+same-length c = search needs
 
 returns-2 : tie.Need-returns-2
 returns-2 c =
@@ -53,12 +46,10 @@ pub carry-spec : {M : Type 1} → statement M
 carry-spec =
     tie.close
     (tie.spec
-    copy-words-requires
-    same-length
     returns
     pass-requires
     least-requires
     least-requires-2
     sub-result
-    same-length-2
+    same-length
     returns-2)
