@@ -1,10 +1,10 @@
--- The scan words: 45,328 words. Open keys stand at u, signatures at 4096 + u, the links of groups at 8192 + g, heads at 12288 + h, the number of groups
--- at 16383, block words at 16384 + b, upper words at 16640 + b, the signatures of entries at 16656 + 4 * g + k, the words of groups at 33040 + g, the
--- nodes of entries, four in a word, at 37136 + g, recent words at 41232 + k.
+-- The scan words: 41,232 words. Open keys stand at u, signatures at 4096 + u, the words of groups at 8192 + g, heads at 12288 + h, the number of groups
+-- at 16383, block words at 16384 + b, upper words at 16640 + b, the signatures of entries at 16656 + 4 * g + k, the nodes of entries, four in a word, at
+-- 33040 + g, recent words at 37136 + k.
 -- Nodes are chained by the class of their centre state, in groups: a group has up to four entries, each a node with its signature, so that a walk sees
 -- four signatures side by side. A link or a head is one more than a group's number, 0 for none: the link of a group is the last group before it of the
 -- same class, the head of a class is the last group of that class, to which the next node of the class goes while it has room.
--- The word of a group is 8 times its class and the number of its entries.
+-- The word of a group is 65,536 times its link, 8 times its class and the number of its entries.
 -- A recent word is one more than the number of a node that dominated or was kept, to be tried first. It may be any number: nothing else goes by it.
 pub mod Groups
 pub mod Laws
@@ -26,10 +26,6 @@ use Rattle.nodes.specs.Block.{loweredTo, Blocked}
 abbrev pub signAt : List ℕ → ℕ → ℕ
 signAt C u = getD C (4096 + u) 0
 
--- the link of group g
-abbrev pub linkAt : List ℕ → ℕ → ℕ
-linkAt C g = getD C (8192 + g) 0
-
 -- the head of class h, of which there are fewer than 4,095
 abbrev pub headAt : List ℕ → ℕ → ℕ
 headAt C h = getD C (12288 + h) 0
@@ -38,12 +34,15 @@ headAt C h = getD C (12288 + h) 0
 abbrev pub groupsIn : List ℕ → ℕ
 groupsIn C = getD C 16383 0
 
--- the word of group g, its class and the number of its entries
+-- the word of group g, its link, its class and the number of its entries
 abbrev pub wordAt : List ℕ → ℕ → ℕ
-wordAt C g = getD C (33040 + g) 0
+wordAt C g = getD C (8192 + g) 0
+
+abbrev pub linkAt : List ℕ → ℕ → ℕ
+linkAt C g = wordAt C g / 65536
 
 abbrev pub classAt : List ℕ → ℕ → ℕ
-classAt C g = wordAt C g / 8
+classAt C g = wordAt C g % 65536 / 8
 
 abbrev pub fillAt : List ℕ → ℕ → ℕ
 fillAt C g = wordAt C g % 8
@@ -57,7 +56,7 @@ abbrev pub shownAt : List ℕ → ℕ → ℕ → ℕ
 shownAt C g k = getD C (16656 + 4 * g + k) 0
 
 abbrev pub nodesAt : List ℕ → ℕ → ℕ
-nodesAt C g = getD C (37136 + g) 0
+nodesAt C g = getD C (33040 + g) 0
 
 abbrev pub entryAt : List ℕ → ℕ → ℕ → ℕ
 entryAt C g k = entryOf (nodesAt C g) k
@@ -79,7 +78,7 @@ groupFor C h = cond (hasRoom C (headAt C h)) ((headAt C h - 1) % 4096) (groupsIn
 
 -- group g is the new last one of class h, without entries
 unfoldable pub withGroup : List ℕ → ℕ → ℕ → List ℕ
-withGroup C h g = set (set (set (set C (8192 + g) (headAt C h)) (33040 + g) (h * 8)) (12288 + h) (g + 1)) 16383 (g + 1)
+withGroup C h g = set (set (set C (8192 + g) (headAt C h % 65536 * 65536 + h * 8)) (12288 + h) (g + 1)) 16383 (g + 1)
 
 -- that group is there
 unfoldable pub openedTo : List ℕ → ℕ → List ℕ
@@ -92,7 +91,7 @@ withEntry w k n = w % 2 ^ (16 * k) + n * 2 ^ (16 * k)
 -- node n, of signature s, is the next entry of group g
 unfoldable pub joinedTo : List ℕ → ℕ → ℕ → ℕ → List ℕ
 joinedTo C g n s =
-    set (set (set C (16656 + 4 * g + wordAt C g % 4) s) (37136 + g) (withEntry (nodesAt C g) (wordAt C g % 4) n)) (33040 + g) (wordAt C g % 65536 + 1)
+    set (set (set C (16656 + 4 * g + wordAt C g % 4) s) (33040 + g) (withEntry (nodesAt C g) (wordAt C g % 4) n)) (8192 + g) (wordAt C g % 4294967296 + 1)
 
 -- its key and its signature are stored, and its block's word is no higher than its key, nor is the upper word
 unfoldable pub blockedTo : List ℕ → ℕ → ℕ → ℕ → List ℕ
@@ -143,7 +142,7 @@ pub record Grouped (S : ℕ) (T C : List ℕ) (n : ℕ) : Type 0 where
 
 -- the first n nodes of table T have their signatures in C and are chained, the block words are those of their open keys, and their rows have their packs
 pub record Chained (S : ℕ) (T C : List ℕ) (n : ℕ) : Type 0 where
-  pub long : length C ≡ 45328
+  pub long : length C ≡ 41232
   pub signs : (u : ℕ) → u < n → signAt C u ≡ signOf (nodeIn S T u .prices)
   pub few-groups : groupsIn C ≤ n
   pub grouped : Grouped S T C n
@@ -153,7 +152,7 @@ pub record Chained (S : ℕ) (T C : List ℕ) (n : ℕ) : Type 0 where
 -- the scan words D are those of C but for recent words
 pub record Recalled (C D : List ℕ) : Type 0 where
   pub long : length D ≡ length C
-  pub same : (i : ℕ) → i < 41232 → getD D i 0 ≡ getD C i 0
+  pub same : (i : ℕ) → i < 37136 → getD D i 0 ≡ getD C i 0
 
 -- ---- the node that dominates
 

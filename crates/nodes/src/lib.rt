@@ -28,30 +28,29 @@ fn lower(scan: &mut [u64], at: usize, key: u64)
 
 // Whether the group that a head stands for has room for one entry more.
 fn has_room(scan: &[u64], head: u64) -> bool
-    requires { ⌜ length (now scan) ≡ 45328 ⌝ }
+    requires { ⌜ length (now scan) ≡ 41232 ⌝ }
     ensures { λ r. ⌜ r ≡ hasRoom (now (scan .entry)) head ⌝ }
 {
     if head == 0 {
         return false;
     }
-    scan[33040 + ((head - 1) % 4096) as usize] % 8 < 4
+    scan[8192 + ((head - 1) % 4096) as usize] % 8 < 4
 }
 
 // A group without entries becomes the last of its class.
 fn add_group(scan: &mut [u64], class: usize, group: usize)
-    requires { ⌜ (length (now scan) ≡ 45328) × (class < 4095) × (group < 4096) ⌝ }
+    requires { ⌜ (length (now scan) ≡ 41232) × (class < 4095) × (group < 4096) ⌝ }
     ensures { λ _. ⌜ now (scan .exit) ≡ withGroup (now (scan .entry)) class group ⌝ }
 {
-    let head = scan[12288 + class];
-    scan[8192 + group] = head;
-    scan[33040 + group] = (class * 8) as u64;
+    let head = scan[12288 + class] % 65536;
+    scan[8192 + group] = head * 65536 + (class * 8) as u64;
     scan[12288 + class] = (group + 1) as u64;
     scan[16383] = (group + 1) as u64;
 }
 
 // The group that the next node of a class goes to: the last of the class where that has room, else a new one.
 fn group_for(scan: &mut [u64], class: usize) -> usize
-    requires { ⌜ (length (now scan) ≡ 45328) × (class < 4095) ⌝ }
+    requires { ⌜ (length (now scan) ≡ 41232) × (class < 4095) ⌝ }
     ensures { λ r. ⌜ (r ≡ groupFor (now (scan .entry)) class) × (now (scan .exit) ≡ openedTo (now (scan .entry)) class) ⌝ }
 {
     let head = scan[12288 + class];
@@ -82,21 +81,21 @@ fn with_entry(nodes: u64, k: usize, node: usize) -> u64
 
 // A node with its signature as the next entry of a group.
 fn join(scan: &mut [u64], group: usize, node: usize, sign: u64)
-    requires { ⌜ (length (now scan) ≡ 45328) × (group < 4096) × (node < 4096) ⌝ }
+    requires { ⌜ (length (now scan) ≡ 41232) × (group < 4096) × (node < 4096) ⌝ }
     ensures { λ _. ⌜ now (scan .exit) ≡ joinedTo (now (scan .entry)) group node sign ⌝ }
 {
-    let word = scan[33040 + group];
+    let word = scan[8192 + group];
     let k = (word % 4) as usize;
-    let nodes = with_entry(scan[37136 + group], k, node);
+    let nodes = with_entry(scan[33040 + group], k, node);
     scan[16656 + 4 * group + k] = sign;
-    scan[37136 + group] = nodes;
-    scan[33040 + group] = word % 65536 + 1;
+    scan[33040 + group] = nodes;
+    scan[8192 + group] = word % 4294967296 + 1;
 }
 
 // A node into the scan words: its key and its signature, its block's word and the upper word no higher than its key, and the node as an entry of the last
 // group of its class.
 pub fn link(scan: &mut [u64], node: usize, key: u64, sign: u64, class: usize)
-    requires { ⌜ (length (now scan) ≡ 45328) × (node < 4096) × (class < 4095) ⌝ }
+    requires { ⌜ (length (now scan) ≡ 41232) × (node < 4096) × (class < 4095) ⌝ }
     ensures { λ _. ⌜ now (scan .exit) ≡ linkedTo (now (scan .entry)) node key sign class ⌝ }
 {
     scan[node] = key;
@@ -111,7 +110,7 @@ pub fn link(scan: &mut [u64], node: usize, key: u64, sign: u64, class: usize)
 
 // The words of all blocks to the mark, and the upper words, which stand behind them.
 pub fn fresh(scan: &mut [u64])
-    requires { ⌜ length (now scan) ≡ 45328 ⌝ }
+    requires { ⌜ length (now scan) ≡ 41232 ⌝ }
     ensures { λ _. ⌜ now (scan .exit) ≡ freshTo (now (scan .entry)) 272 ⌝ }
 {
     for b in 0..272 {
@@ -188,7 +187,7 @@ fn block_size(block: usize, count: usize) -> usize
 
 // A block's word again the least of its keys: the words begin at `at`, the keys at `from`.
 fn raise(scan: &mut [u64], from: usize, at: usize, block: usize, count: usize)
-    requires { ⌜ (length (now scan) ≡ 45328) × (from ≤ 16384) × (at ≤ 16640) × (block * 16 ≤ count) × (count ≤ 4096) ⌝ }
+    requires { ⌜ (length (now scan) ≡ 41232) × (from ≤ 16384) × (at ≤ 16640) × (block * 16 ≤ count) × (count ≤ 4096) ⌝ }
     ensures { λ _. ⌜ now (scan .exit) ≡ raisedTo (now (scan .entry)) from at count block ⌝ }
 {
     let low = least_key(scan, from + block * 16, block_size(block, count));
@@ -197,7 +196,7 @@ fn raise(scan: &mut [u64], from: usize, at: usize, block: usize, count: usize)
 
 // The mark as the open key of a node, its block's word again the least of the block, and the upper word the least of its block words.
 pub fn retire(scan: &mut [u64], node: usize, count: usize)
-    requires { ⌜ (length (now scan) ≡ 45328) × (count ≤ 4096) × (node < count) ⌝ }
+    requires { ⌜ (length (now scan) ≡ 41232) × (count ≤ 4096) × (node < count) ⌝ }
     ensures { λ _. ⌜ now (scan .exit) ≡ retiredTo (now (scan .entry)) node count ⌝ }
 {
     scan[node] = MARK;
@@ -260,7 +259,7 @@ fn lacks(sign: u64, theirs: u64) -> bool
 
 // Whether the signatures of all entries of a group lack a bit of the signature. The four words stand side by side, and nothing branches between them.
 fn all_lack(scan: &[u64], group: usize, sign: u64) -> bool
-    requires { ⌜ (length (now scan) ≡ 45328) × (group < 4096) ⌝ }
+    requires { ⌜ (length (now scan) ≡ 41232) × (group < 4096) ⌝ }
     ensures { λ r. ⌜ r ≡ allLack (now (scan .entry)) group sign ⌝ }
 {
     let from = 16656 + 4 * group;
@@ -287,8 +286,8 @@ fn try_group(
     requires { ⌜ (group < groupsIn (now scan)) × (sign ≡ signOf (take states (now prices))) ⌝ }
     ensures { λ r. ⌜ Tried states (now (table .entry)) (now (scan .entry)) count (nodeWith spot paid (take states (now (prices .entry))) 0 0) group r ⌝ }
 {
-    let fill = (scan[33040 + group] % 8) as usize;
-    let nodes = scan[37136 + group];
+    let fill = (scan[8192 + group] % 8) as usize;
+    let nodes = scan[33040 + group];
     let mut hint = 0;
     for k in 0..fill {
         let u = entry_of(nodes, k);
@@ -321,7 +320,7 @@ fn walk(
     let mut to = scan[12288 + class] as usize;
     while to > 0 {
         let group = to - 1;
-        to = scan[8192 + group] as usize;
+        to = (scan[8192 + group] / 65536) as usize;
         if all_lack(scan, group, sign) {
             continue;
         }
@@ -357,7 +356,7 @@ fn dominator(
     requires { ⌜ (class ≡ classOf spot) × (sign ≡ signOf (take states (now prices))) ⌝ }
     ensures { λ r. ⌜ Dominator states (now (table .entry)) count (nodeWith spot paid (take states (now (prices .entry))) 0 0) r ⌝ }
 {
-    let recent = scan[41232 + slot_of(class, sign)] as usize;
+    let recent = scan[37136 + slot_of(class, sign)] as usize;
     if recent > 0 {
         if recent <= count {
             if test_at(table, states, recent - 1, spot, paid, prices, sign, 0) > states {
@@ -396,7 +395,7 @@ pub fn is_dominated(
     ensures { λ r. ⌜ (r ≡ any count (λ u. dominates (nodeIn states (now (table .entry)) u) (nodeWith spot paid (take states (now (prices .entry))) 0 0))) × Recalled (now (scan .entry)) (now (scan .exit)) ⌝ }
 {
     let found = dominator(table, states, count, scan, class, sign, spot, paid, prices);
-    let place = 41232 + slot_of(class, sign);
+    let place = 37136 + slot_of(class, sign);
     scan[place] = recent_word(found, count);
     found > 0
 }
@@ -423,7 +422,7 @@ fn find(scan: &[u64], from: usize, count: usize, word: u64) -> usize
 // One more than the node with the least key below the bound, the lowest on ties; 0 for none. An upper word is picked, of those that the first `count`
 // nodes have, and it is that key. So the block is the first of its 16 blocks whose word is the same, and the node the first in the block with that key.
 pub fn choose(scan: &[u64], count: usize, bound: u64) -> usize
-    requires { ⌜ (length (now scan) ≡ 45328) × (count ≤ 4096) × (bound ≤ mark) × Blocked (now scan) count ⌝ }
+    requires { ⌜ (length (now scan) ≡ 41232) × (count ≤ 4096) × (bound ≤ mark) × Blocked (now scan) count ⌝ }
     ensures { λ r. ⌜ r ≡ chooseBy bound (now (scan .entry)) count ⌝ }
 {
     let picked = pick(scan, 16640, (count + 255) / 256, bound);

@@ -1,4 +1,4 @@
--- `nodes::add_group` meets its contract: four words are stored. Assumes nothing.
+-- `nodes::add_group` meets its contract: three words are stored. Assumes nothing.
 use mathlib.Core.Path.{refl}
 use native.Mathlib.Omega.{arith}
 use lib.ListN.{length-set}
@@ -16,17 +16,14 @@ mul-head c = search needs
 slice-read-head : tie.Need-slice-read-head
 slice-read-head c = search needs
 
-add-scan : tie.Need-add-scan
-add-scan c = search needs
-
 mul-scan : tie.Need-mul-scan
 mul-scan c = search needs
 
-slice-write-scan : tie.Need-slice-write-scan
-slice-write-scan c = search needs
-
 mul-scan-2 : tie.Need-mul-scan-2
 mul-scan-2 c = search needs
+
+add-scan : tie.Need-add-scan
+add-scan c = search needs
 
 add-scan-2 : tie.Need-add-scan-2
 add-scan-2 c = search needs
@@ -34,8 +31,8 @@ add-scan-2 c = search needs
 mul-scan-3 : tie.Need-mul-scan-3
 mul-scan-3 c = search needs
 
-slice-write-scan-2 : tie.Need-slice-write-scan-2
-slice-write-scan-2 c = simp length-set (omega arith)
+slice-write-scan : tie.Need-slice-write-scan
+slice-write-scan c = search needs
 
 add-scan-3 : tie.Need-add-scan-3
 add-scan-3 c = search needs
@@ -46,14 +43,14 @@ add-scan-4 c = search needs
 mul-scan-4 : tie.Need-mul-scan-4
 mul-scan-4 c = search needs
 
-slice-write-scan-3 : tie.Need-slice-write-scan-3
-slice-write-scan-3 c = simp length-set (omega arith)
+slice-write-scan-2 : tie.Need-slice-write-scan-2
+slice-write-scan-2 c = simp length-set (omega arith)
 
 add-scan-5 : tie.Need-add-scan-5
 add-scan-5 c = search needs
 
-slice-write-scan-4 : tie.Need-slice-write-scan-4
-slice-write-scan-4 c = search needs
+slice-write-scan-3 : tie.Need-slice-write-scan-3
+slice-write-scan-3 c = search needs
 
 same-length : tie.Need-same-length
 same-length c = search needs
@@ -69,18 +66,17 @@ add-group-spec =
     add-head
     mul-head
     slice-read-head
-    add-scan
     mul-scan
-    slice-write-scan
     mul-scan-2
+    add-scan
     add-scan-2
     mul-scan-3
-    slice-write-scan-2
+    slice-write-scan
     add-scan-3
     add-scan-4
     mul-scan-4
-    slice-write-scan-3
+    slice-write-scan-2
     add-scan-5
-    slice-write-scan-4
+    slice-write-scan-3
     same-length
     returns)

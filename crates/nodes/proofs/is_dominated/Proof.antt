@@ -40,7 +40,7 @@ returns c =
     let a = c .before .before .before .before .before .before .before .args in
     let d = c .before .before .dominator in (
       dominator-tells (a .states) (a .table .now) (a .count) (nodeWith (a .spot) (a .paid) (take (a .states) (a .prices .now)) 0 0) (d .result) (d .ensures),
-      recalled-set (a .scan .now) (41232 + c .before .slot-of .result) (c .recent-word .result) (omega arith),
+      recalled-set (a .scan .now) (37136 + c .before .slot-of .result) (c .recent-word .result) (omega arith),
     )
 
 pub is-dominated-spec : {M : Type 1} → statement M

@@ -13,7 +13,7 @@ use lib.Seq.{getD-set-same, getD-set-other}
 use Rattle.loops.specs.Count.Laws.{below-cases, test-cases}
 use Rattle.rows.specs.Row.{nodeOf, rowIn, nodeIn}
 use Rattle.rows.specs.Sign.{classOf, signOf}
-use Rattle.nodes.specs.Chain.{signAt, linkAt, headAt, groupsIn, wordAt, classAt, fillAt, entryOf, shownAt, nodesAt, entryAt, hasRoom, groupFor, withGroup, openedTo, withEntry, joinedTo, Entry, Placed, Grouped}
+use Rattle.nodes.specs.Chain.{linkAt, headAt, groupsIn, wordAt, classAt, fillAt, entryOf, shownAt, nodesAt, entryAt, hasRoom, groupFor, withGroup, openedTo, withEntry, joinedTo, Entry, Placed, Grouped}
 
 -- ---- the group that a node goes to
 
@@ -110,29 +110,29 @@ grouped-none S T C z =
       placed = λ w l. absurd (not-suc-le-zero l);
     }
 
--- the words of groups are the same: links and heads, and from the entries' signatures on
+-- the words of groups are the same, with the heads, and from the entries' signatures on
 pub record SameGroups (C D : List ℕ) : Type 0 where
   pub chains : (i : ℕ) → 8192 ≤ i → i < 16384 → getD D i 0 ≡ getD C i 0
-  pub members : (i : ℕ) → 16656 ≤ i → i < 41232 → getD D i 0 ≡ getD C i 0
+  pub members : (i : ℕ) → 16656 ≤ i → i < 37136 → getD D i 0 ≡ getD C i 0
 
 module _ (S : ℕ) (T C D : List ℕ) (n : ℕ) (few : groupsIn C ≤ 4096) (s : SameGroups C D) (r : Grouped S T C n) where
   same-groups : groupsIn D ≡ groupsIn C
   same-groups = s .chains 16383 (omega arith) (omega arith)
 
   same-word : (g : ℕ) → g < groupsIn C → wordAt D g ≡ wordAt C g
-  same-word g l = s .members (33040 + g) (omega arith) (omega arith)
+  same-word g l = s .chains (8192 + g) (omega arith) (omega arith)
 
   same-link : (g : ℕ) → g < groupsIn C → linkAt D g ≡ linkAt C g
-  same-link g l = s .chains (8192 + g) (omega arith) (omega arith)
+  same-link g l = ap (λ (x : ℕ). x / 65536) (same-word g l)
 
   same-head : (h : ℕ) → h < 4095 → headAt D h ≡ headAt C h
   same-head h l = s .chains (12288 + h) (omega arith) (omega arith)
 
   same-class : (g : ℕ) → g < groupsIn C → classAt D g ≡ classAt C g
-  same-class g l = ap (λ (x : ℕ). x / 8) (same-word g l)
+  same-class g l = ap (λ (x : ℕ). x % 65536 / 8) (same-word g l)
 
   same-entry : (g k : ℕ) → g < groupsIn C → entryAt D g k ≡ entryAt C g k
-  same-entry g k l = ap (λ (w : ℕ). entryOf w k) (s .members (37136 + g) (omega arith) (omega arith))
+  same-entry g k l = ap (λ (w : ℕ). entryOf w k) (s .members (33040 + g) (omega arith) (omega arith))
 
   same-entries : (g k : ℕ) → g < groupsIn D → k < fillAt D g → Entry S T D n g k
   same-entries g k b f =
@@ -197,46 +197,40 @@ grouped-same S T T′ C n s r = record {
 
 -- ---- a group is opened
 
-module _ (S : ℕ) (T C : List ℕ) (n h : ℕ) (long : length C ≡ 45328) (few : groupsIn C < 4096) (small : h < 4095) (r : Grouped S T C n) where
+module _ (S : ℕ) (T C : List ℕ) (n h : ℕ) (long : length C ≡ 41232) (few : groupsIn C < 4096) (small : h < 4095) (r : Grouped S T C n) where
   abbrev g : ℕ
   g = groupsIn C
 
   abbrev D : List ℕ
   D = withGroup C h g
 
-  -- a word that is none of the four
-  pub open-other : (i : ℕ) → (i ≡ 8192 + g → ⊥) → (i ≡ 33040 + g → ⊥) → (i ≡ 12288 + h → ⊥) → (i ≡ 16383 → ⊥) → getD D i 0 ≡ getD C i 0
+  -- a word that is none of the three
+  pub open-other : (i : ℕ) → (i ≡ 8192 + g → ⊥) → (i ≡ 12288 + h → ⊥) → (i ≡ 16383 → ⊥) → getD D i 0 ≡ getD C i 0
   unfolding withGroup
-  open-other i a b c d =
-      getD-set-other (set (set (set C (8192 + g) (headAt C h)) (33040 + g) (h * 8)) (12288 + h) (g + 1)) 16383 i (g + 1) 0 d
-      ∙ getD-set-other (set (set C (8192 + g) (headAt C h)) (33040 + g) (h * 8)) (12288 + h) i (g + 1) 0 c
-      ∙ getD-set-other (set C (8192 + g) (headAt C h)) (33040 + g) i (h * 8) 0 b
-      ∙ getD-set-other C (8192 + g) i (headAt C h) 0 a
+  open-other i a c d =
+      getD-set-other (set (set C (8192 + g) (headAt C h % 65536 * 65536 + h * 8)) (12288 + h) (g + 1)) 16383 i (g + 1) 0 d
+      ∙ getD-set-other (set C (8192 + g) (headAt C h % 65536 * 65536 + h * 8)) (12288 + h) i (g + 1) 0 c
+      ∙ getD-set-other C (8192 + g) i (headAt C h % 65536 * 65536 + h * 8) 0 a
 
   pub open-groups : groupsIn D ≡ g + 1
   unfolding withGroup
-  open-groups = getD-set-same (set (set (set C (8192 + g) (headAt C h)) (33040 + g) (h * 8)) (12288 + h) (g + 1)) 16383 (g + 1) 0 (simp length-set (omega arith))
+  open-groups = getD-set-same (set (set C (8192 + g) (headAt C h % 65536 * 65536 + h * 8)) (12288 + h) (g + 1)) 16383 (g + 1) 0 (simp length-set (omega arith))
 
   open-head : headAt D h ≡ g + 1
   unfolding withGroup
   open-head =
-      getD-set-other (set (set (set C (8192 + g) (headAt C h)) (33040 + g) (h * 8)) (12288 + h) (g + 1)) 16383 (12288 + h) (g + 1) 0 (λ e. omega arith)
-      ∙ getD-set-same (set (set C (8192 + g) (headAt C h)) (33040 + g) (h * 8)) (12288 + h) (g + 1) 0 (simp length-set (omega arith))
+      getD-set-other (set (set C (8192 + g) (headAt C h % 65536 * 65536 + h * 8)) (12288 + h) (g + 1)) 16383 (12288 + h) (g + 1) 0 (λ e. omega arith)
+      ∙ getD-set-same (set C (8192 + g) (headAt C h % 65536 * 65536 + h * 8)) (12288 + h) (g + 1) 0 (simp length-set (omega arith))
 
-  pub open-word : wordAt D g ≡ h * 8
+  pub open-word : wordAt D g ≡ headAt C h % 65536 * 65536 + h * 8
   unfolding withGroup
   open-word =
-      getD-set-other (set (set (set C (8192 + g) (headAt C h)) (33040 + g) (h * 8)) (12288 + h) (g + 1)) 16383 (33040 + g) (g + 1) 0 (λ e. omega arith)
-      ∙ getD-set-other (set (set C (8192 + g) (headAt C h)) (33040 + g) (h * 8)) (12288 + h) (33040 + g) (g + 1) 0 (λ e. omega arith)
-      ∙ getD-set-same (set C (8192 + g) (headAt C h)) (33040 + g) (h * 8) 0 (simp length-set (omega arith))
+      getD-set-other (set (set C (8192 + g) (headAt C h % 65536 * 65536 + h * 8)) (12288 + h) (g + 1)) 16383 (8192 + g) (g + 1) 0 (λ e. omega arith)
+      ∙ getD-set-other (set C (8192 + g) (headAt C h % 65536 * 65536 + h * 8)) (12288 + h) (8192 + g) (g + 1) 0 (λ e. omega arith)
+      ∙ getD-set-same C (8192 + g) (headAt C h % 65536 * 65536 + h * 8) 0 (omega arith)
 
   open-link : linkAt D g ≡ headAt C h
-  unfolding withGroup
-  open-link =
-      getD-set-other (set (set (set C (8192 + g) (headAt C h)) (33040 + g) (h * 8)) (12288 + h) (g + 1)) 16383 (8192 + g) (g + 1) 0 (λ e. omega arith)
-      ∙ getD-set-other (set (set C (8192 + g) (headAt C h)) (33040 + g) (h * 8)) (12288 + h) (8192 + g) (g + 1) 0 (λ e. omega arith)
-      ∙ getD-set-other (set C (8192 + g) (headAt C h)) (33040 + g) (8192 + g) (h * 8) 0 (λ e. omega arith)
-      ∙ getD-set-same C (8192 + g) (headAt C h) 0 (omega arith)
+  open-link = let top = r .heads h small in rw open-word (omega arith)
 
   pub open-length : length D ≡ length C
   unfolding withGroup
@@ -247,22 +241,22 @@ module _ (S : ℕ) (T C : List ℕ) (n h : ℕ) (long : length C ≡ 45328) (few
 
   -- the words of the other groups and the heads of the other classes
   word-old : (f : ℕ) → f < g → wordAt D f ≡ wordAt C f
-  word-old f l = open-other (33040 + f) (λ e. omega arith) (λ e. omega arith) (λ e. omega arith) (λ e. omega arith)
+  word-old f l = open-other (8192 + f) (λ e. omega arith) (λ e. omega arith) (λ e. omega arith)
 
   class-old : (f : ℕ) → f < g → classAt D f ≡ classAt C f
-  class-old f l = ap (λ (x : ℕ). x / 8) (word-old f l)
+  class-old f l = ap (λ (x : ℕ). x % 65536 / 8) (word-old f l)
 
   link-old : (f : ℕ) → f < g → linkAt D f ≡ linkAt C f
-  link-old f l = open-other (8192 + f) (λ e. omega arith) (λ e. omega arith) (λ e. omega arith) (λ e. omega arith)
+  link-old f l = ap (λ (x : ℕ). x / 65536) (word-old f l)
 
   head-old : (i : ℕ) → i < 4095 → (i ≡ h → ⊥) → headAt D i ≡ headAt C i
-  head-old i b d = open-other (12288 + i) (λ e. omega arith) (λ e. omega arith) (λ e. d (omega arith)) (λ e. omega arith)
+  head-old i b d = open-other (12288 + i) (λ e. omega arith) (λ e. d (omega arith)) (λ e. omega arith)
 
   entry-old : (f k : ℕ) → f < g → entryAt D f k ≡ entryAt C f k
-  entry-old f k l = ap (λ (w : ℕ). entryOf w k) (open-other (37136 + f) (λ e. omega arith) (λ e. omega arith) (λ e. omega arith) (λ e. omega arith))
+  entry-old f k l = ap (λ (w : ℕ). entryOf w k) (open-other (33040 + f) (λ e. omega arith) (λ e. omega arith) (λ e. omega arith))
 
   shown-old : (f k : ℕ) → f < g → k < 4 → shownAt D f k ≡ shownAt C f k
-  shown-old f k l b = open-other (16656 + 4 * f + k) (λ e. omega arith) (λ e. omega arith) (λ e. omega arith) (λ e. omega arith)
+  shown-old f k l b = open-other (16656 + 4 * f + k) (λ e. omega arith) (λ e. omega arith) (λ e. omega arith)
 
   cases : (f : ℕ) → f < groupsIn D → (f < g) ⊎ (f ≡ g)
   cases f l = below-cases (omega (arith, open-groups))
@@ -352,7 +346,7 @@ module _ (S : ℕ) (T C : List ℕ) (n h : ℕ) (long : length C ≡ 45328) (few
 
 -- ---- node n joins group g of its class, which has room
 
-module _ (S : ℕ) (T C : List ℕ) (n g : ℕ) (inside : n < 4096) (long : length C ≡ 45328) (few : groupsIn C ≤ 4096) (known : g < groupsIn C)
+module _ (S : ℕ) (T C : List ℕ) (n g : ℕ) (inside : n < 4096) (long : length C ≡ 41232) (few : groupsIn C ≤ 4096) (known : g < groupsIn C)
     (room : fillAt C g < 4) (own : classAt C g ≡ classOf (nodeIn S T n .spot)) (r : Grouped S T C n) where
   abbrev s : ℕ
   s = signOf (nodeIn S T n .prices)
@@ -369,30 +363,30 @@ module _ (S : ℕ) (T C : List ℕ) (n g : ℕ) (inside : n < 4096) (long : leng
   place-is : wordAt C g % 4 ≡ k
   place-is = omega arith
 
-  word-is : wordAt C g % 65536 + 1 ≡ wordAt C g + 1
-  word-is = omega (arith, r .fills g known)
+  word-is : wordAt C g % 4294967296 + 1 ≡ wordAt C g + 1
+  word-is = omega (arith, r .links g known)
 
   -- a word that is none of the three
-  pub join-other : (i : ℕ) → (i ≡ 16656 + 4 * g + k → ⊥) → (i ≡ 37136 + g → ⊥) → (i ≡ 33040 + g → ⊥) → getD J i 0 ≡ getD C i 0
+  pub join-other : (i : ℕ) → (i ≡ 16656 + 4 * g + k → ⊥) → (i ≡ 33040 + g → ⊥) → (i ≡ 8192 + g → ⊥) → getD J i 0 ≡ getD C i 0
   unfolding joinedTo
   join-other i a b c =
       rw (place-is, word-is)
-      (getD-set-other (set (set C (16656 + 4 * g + k) s) (37136 + g) w) (33040 + g) i (wordAt C g + 1) 0 c
-      ∙ getD-set-other (set C (16656 + 4 * g + k) s) (37136 + g) i w 0 b
+      (getD-set-other (set (set C (16656 + 4 * g + k) s) (33040 + g) w) (8192 + g) i (wordAt C g + 1) 0 c
+      ∙ getD-set-other (set C (16656 + 4 * g + k) s) (33040 + g) i w 0 b
       ∙ getD-set-other C (16656 + 4 * g + k) i s 0 a)
 
   join-word : wordAt J g ≡ wordAt C g + 1
   unfolding joinedTo
   join-word =
       rw (place-is, word-is)
-      (getD-set-same (set (set C (16656 + 4 * g + k) s) (37136 + g) w) (33040 + g) (wordAt C g + 1) 0 (simp length-set (omega arith)))
+      (getD-set-same (set (set C (16656 + 4 * g + k) s) (33040 + g) w) (8192 + g) (wordAt C g + 1) 0 (simp length-set (omega arith)))
 
   join-nodes : nodesAt J g ≡ w
   unfolding joinedTo
   join-nodes =
       rw (place-is, word-is)
-      (getD-set-other (set (set C (16656 + 4 * g + k) s) (37136 + g) w) (33040 + g) (37136 + g) (wordAt C g + 1) 0 (λ e. omega arith)
-      ∙ getD-set-same (set C (16656 + 4 * g + k) s) (37136 + g) w 0 (simp length-set (omega arith)))
+      (getD-set-other (set (set C (16656 + 4 * g + k) s) (33040 + g) w) (8192 + g) (33040 + g) (wordAt C g + 1) 0 (λ e. omega arith)
+      ∙ getD-set-same (set C (16656 + 4 * g + k) s) (33040 + g) w 0 (simp length-set (omega arith)))
 
   join-entry : entryAt J g k ≡ n
   join-entry = ap (λ (x : ℕ). entryOf x k) join-nodes ∙ entry-here (nodesAt C g) k n room inside
@@ -401,45 +395,58 @@ module _ (S : ℕ) (T C : List ℕ) (n g : ℕ) (inside : n < 4096) (long : leng
   unfolding joinedTo
   join-shown =
       rw (place-is, word-is)
-      (getD-set-other (set (set C (16656 + 4 * g + k) s) (37136 + g) w) (33040 + g) (16656 + 4 * g + k) (wordAt C g + 1) 0 (λ e. omega arith)
-      ∙ getD-set-other (set C (16656 + 4 * g + k) s) (37136 + g) (16656 + 4 * g + k) w 0 (λ e. omega arith)
+      (getD-set-other (set (set C (16656 + 4 * g + k) s) (33040 + g) w) (8192 + g) (16656 + 4 * g + k) (wordAt C g + 1) 0 (λ e. omega arith)
+      ∙ getD-set-other (set C (16656 + 4 * g + k) s) (33040 + g) (16656 + 4 * g + k) w 0 (λ e. omega arith)
       ∙ getD-set-same C (16656 + 4 * g + k) s 0 (omega arith))
 
   pub join-length : length J ≡ length C
   unfolding joinedTo
   join-length = simp length-set
 
-  -- before the entries' signatures nothing changed
-  pub join-before : (i : ℕ) → i < 16656 → getD J i 0 ≡ getD C i 0
+  -- before the words of groups nothing changed, nor between them and the entries' signatures
+  pub join-before : (i : ℕ) → i < 8192 → getD J i 0 ≡ getD C i 0
   join-before i l = join-other i (λ e. omega arith) (λ e. omega arith) (λ e. omega arith)
 
-  -- the group's word counts one entry more, and the class stays
+  pub join-between : (i : ℕ) → 12288 ≤ i → i < 16656 → getD J i 0 ≡ getD C i 0
+  join-between i a l = join-other i (λ e. omega arith) (λ e. omega arith) (λ e. omega arith)
+
+  -- the group's word counts one entry more, and the link and the class stay
   fill-new : fillAt J g ≡ k + 1
   fill-new = rw join-word (omega arith)
+
+  word-kept : (f : ℕ) → f < 4096 → (f ≡ g → ⊥) → wordAt J f ≡ wordAt C f
+  word-kept f l d = join-other (8192 + f) (λ e. omega arith) (λ e. omega arith) (λ e. d (omega arith))
+
+  link-all : (f : ℕ) → f < 4096 → linkAt J f ≡ linkAt C f
+  link-all f l = go (ℕ-discrete f g)
+    where
+      go : Dec (f ≡ g) → linkAt J f ≡ linkAt C f
+      go (yes e) = rw (e, join-word) (omega arith)
+      go (no d) = ap (λ (x : ℕ). x / 65536) (word-kept f l d)
 
   class-all : (f : ℕ) → f < 4096 → classAt J f ≡ classAt C f
   class-all f l = go (ℕ-discrete f g)
     where
       go : Dec (f ≡ g) → classAt J f ≡ classAt C f
       go (yes e) = rw (e, join-word) (omega arith)
-      go (no d) = ap (λ (x : ℕ). x / 8) (join-other (33040 + f) (λ e. omega arith) (λ e. omega arith) (λ e. d (omega arith)))
+      go (no d) = ap (λ (x : ℕ). x % 65536 / 8) (word-kept f l d)
 
   fill-all : (f : ℕ) → f < 4096 → fillAt C f ≤ fillAt J f
   fill-all f l = go (ℕ-discrete f g)
     where
       go : Dec (f ≡ g) → fillAt C f ≤ fillAt J f
       go (yes e) = rw e (omega (arith, fill-new))
-      go (no d) = omega (arith, join-other (33040 + f) (λ e. omega arith) (λ e. omega arith) (λ e. d (omega arith)))
+      go (no d) = omega (arith, word-kept f l d)
 
   fill-low : (f : ℕ) → f < 4096 → fillAt C f ≤ 4 → fillAt J f ≤ 4
   fill-low f l h = go (ℕ-discrete f g)
     where
       go : Dec (f ≡ g) → fillAt J f ≤ 4
       go (yes e) = rw e (omega (arith, fill-new))
-      go (no d) = omega (arith, join-other (33040 + f) (λ e. omega arith) (λ e. omega arith) (λ e. d (omega arith)))
+      go (no d) = omega (arith, word-kept f l d)
 
   groups-all : groupsIn J ≡ groupsIn C
-  groups-all = join-before 16383 (omega arith)
+  groups-all = join-between 16383 (omega arith) (omega arith)
 
   -- an entry that was there
   entry-kept : (f i : ℕ) → f < 4096 → i < 4 → (f ≡ g → i < k) → (entryAt J f i ≡ entryAt C f i) × (shownAt J f i ≡ shownAt C f i)
@@ -450,7 +457,7 @@ module _ (S : ℕ) (T C : List ℕ) (n g : ℕ) (inside : n < 4096) (long : leng
     where
       go : Dec (f ≡ g) → entryAt J f i ≡ entryAt C f i
       go (yes e) = rw e (ap (λ (x : ℕ). entryOf x i) join-nodes ∙ entry-before (nodesAt C g) i k n (d e) room)
-      go (no q) = ap (λ (x : ℕ). entryOf x i) (join-other (37136 + f) (λ e. omega arith) (λ e. q (omega arith)) (λ e. omega arith))
+      go (no q) = ap (λ (x : ℕ). entryOf x i) (join-other (33040 + f) (λ e. omega arith) (λ e. q (omega arith)) (λ e. omega arith))
 
   entries-new : (f i : ℕ) → f < groupsIn C → i < fillAt J f → Entry S T J (suc n) f i
   entries-new f i l b = go (ℕ-discrete f g) (ℕ-discrete i k)
@@ -475,7 +482,7 @@ module _ (S : ℕ) (T C : List ℕ) (n g : ℕ) (inside : n < 4096) (long : leng
       go : Dec (f ≡ g) → Dec (i ≡ k) → Entry S T J (suc n) f i
       go (yes p) (yes q) = rw (p, q) here
       go (yes p) (no q) = let b′ = rw p at b in let low : i < k = omega (arith, fill-new) in old (rw p low) (λ _. low)
-      go (no p) q = old (omega (arith, join-other (33040 + f) (λ e. omega arith) (λ e. omega arith) (λ e. p (omega arith)))) (λ e. absurd (p e))
+      go (no p) q = old (omega (arith, word-kept f (omega arith) p)) (λ e. absurd (p e))
 
   placed-new : (w : ℕ) → w < suc n → Placed J w
   placed-new w b = go (below-cases b)
@@ -500,16 +507,16 @@ module _ (S : ℕ) (T C : List ℕ) (n g : ℕ) (inside : n < 4096) (long : leng
   grouped-join = record {
     fills = λ f l. let b : f < groupsIn C = omega (arith, groups-all) in
         (fill-low f (omega arith) (r .fills f b .0), omega (arith, class-all f (omega arith), r .fills f b .1));
-    links = λ f l. let b : f < groupsIn C = omega (arith, groups-all) in omega (arith, join-before (8192 + f) (omega arith), r .links f b);
+    links = λ f l. let b : f < groupsIn C = omega (arith, groups-all) in omega (arith, link-all f (omega arith), r .links f b);
     skips = λ f i l a c e. let b : f < groupsIn C = omega (arith, groups-all) in
-        r .skips f i b (omega (arith, join-before (8192 + f) (omega arith))) c (sym (class-all i (omega arith)) ∙ e ∙ class-all f (omega arith));
+        r .skips f i b (omega (arith, link-all f (omega arith))) c (sym (class-all i (omega arith)) ∙ e ∙ class-all f (omega arith));
     linked = λ f i l e. let b : f < groupsIn C = omega (arith, groups-all) in
-        let q = sym (join-before (8192 + f) (omega arith)) ∙ e in
+        let q = sym (link-all f (omega arith)) ∙ e in
         class-all i (omega (arith, r .links f b)) ∙ r .linked f i b q ∙ sym (class-all f (omega arith));
-    heads = λ h b. omega (arith, groups-all, join-before (12288 + h) (omega arith), r .heads h b);
+    heads = λ h b. omega (arith, groups-all, join-between (12288 + h) (omega arith) (omega arith), r .heads h b);
     last = λ h f b a l e. let q : f < groupsIn C = omega (arith, groups-all) in
-        r .last h f b (omega (arith, join-before (12288 + h) (omega arith))) q (sym (class-all f (omega arith)) ∙ e);
-    headed = λ h f b e. let q = sym (join-before (12288 + h) (omega arith)) ∙ e in class-all f (omega (arith, r .heads h b)) ∙ r .headed h f b q;
+        r .last h f b (omega (arith, join-between (12288 + h) (omega arith) (omega arith))) q (sym (class-all f (omega arith)) ∙ e);
+    headed = λ h f b e. let q = sym (join-between (12288 + h) (omega arith) (omega arith)) ∙ e in class-all f (omega (arith, r .heads h b)) ∙ r .headed h f b q;
     entries = λ f i l. entries-new f i (omega (arith, groups-all));
     placed = placed-new;
   }

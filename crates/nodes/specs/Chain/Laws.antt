@@ -18,12 +18,12 @@ use Rattle.rows.specs.Sign.Laws.{class-lt}
 use Rattle.nodes.specs.Block.{blockWords, upperWords, Blocked, freshTo, loweredTo, retiredTo}
 use Rattle.nodes.specs.Block.Laws.{under-same, under-lowered, blocked-none, fresh-length, fresh-other, fresh-block, drop-same, lowered-length, lowered-other, lowered-here, retired-length, retired-key, retired-behind, blocked-retire}
 use Rattle.nodes.specs.Chain.{signAt, headAt, groupsIn, wordAt, classAt, fillAt, nodesAt, slotOf, hasRoom, groupFor, withGroup, openedTo, withEntry, joinedTo, blockedTo, linkedTo, Grouped, Chained, Recalled}
-use Rattle.nodes.specs.Chain.Groups.{room-some, room-head, group-last, group-new, SameGroups, grouped-none, grouped-words, grouped-same, open-other, open-groups, open-word, open-length, grouped-open, join-length, join-before, grouped-join}
+use Rattle.nodes.specs.Chain.Groups.{room-some, room-head, group-last, group-new, SameGroups, grouped-none, grouped-words, grouped-same, open-other, open-groups, open-word, open-length, grouped-open, join-length, join-before, join-between, grouped-join}
 
 -- ---- chains
 
 -- no node
-pub chained-none : (S : ℕ) (T C : List ℕ) → length C ≡ 45328 → ((h : ℕ) → h < 4096 → headAt C h ≡ 0) → ((b : ℕ) → b < 272 → getD C (16384 + b) 0 ≡ mark)
+pub chained-none : (S : ℕ) (T C : List ℕ) → length C ≡ 41232 → ((h : ℕ) → h < 4096 → headAt C h ≡ 0) → ((b : ℕ) → b < 272 → getD C (16384 + b) 0 ≡ mark)
     → Chained S T C 0
 chained-none S T C l z m = record {
   long = l;
@@ -35,14 +35,14 @@ chained-none S T C l z m = record {
 }
 
 -- no node, after all block words are set to the mark
-pub chained-fresh : (S : ℕ) (T C : List ℕ) → length C ≡ 45328 → ((h : ℕ) → h < 4096 → headAt C h ≡ 0) → Chained S T (freshTo C 272) 0
+pub chained-fresh : (S : ℕ) (T C : List ℕ) → length C ≡ 41232 → ((h : ℕ) → h < 4096 → headAt C h ≡ 0) → Chained S T (freshTo C 272) 0
 chained-fresh S T C l z =
     chained-none S T (freshTo C 272) (fresh-length C 272 ∙ l) (λ h b. fresh-other C 272 (12288 + h) (omega arith) ∙ z h b)
     (λ b k. fresh-block C 272 b (omega arith) k)
 
 -- signatures and groups are the same, and the block words are right
 chained-words : (S : ℕ) (T C C′ : List ℕ) (n : ℕ) → n ≤ 4096 → length C′ ≡ length C → ((i : ℕ) → 4096 ≤ i → i < 16384 → getD C′ i 0 ≡ getD C i 0)
-    → ((i : ℕ) → 16656 ≤ i → i < 41232 → getD C′ i 0 ≡ getD C i 0) → Blocked C′ n → Chained S T C n → Chained S T C′ n
+    → ((i : ℕ) → 16656 ≤ i → i < 37136 → getD C′ i 0 ≡ getD C i 0) → Blocked C′ n → Chained S T C n → Chained S T C′ n
 chained-words S T C C′ n few l s f k r = record {
   long = l ∙ r .long;
   signs = λ u h. s (4096 + u) (omega arith) (omega arith) ∙ r .signs u h;
@@ -67,7 +67,7 @@ pub recalled-none : (C : List ℕ) → Recalled C C
 recalled-none C = record { long = refl; same = λ i l. refl }
 
 -- one recent word is stored
-pub recalled-set : (C : List ℕ) (i v : ℕ) → 41232 ≤ i → Recalled C (set C i v)
+pub recalled-set : (C : List ℕ) (i v : ℕ) → 37136 ≤ i → Recalled C (set C i v)
 recalled-set C i v h = record { long = length-set C i v; same = λ k l. getD-set-other C i k v 0 (λ e. omega arith) }
 
 -- the block words do not go by recent words
@@ -79,7 +79,7 @@ blocked-recalled C D n few k r = record {
       (λ g l. word 16640 g (omega arith)) (r .words);
 }
   where
-    word : (at b : ℕ) → at + b < 41232 → getD (drop at D) b 0 ≡ getD (drop at C) b 0
+    word : (at b : ℕ) → at + b < 37136 → getD (drop at D) b 0 ≡ getD (drop at C) b 0
     word at b l = drop-same C D at b (k .same (at + b) l)
 
 -- nor do the chains
@@ -134,7 +134,7 @@ module _ (C : List ℕ) (n key s : ℕ) where
   pub block-key : (u : ℕ) → u < 4096 → getD B u 0 ≡ getD (set C n key) u 0
   block-key u b = block-but u (λ e. omega arith) (λ e. omega arith) ∙ getD-set-other (set C n key) (4096 + n) u s 0 (λ e. omega arith)
 
-  module _ (long : length C ≡ 45328) (few : n < 4096) where
+  module _ (long : length C ≡ 41232) (few : n < 4096) where
     block-old : (i : ℕ) → 4096 ≤ i → (i ≡ 4096 + n → ⊥) → (i ≡ 16384 + n / 16 → ⊥) → (i ≡ 16640 + n / 16 / 16 → ⊥) → getD B i 0 ≡ getD C i 0
     block-old i b a d f =
         block-but i d f ∙ getD-set-other (set C n key) (4096 + n) i s 0 a ∙ getD-set-other C n i key 0 (λ e. omega arith)
@@ -219,7 +219,7 @@ pub record Ready (S : ℕ) (T C : List ℕ) (n h : ℕ) (D : List ℕ) (g : ℕ)
   pub own : classAt D g ≡ h
   pub grouped : Grouped S T D n
 
-module _ (S : ℕ) (T C : List ℕ) (n h : ℕ) (long : length C ≡ 45328) (few : groupsIn C < 4096) (small : h < 4095) (r : Grouped S T C n) where
+module _ (S : ℕ) (T C : List ℕ) (n h : ℕ) (long : length C ≡ 41232) (few : groupsIn C < 4096) (small : h < 4095) (r : Grouped S T C n) where
   -- it is the last of the class
   ready-last : hasRoom C (headAt C h) ≡ true → Ready S T C n h C ((headAt C h - 1) % 4096)
   ready-last e =
@@ -247,8 +247,8 @@ module _ (S : ℕ) (T C : List ℕ) (n h : ℕ) (long : length C ≡ 45328) (few
       rw is
       (record {
         kept = open-length S T C n h long few small r;
-        same = λ i l. open-other S T C n h long few small r i (λ e. omega arith) (λ e. omega arith) (λ e. omega arith) (λ e. omega arith);
-        words = λ i a l. open-other S T C n h long few small r i (λ e. omega arith) (λ e. omega arith) (λ e. omega arith) (λ e. omega arith);
+        same = λ i l. open-other S T C n h long few small r i (λ e. omega arith) (λ e. omega arith) (λ e. omega arith);
+        words = λ i a l. open-other S T C n h long few small r i (λ e. omega arith) (λ e. omega arith) (λ e. omega arith);
         few = omega (arith, more);
         known = omega (arith, more);
         room = rw word (omega arith);
@@ -269,10 +269,9 @@ module _ (S : ℕ) (T C : List ℕ) (n h : ℕ) (long : length C ≡ 45328) (few
 group-key : (C : List ℕ) (h g u : ℕ) → u < 4096 → getD (withGroup C h g) u 0 ≡ getD C u 0
 unfolding withGroup
 group-key C h g u b =
-    getD-set-other (set (set (set C (8192 + g) (headAt C h)) (33040 + g) (h * 8)) (12288 + h) (g + 1)) 16383 u (g + 1) 0 (λ e. omega arith)
-    ∙ getD-set-other (set (set C (8192 + g) (headAt C h)) (33040 + g) (h * 8)) (12288 + h) u (g + 1) 0 (λ e. omega arith)
-    ∙ getD-set-other (set C (8192 + g) (headAt C h)) (33040 + g) u (h * 8) 0 (λ e. omega arith)
-    ∙ getD-set-other C (8192 + g) u (headAt C h) 0 (λ e. omega arith)
+    getD-set-other (set (set C (8192 + g) (headAt C h % 65536 * 65536 + h * 8)) (12288 + h) (g + 1)) 16383 u (g + 1) 0 (λ e. omega arith)
+    ∙ getD-set-other (set C (8192 + g) (headAt C h % 65536 * 65536 + h * 8)) (12288 + h) u (g + 1) 0 (λ e. omega arith)
+    ∙ getD-set-other C (8192 + g) u (headAt C h % 65536 * 65536 + h * 8) 0 (λ e. omega arith)
 
 opened-key : (C : List ℕ) (h u : ℕ) → u < 4096 → getD (openedTo C h) u 0 ≡ getD C u 0
 opened-key C h u b = go (test-cases (hasRoom C (headAt C h)))
@@ -284,8 +283,8 @@ opened-key C h u b = go (test-cases (hasRoom C (headAt C h)))
 joined-key : (C : List ℕ) (g n s u : ℕ) → u < 4096 → getD (joinedTo C g n s) u 0 ≡ getD C u 0
 unfolding joinedTo
 joined-key C g n s u b =
-    getD-set-other (set (set C (16656 + 4 * g + wordAt C g % 4) s) (37136 + g) (withEntry (nodesAt C g) (wordAt C g % 4) n)) (33040 + g) u (wordAt C g % 65536 + 1) 0 (λ e. omega arith)
-    ∙ getD-set-other (set C (16656 + 4 * g + wordAt C g % 4) s) (37136 + g) u (withEntry (nodesAt C g) (wordAt C g % 4) n) 0 (λ e. omega arith)
+    getD-set-other (set (set C (16656 + 4 * g + wordAt C g % 4) s) (33040 + g) (withEntry (nodesAt C g) (wordAt C g % 4) n)) (8192 + g) u (wordAt C g % 4294967296 + 1) 0 (λ e. omega arith)
+    ∙ getD-set-other (set C (16656 + 4 * g + wordAt C g % 4) s) (33040 + g) u (withEntry (nodesAt C g) (wordAt C g % 4) n) 0 (λ e. omega arith)
     ∙ getD-set-other C (16656 + 4 * g + wordAt C g % 4) u s 0 (λ e. omega arith)
 
 -- of the open keys only the node's is stored
@@ -304,7 +303,7 @@ module _ (S : ℕ) (T C : List ℕ) (n key : ℕ) (few : n < 4096) (own : Packed
   abbrev mid : List ℕ
   mid = blockedTo C n key sign
 
-  mid-long : length mid ≡ 45328
+  mid-long : length mid ≡ 41232
   mid-long = block-length C n key sign ∙ r .long
 
   mid-groups : groupsIn mid ≡ groupsIn C
@@ -321,7 +320,7 @@ module _ (S : ℕ) (T C : List ℕ) (n key : ℕ) (few : n < 4096) (own : Packed
   abbrev g : ℕ
   g = groupFor mid class
 
-  E-long : length E ≡ 45328
+  E-long : length E ≡ 41232
   E-long = got .kept ∙ mid-long
 
   E-few : groupsIn E ≤ suc n
@@ -337,7 +336,7 @@ module _ (S : ℕ) (T C : List ℕ) (n key : ℕ) (few : n < 4096) (own : Packed
   block-same : (i : ℕ) → 16384 ≤ i → i < 16656 → getD (linkedTo C n key sign class) i 0 ≡ getD mid i 0
   unfolding linkedTo
   block-same i a l =
-      join-before S T E n g few E-long (omega (arith, E-few)) (got .known) (got .room) (got .own) (got .grouped) i l ∙ got .words i a l
+      join-between S T E n g few E-long (omega (arith, E-few)) (got .known) (got .room) (got .own) (got .grouped) i (omega arith) l ∙ got .words i a l
 
   signs-more : (u : ℕ) → u < suc n → signAt (linkedTo C n key sign class) u ≡ signOf (nodeIn S T u .prices)
   signs-more u b = word-same (4096 + u) (omega arith) ∙ go (below-cases b)
@@ -372,7 +371,7 @@ module _ (S : ℕ) (T C : List ℕ) (n key : ℕ) (few : n < 4096) (own : Packed
   chained-link = record {
     long = join-length S T E n g few E-long (omega (arith, E-few)) (got .known) (got .room) (got .own) (got .grouped) ∙ E-long;
     signs = signs-more;
-    few-groups = omega (arith, join-before S T E n g few E-long (omega (arith, E-few)) (got .known) (got .room) (got .own) (got .grouped) 16383 (omega arith), E-few);
+    few-groups = omega (arith, join-between S T E n g few E-long (omega (arith, E-few)) (got .known) (got .room) (got .own) (got .grouped) 16383 (omega arith) (omega arith), E-few);
     grouped = grouped-join S T E n g few E-long (omega (arith, E-few)) (got .known) (got .room) (got .own) (got .grouped);
     blocks = blocks-more;
     packed = packed-more;
