@@ -589,7 +589,7 @@ pub fn explore(
     let still = still_actions(leaves, actions, &stills);
     let firsts = first_conditions(factors, &conditions, actions);
     let mut run = start(task, bases, moves, costs, kinds, starts, goals, table, scan);
-    let mut known = [0u8; 73728];
+    let mut known = [0u8; 36864];
     let mut mets = [0u8; 256];
     let mut old = [MARK; 1024];
     let mut next = [MARK; 1024];

@@ -38,17 +38,17 @@ pub record Told (b : Board) (c : Centre) (f : ℕ → ℕ) : Type 0 where
 abbrev pub Slot : Board → (ℕ → ℕ) → Type 0
 Slot b f = (f 288 ≡ 0 → ⊥) → (c : Centre) → ((v : ℕ) → v < 32 → f (256 + v) ≡ valueIn c v) → Told b c f
 
--- 128 slots
+-- 64 slots
 pub record Known (b : Board) (K : List ℕ) : Type 0 where
-  pub long : length K ≡ 73728
-  pub slots : (s : ℕ) → s < 128 → Slot b (λ i. getD K (s * 576 + i) 0)
+  pub long : length K ≡ 36864
+  pub slots : (s : ℕ) → s < 64 → Slot b (λ i. getD K (s * 576 + i) 0)
 
 -- no slot is filled
-pub known-none : (b : Board) → Known b (replicate 73728 0)
+pub known-none : (b : Board) → Known b (replicate 36864 0)
 known-none b =
     record {
       long = refl;
-      slots = λ s l d. absurd (d (getD-replicate {A = ℕ} 73728 (s * 576 + 288) 0 0 (omega arith)));
+      slots = λ s l d. absurd (d (getD-replicate {A = ℕ} 36864 (s * 576 + 288) 0 0 (omega arith)));
     }
 
 -- what is stored one by one
@@ -222,7 +222,7 @@ slotIn K s = take (s * 576 + 576 - s * 576) (drop (s * 576) K)
 abbrev withSlot : List ℕ → ℕ → List ℕ → List ℕ
 withSlot K s S = take (s * 576) K ++ (S ++ drop (s * 576 + 576 - s * 576) (drop (s * 576) K))
 
-module _ (b : Board) (K : List ℕ) (k : Known b K) (few : b .actions ≤ 255) (s : ℕ) (l : s < 128) where
+module _ (b : Board) (K : List ℕ) (k : Known b K) (few : b .actions ≤ 255) (s : ℕ) (l : s < 64) where
   -- one that holds the centre state's values
   pub known-told : (c : Centre) → (getD (slotIn K s) 288 0 ≡ 0 → ⊥) × ((v : ℕ) → v < 32 → getD (slotIn K s) (256 + v) 0 ≡ valueIn c v)
       → Told b c (λ i. getD K (s * 576 + i) 0)
@@ -251,7 +251,7 @@ module _ (b : Board) (K : List ℕ) (k : Known b K) (few : b .actions ≤ 255) (
             side (yes q) = inl (omega arith)
             side (no q) = inr (let z : s < r = omega (arith, d) in omega arith)
 
-        go : (r : ℕ) → r < 128 → Dec (r ≡ s) → Slot b (λ i. getD (withSlot K s S) (r * 576 + i) 0)
+        go : (r : ℕ) → r < 64 → Dec (r ≡ s) → Slot b (λ i. getD (withSlot K s S) (r * 576 + i) 0)
         go r h (no d) = slot-ext b _ _ few (λ i m. sym (new .outside (r * 576 + i) (other r i d m))) (k .slots r h)
         go r h (yes e) = rw e (slot-ext b _ _ few (λ i m. sym (new .inside i (omega arith))) slot)
 

@@ -1,6 +1,6 @@
 // Which actions' centre conditions hold in a centre state, found once for each of the centre states met lately.
 //
-// The known words are 128 slots of 576 bytes: a flag for each of 256 actions, the 32 values of the centre state, at 288 a 1 once the slot is filled, at 289
+// The known words are 64 slots of 576 bytes: a flag for each of 256 actions, the 32 values of the centre state, at 288 a 1 once the slot is filled, at 289
 // how many actions are listed, and from 320 on those whose flag is set, by rising number. A centre state has its slot by its class; the last one that came
 // to a slot stands there.
 use layer::met_by;
@@ -88,9 +88,9 @@ fn is_known(slot: &[u8], values: &[u8]) -> bool
 // The slot of a class.
 fn slot_of(class: usize) -> usize
     requires { ⌜ class < 4096 ⌝ }
-    ensures { λ r. ⌜ r < 128 ⌝ }
+    ensures { λ r. ⌜ r < 64 ⌝ }
 {
-    class % 128
+    class % 64
 }
 
 // A slot is filled with what holds in a centre state, whose values are given.
@@ -134,7 +134,7 @@ pub fn slot_for(
 ) -> usize
     requires { ⌜ (actions ≤ 255) × (length (now conditions) ≡ 8192) × Firsts (asksOf actions factors (now conditions)) (now firsts)
         × (class < 4096) × Known (asksOf actions factors (now conditions)) (now known) ⌝ }
-    ensures { λ r. ⌜ (r + 576 ≤ 73728) × Known (asksOf actions factors (now (conditions .entry))) (now (known .exit))
+    ensures { λ r. ⌜ (r + 576 ≤ 36864) × Known (asksOf actions factors (now (conditions .entry))) (now (known .exit))
         × Told (asksOf actions factors (now (conditions .entry))) centre (λ i. getD (now (known .exit)) (r + i) 0) ⌝ }
 {
     let values = centre.values;

@@ -4,7 +4,7 @@
 -- Nodes are chained by the class of their centre state, in groups: a group has up to four entries, each a node with its signature, so that a walk sees
 -- four signatures side by side. A link or a head is one more than a group's number, 0 for none: the link of a group is the last group before it of the
 -- same class, the head of a class is the last group of that class, to which the next node of the class goes while it has room.
--- The word of a group is 65,536 times its link, 8 times its class and the number of its entries.
+-- The word of a group is its link and 65,536 times the sum of 8 times its class and the number of its entries: a walk reads the link as the low 16 bits.
 -- A recent word is one more than the number of a node that dominated or was kept, to be tried first. It may be any number: nothing else goes by it.
 pub mod Groups
 pub mod Laws
@@ -39,13 +39,13 @@ abbrev pub wordAt : List ℕ → ℕ → ℕ
 wordAt C g = getD C (8192 + g) 0
 
 abbrev pub linkAt : List ℕ → ℕ → ℕ
-linkAt C g = wordAt C g / 65536
+linkAt C g = wordAt C g % 65536
 
 abbrev pub classAt : List ℕ → ℕ → ℕ
-classAt C g = wordAt C g % 65536 / 8
+classAt C g = wordAt C g / 65536 / 8
 
 abbrev pub fillAt : List ℕ → ℕ → ℕ
-fillAt C g = wordAt C g % 8
+fillAt C g = wordAt C g / 65536 % 8
 
 -- entry k of the nodes in a word, 16 bits each
 unfoldable pub entryOf : ℕ → ℕ → ℕ
@@ -78,7 +78,7 @@ groupFor C h = cond (hasRoom C (headAt C h)) ((headAt C h - 1) % 4096) (groupsIn
 
 -- group g is the new last one of class h, without entries
 unfoldable pub withGroup : List ℕ → ℕ → ℕ → List ℕ
-withGroup C h g = set (set (set C (8192 + g) (headAt C h % 65536 * 65536 + h * 8)) (12288 + h) (g + 1)) 16383 (g + 1)
+withGroup C h g = set (set (set C (8192 + g) (h * 8 * 65536 + headAt C h % 65536)) (12288 + h) (g + 1)) 16383 (g + 1)
 
 -- that group is there
 unfoldable pub openedTo : List ℕ → ℕ → List ℕ
@@ -91,7 +91,7 @@ withEntry w k n = w % 2 ^ (16 * k) + n * 2 ^ (16 * k)
 -- node n, of signature s, is the next entry of group g
 unfoldable pub joinedTo : List ℕ → ℕ → ℕ → ℕ → List ℕ
 joinedTo C g n s =
-    set (set (set C (16656 + 4 * g + wordAt C g % 4) s) (33040 + g) (withEntry (nodesAt C g) (wordAt C g % 4) n)) (8192 + g) (wordAt C g % 4294967296 + 1)
+    set (set (set C (16656 + 4 * g + wordAt C g / 65536 % 4) s) (33040 + g) (withEntry (nodesAt C g) (wordAt C g / 65536 % 4) n)) (8192 + g) (wordAt C g % 4294967296 + 65536)
 
 -- its key and its signature are stored, and its block's word is no higher than its key, nor is the upper word
 unfoldable pub blockedTo : List ℕ → ℕ → ℕ → ℕ → List ℕ

@@ -34,7 +34,7 @@ fn has_room(scan: &[u64], head: u64) -> bool
     if head == 0 {
         return false;
     }
-    scan[8192 + ((head - 1) % 4096) as usize] % 8 < 4
+    scan[8192 + ((head - 1) % 4096) as usize] / 65536 % 8 < 4
 }
 
 // A group without entries becomes the last of its class.
@@ -43,7 +43,7 @@ fn add_group(scan: &mut [u64], class: usize, group: usize)
     ensures { λ _. ⌜ now (scan .exit) ≡ withGroup (now (scan .entry)) class group ⌝ }
 {
     let head = scan[12288 + class] % 65536;
-    scan[8192 + group] = head * 65536 + (class * 8) as u64;
+    scan[8192 + group] = (class * 8) as u64 * 65536 + head;
     scan[12288 + class] = (group + 1) as u64;
     scan[16383] = (group + 1) as u64;
 }
@@ -85,11 +85,11 @@ fn join(scan: &mut [u64], group: usize, node: usize, sign: u64)
     ensures { λ _. ⌜ now (scan .exit) ≡ joinedTo (now (scan .entry)) group node sign ⌝ }
 {
     let word = scan[8192 + group];
-    let k = (word % 4) as usize;
+    let k = (word / 65536 % 4) as usize;
     let nodes = with_entry(scan[33040 + group], k, node);
     scan[16656 + 4 * group + k] = sign;
     scan[33040 + group] = nodes;
-    scan[8192 + group] = word % 4294967296 + 1;
+    scan[8192 + group] = word % 4294967296 + 65536;
 }
 
 // A node into the scan words: its key and its signature, its block's word and the upper word no higher than its key, and the node as an entry of the last
@@ -286,7 +286,7 @@ fn try_group(
     requires { ⌜ (group < groupsIn (now scan)) × (sign ≡ signOf (take states (now prices))) ⌝ }
     ensures { λ r. ⌜ Tried states (now (table .entry)) (now (scan .entry)) count (nodeWith spot paid (take states (now (prices .entry))) 0 0) group r ⌝ }
 {
-    let fill = (scan[8192 + group] % 8) as usize;
+    let fill = (scan[8192 + group] / 65536 % 8) as usize;
     let nodes = scan[33040 + group];
     let mut hint = 0;
     for k in 0..fill {
@@ -320,7 +320,7 @@ fn walk(
     let mut to = scan[12288 + class] as usize;
     while to > 0 {
         let group = to - 1;
-        to = (scan[8192 + group] / 65536) as usize;
+        to = (scan[8192 + group] % 65536) as usize;
         if all_lack(scan, group, sign) {
             continue;
         }

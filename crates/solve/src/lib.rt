@@ -269,9 +269,9 @@ fn search_tables(
 {
     let leaves = task.leaves as usize;
     let actions = task.actions as usize;
-    if actions * bases[leaves] <= 16384 {
-        let mut few = [0u16; 16384];
-        let mut few_edges = [0u8; 16384];
+    if actions * bases[leaves] <= 8192 {
+        let mut few = [0u16; 8192];
+        let mut few_edges = [0u8; 8192];
         return search_with(
             task,
             bases,

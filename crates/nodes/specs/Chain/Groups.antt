@@ -123,13 +123,13 @@ module _ (S : ℕ) (T C D : List ℕ) (n : ℕ) (few : groupsIn C ≤ 4096) (s :
   same-word g l = s .chains (8192 + g) (omega arith) (omega arith)
 
   same-link : (g : ℕ) → g < groupsIn C → linkAt D g ≡ linkAt C g
-  same-link g l = ap (λ (x : ℕ). x / 65536) (same-word g l)
+  same-link g l = ap (λ (x : ℕ). x % 65536) (same-word g l)
 
   same-head : (h : ℕ) → h < 4095 → headAt D h ≡ headAt C h
   same-head h l = s .chains (12288 + h) (omega arith) (omega arith)
 
   same-class : (g : ℕ) → g < groupsIn C → classAt D g ≡ classAt C g
-  same-class g l = ap (λ (x : ℕ). x % 65536 / 8) (same-word g l)
+  same-class g l = ap (λ (x : ℕ). x / 65536 / 8) (same-word g l)
 
   same-entry : (g k : ℕ) → g < groupsIn C → entryAt D g k ≡ entryAt C g k
   same-entry g k l = ap (λ (w : ℕ). entryOf w k) (s .members (33040 + g) (omega arith) (omega arith))
@@ -208,26 +208,26 @@ module _ (S : ℕ) (T C : List ℕ) (n h : ℕ) (long : length C ≡ 41232) (few
   pub open-other : (i : ℕ) → (i ≡ 8192 + g → ⊥) → (i ≡ 12288 + h → ⊥) → (i ≡ 16383 → ⊥) → getD D i 0 ≡ getD C i 0
   unfolding withGroup
   open-other i a c d =
-      getD-set-other (set (set C (8192 + g) (headAt C h % 65536 * 65536 + h * 8)) (12288 + h) (g + 1)) 16383 i (g + 1) 0 d
-      ∙ getD-set-other (set C (8192 + g) (headAt C h % 65536 * 65536 + h * 8)) (12288 + h) i (g + 1) 0 c
-      ∙ getD-set-other C (8192 + g) i (headAt C h % 65536 * 65536 + h * 8) 0 a
+      getD-set-other (set (set C (8192 + g) (h * 8 * 65536 + headAt C h % 65536)) (12288 + h) (g + 1)) 16383 i (g + 1) 0 d
+      ∙ getD-set-other (set C (8192 + g) (h * 8 * 65536 + headAt C h % 65536)) (12288 + h) i (g + 1) 0 c
+      ∙ getD-set-other C (8192 + g) i (h * 8 * 65536 + headAt C h % 65536) 0 a
 
   pub open-groups : groupsIn D ≡ g + 1
   unfolding withGroup
-  open-groups = getD-set-same (set (set C (8192 + g) (headAt C h % 65536 * 65536 + h * 8)) (12288 + h) (g + 1)) 16383 (g + 1) 0 (simp length-set (omega arith))
+  open-groups = getD-set-same (set (set C (8192 + g) (h * 8 * 65536 + headAt C h % 65536)) (12288 + h) (g + 1)) 16383 (g + 1) 0 (simp length-set (omega arith))
 
   open-head : headAt D h ≡ g + 1
   unfolding withGroup
   open-head =
-      getD-set-other (set (set C (8192 + g) (headAt C h % 65536 * 65536 + h * 8)) (12288 + h) (g + 1)) 16383 (12288 + h) (g + 1) 0 (λ e. omega arith)
-      ∙ getD-set-same (set C (8192 + g) (headAt C h % 65536 * 65536 + h * 8)) (12288 + h) (g + 1) 0 (simp length-set (omega arith))
+      getD-set-other (set (set C (8192 + g) (h * 8 * 65536 + headAt C h % 65536)) (12288 + h) (g + 1)) 16383 (12288 + h) (g + 1) 0 (λ e. omega arith)
+      ∙ getD-set-same (set C (8192 + g) (h * 8 * 65536 + headAt C h % 65536)) (12288 + h) (g + 1) 0 (simp length-set (omega arith))
 
-  pub open-word : wordAt D g ≡ headAt C h % 65536 * 65536 + h * 8
+  pub open-word : wordAt D g ≡ h * 8 * 65536 + headAt C h % 65536
   unfolding withGroup
   open-word =
-      getD-set-other (set (set C (8192 + g) (headAt C h % 65536 * 65536 + h * 8)) (12288 + h) (g + 1)) 16383 (8192 + g) (g + 1) 0 (λ e. omega arith)
-      ∙ getD-set-other (set C (8192 + g) (headAt C h % 65536 * 65536 + h * 8)) (12288 + h) (8192 + g) (g + 1) 0 (λ e. omega arith)
-      ∙ getD-set-same C (8192 + g) (headAt C h % 65536 * 65536 + h * 8) 0 (omega arith)
+      getD-set-other (set (set C (8192 + g) (h * 8 * 65536 + headAt C h % 65536)) (12288 + h) (g + 1)) 16383 (8192 + g) (g + 1) 0 (λ e. omega arith)
+      ∙ getD-set-other (set C (8192 + g) (h * 8 * 65536 + headAt C h % 65536)) (12288 + h) (8192 + g) (g + 1) 0 (λ e. omega arith)
+      ∙ getD-set-same C (8192 + g) (h * 8 * 65536 + headAt C h % 65536) 0 (omega arith)
 
   open-link : linkAt D g ≡ headAt C h
   open-link = let top = r .heads h small in rw open-word (omega arith)
@@ -244,10 +244,10 @@ module _ (S : ℕ) (T C : List ℕ) (n h : ℕ) (long : length C ≡ 41232) (few
   word-old f l = open-other (8192 + f) (λ e. omega arith) (λ e. omega arith) (λ e. omega arith)
 
   class-old : (f : ℕ) → f < g → classAt D f ≡ classAt C f
-  class-old f l = ap (λ (x : ℕ). x % 65536 / 8) (word-old f l)
+  class-old f l = ap (λ (x : ℕ). x / 65536 / 8) (word-old f l)
 
   link-old : (f : ℕ) → f < g → linkAt D f ≡ linkAt C f
-  link-old f l = ap (λ (x : ℕ). x / 65536) (word-old f l)
+  link-old f l = ap (λ (x : ℕ). x % 65536) (word-old f l)
 
   head-old : (i : ℕ) → i < 4095 → (i ≡ h → ⊥) → headAt D i ≡ headAt C i
   head-old i b d = open-other (12288 + i) (λ e. omega arith) (λ e. d (omega arith)) (λ e. omega arith)
@@ -360,32 +360,32 @@ module _ (S : ℕ) (T C : List ℕ) (n g : ℕ) (inside : n < 4096) (long : leng
   abbrev J : List ℕ
   J = joinedTo C g n s
 
-  place-is : wordAt C g % 4 ≡ k
+  place-is : wordAt C g / 65536 % 4 ≡ k
   place-is = omega arith
 
-  word-is : wordAt C g % 4294967296 + 1 ≡ wordAt C g + 1
-  word-is = omega (arith, r .links g known)
+  word-is : wordAt C g % 4294967296 + 65536 ≡ wordAt C g + 65536
+  word-is = omega (arith, r .fills g known .1)
 
   -- a word that is none of the three
   pub join-other : (i : ℕ) → (i ≡ 16656 + 4 * g + k → ⊥) → (i ≡ 33040 + g → ⊥) → (i ≡ 8192 + g → ⊥) → getD J i 0 ≡ getD C i 0
   unfolding joinedTo
   join-other i a b c =
       rw (place-is, word-is)
-      (getD-set-other (set (set C (16656 + 4 * g + k) s) (33040 + g) w) (8192 + g) i (wordAt C g + 1) 0 c
+      (getD-set-other (set (set C (16656 + 4 * g + k) s) (33040 + g) w) (8192 + g) i (wordAt C g + 65536) 0 c
       ∙ getD-set-other (set C (16656 + 4 * g + k) s) (33040 + g) i w 0 b
       ∙ getD-set-other C (16656 + 4 * g + k) i s 0 a)
 
-  join-word : wordAt J g ≡ wordAt C g + 1
+  join-word : wordAt J g ≡ wordAt C g + 65536
   unfolding joinedTo
   join-word =
       rw (place-is, word-is)
-      (getD-set-same (set (set C (16656 + 4 * g + k) s) (33040 + g) w) (8192 + g) (wordAt C g + 1) 0 (simp length-set (omega arith)))
+      (getD-set-same (set (set C (16656 + 4 * g + k) s) (33040 + g) w) (8192 + g) (wordAt C g + 65536) 0 (simp length-set (omega arith)))
 
   join-nodes : nodesAt J g ≡ w
   unfolding joinedTo
   join-nodes =
       rw (place-is, word-is)
-      (getD-set-other (set (set C (16656 + 4 * g + k) s) (33040 + g) w) (8192 + g) (33040 + g) (wordAt C g + 1) 0 (λ e. omega arith)
+      (getD-set-other (set (set C (16656 + 4 * g + k) s) (33040 + g) w) (8192 + g) (33040 + g) (wordAt C g + 65536) 0 (λ e. omega arith)
       ∙ getD-set-same (set C (16656 + 4 * g + k) s) (33040 + g) w 0 (simp length-set (omega arith)))
 
   join-entry : entryAt J g k ≡ n
@@ -395,7 +395,7 @@ module _ (S : ℕ) (T C : List ℕ) (n g : ℕ) (inside : n < 4096) (long : leng
   unfolding joinedTo
   join-shown =
       rw (place-is, word-is)
-      (getD-set-other (set (set C (16656 + 4 * g + k) s) (33040 + g) w) (8192 + g) (16656 + 4 * g + k) (wordAt C g + 1) 0 (λ e. omega arith)
+      (getD-set-other (set (set C (16656 + 4 * g + k) s) (33040 + g) w) (8192 + g) (16656 + 4 * g + k) (wordAt C g + 65536) 0 (λ e. omega arith)
       ∙ getD-set-other (set C (16656 + 4 * g + k) s) (33040 + g) (16656 + 4 * g + k) w 0 (λ e. omega arith)
       ∙ getD-set-same C (16656 + 4 * g + k) s 0 (omega arith))
 
@@ -422,14 +422,14 @@ module _ (S : ℕ) (T C : List ℕ) (n g : ℕ) (inside : n < 4096) (long : leng
     where
       go : Dec (f ≡ g) → linkAt J f ≡ linkAt C f
       go (yes e) = rw (e, join-word) (omega arith)
-      go (no d) = ap (λ (x : ℕ). x / 65536) (word-kept f l d)
+      go (no d) = ap (λ (x : ℕ). x % 65536) (word-kept f l d)
 
   class-all : (f : ℕ) → f < 4096 → classAt J f ≡ classAt C f
   class-all f l = go (ℕ-discrete f g)
     where
       go : Dec (f ≡ g) → classAt J f ≡ classAt C f
       go (yes e) = rw (e, join-word) (omega arith)
-      go (no d) = ap (λ (x : ℕ). x % 65536 / 8) (word-kept f l d)
+      go (no d) = ap (λ (x : ℕ). x / 65536 / 8) (word-kept f l d)
 
   fill-all : (f : ℕ) → f < 4096 → fillAt C f ≤ fillAt J f
   fill-all f l = go (ℕ-discrete f g)

@@ -269,9 +269,9 @@ module _ (S : ℕ) (T C : List ℕ) (n h : ℕ) (long : length C ≡ 41232) (few
 group-key : (C : List ℕ) (h g u : ℕ) → u < 4096 → getD (withGroup C h g) u 0 ≡ getD C u 0
 unfolding withGroup
 group-key C h g u b =
-    getD-set-other (set (set C (8192 + g) (headAt C h % 65536 * 65536 + h * 8)) (12288 + h) (g + 1)) 16383 u (g + 1) 0 (λ e. omega arith)
-    ∙ getD-set-other (set C (8192 + g) (headAt C h % 65536 * 65536 + h * 8)) (12288 + h) u (g + 1) 0 (λ e. omega arith)
-    ∙ getD-set-other C (8192 + g) u (headAt C h % 65536 * 65536 + h * 8) 0 (λ e. omega arith)
+    getD-set-other (set (set C (8192 + g) (h * 8 * 65536 + headAt C h % 65536)) (12288 + h) (g + 1)) 16383 u (g + 1) 0 (λ e. omega arith)
+    ∙ getD-set-other (set C (8192 + g) (h * 8 * 65536 + headAt C h % 65536)) (12288 + h) u (g + 1) 0 (λ e. omega arith)
+    ∙ getD-set-other C (8192 + g) u (h * 8 * 65536 + headAt C h % 65536) 0 (λ e. omega arith)
 
 opened-key : (C : List ℕ) (h u : ℕ) → u < 4096 → getD (openedTo C h) u 0 ≡ getD C u 0
 opened-key C h u b = go (test-cases (hasRoom C (headAt C h)))
@@ -283,9 +283,9 @@ opened-key C h u b = go (test-cases (hasRoom C (headAt C h)))
 joined-key : (C : List ℕ) (g n s u : ℕ) → u < 4096 → getD (joinedTo C g n s) u 0 ≡ getD C u 0
 unfolding joinedTo
 joined-key C g n s u b =
-    getD-set-other (set (set C (16656 + 4 * g + wordAt C g % 4) s) (33040 + g) (withEntry (nodesAt C g) (wordAt C g % 4) n)) (8192 + g) u (wordAt C g % 4294967296 + 1) 0 (λ e. omega arith)
-    ∙ getD-set-other (set C (16656 + 4 * g + wordAt C g % 4) s) (33040 + g) u (withEntry (nodesAt C g) (wordAt C g % 4) n) 0 (λ e. omega arith)
-    ∙ getD-set-other C (16656 + 4 * g + wordAt C g % 4) u s 0 (λ e. omega arith)
+    getD-set-other (set (set C (16656 + 4 * g + wordAt C g / 65536 % 4) s) (33040 + g) (withEntry (nodesAt C g) (wordAt C g / 65536 % 4) n)) (8192 + g) u (wordAt C g % 4294967296 + 65536) 0 (λ e. omega arith)
+    ∙ getD-set-other (set C (16656 + 4 * g + wordAt C g / 65536 % 4) s) (33040 + g) u (withEntry (nodesAt C g) (wordAt C g / 65536 % 4) n) 0 (λ e. omega arith)
+    ∙ getD-set-other C (16656 + 4 * g + wordAt C g / 65536 % 4) u s 0 (λ e. omega arith)
 
 -- of the open keys only the node's is stored
 pub linked-key : (C : List ℕ) (n key s h u : ℕ) → u < 4096 → getD (linkedTo C n key s h) u 0 ≡ getD (set C n key) u 0

@@ -41,7 +41,7 @@ slice-aggregate-search-with-2 c = search needs
 search-with-requires : tie.Need-search-with-requires
 search-with-requires c κs =
     let s = c .before .before .before .before .before .before .before .before .before in
-    let room : s .args .task .actions * allStates (s .args .task) ≤ 16384 = rw (row s) at (c .before .before .before .before .if1 .taken) in
+    let room : s .args .task .actions * allStates (s .args .task) ≤ 8192 = rw (row s) at (c .before .before .before .before .if1 .taken) in
     (s .pre .0, (s .pre .1 .0, s .pre .1 .1, s .pre .1 .2, s .pre .1 .3, room, room))
 
 same-length : tie.Need-same-length
