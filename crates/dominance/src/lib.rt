@@ -7,6 +7,7 @@ ghost use lib.Dec.{eqb};
 ghost use lib.ListN.{length, take};
 ghost use Rattle.loops.specs.Count.{all};
 ghost use Rattle.task.specs.Centre.{valueIn};
+ghost use Rattle.rows.specs.Reach.{Reaches, AboveInList};
 ghost use Rattle.rows.specs.Row.{spotOf, nodeOf, nodeWith, Packed, NotAbove, Above, Tested};
 ghost use Rattle.rows.specs.Sign.{signOf};
 ghost use Rattle.rows.specs.Sign.Bits.{AboveInBits};
@@ -29,30 +30,6 @@ fn same_spot(row: &[u64], spot: Centre) -> bool
         return false;
     }
     true
-}
-
-// A place up to which no price of the row is higher, four to a turn: that of the first price that is, or else where the fours end.
-fn place_in_fours(row: &[u64], states: usize, prices: &[u64]) -> usize
-    requires { ⌜ (length (now row) ≡ 40 + states) × (states ≤ length (now prices)) ⌝ }
-    ensures { λ r. ⌜ (r ≤ states) × NotAbove (now (row .entry)) (now (prices .entry)) r ⌝ }
-{
-    let mut k = 0;
-    while k + 4 <= states {
-        if row[40 + k] > prices[k] {
-            return k;
-        }
-        if row[41 + k] > prices[k + 1] {
-            return k + 1;
-        }
-        if row[42 + k] > prices[k + 2] {
-            return k + 2;
-        }
-        if row[43 + k] > prices[k + 3] {
-            return k + 3;
-        }
-        k += 4;
-    }
-    k
 }
 
 // A place where the row's price is higher, the number of states if there is none; up to `from` none is.
@@ -101,9 +78,41 @@ fn place_by_sign(row: &[u64], states: usize, prices: &[u64], sign: u64) -> usize
     place_from(row, states, prices, 64)
 }
 
-// The same of any number of states. `hint` is tried first: where one node was too high the next is often too.
-fn place_above(row: &[u64], states: usize, prices: &[u64], sign: u64, hint: usize) -> usize
-    requires { ⌜ (length (now row) ≡ 40 + states) × (states ≤ length (now prices)) × (sign ≡ signOf (take states (now prices))) ⌝ }
+// A place where the row's price is higher among the states of a list, the number of states if there is none.
+fn place_in_list(row: &[u64], states: usize, prices: &[u64], list: &[u64]) -> usize
+    requires { ⌜ (length (now row) ≡ 40 + states) × (states ≤ length (now prices)) × Reaches states (now prices) (now list) ⌝ }
+    ensures { λ r. ⌜ AboveInList states (now (row .entry)) (now (prices .entry)) (now (list .entry)) r ⌝ }
+{
+    for j in 0..list.len() {
+        let x = list[j] as usize;
+        if row[40 + x] > prices[x] {
+            return x;
+        }
+    }
+    states
+}
+
+// A place where the row's price is higher, the number of states if there is none: along the list of the states that are reached, as what cannot be
+// reached has no lower price.
+fn place_listed(row: &[u64], states: usize, prices: &[u64], list: &[u64]) -> usize
+    requires { ⌜ (length (now row) ≡ 40 + states) × (states ≤ length (now prices)) × Reaches states (now prices) (now list) ⌝ }
+    ensures { λ r. ⌜ Above states (now (row .entry)) (now (prices .entry)) r ⌝ }
+{
+    place_in_list(row, states, prices, list)
+}
+
+// The same of any number of states: by the signature where they are few, along the list where they are many. `hint` is tried first: where one node was
+// too high the next is often too.
+fn place_above(
+    row: &[u64],
+    states: usize,
+    prices: &[u64],
+    sign: u64,
+    list: &[u64],
+    hint: usize,
+) -> usize
+    requires { ⌜ (length (now row) ≡ 40 + states) × (states ≤ length (now prices)) × (sign ≡ signOf (take states (now prices)))
+        × (128 ≤ states → Reaches states (now prices) (now list)) ⌝ }
     ensures { λ r. ⌜ Above states (now (row .entry)) (now (prices .entry)) r ⌝ }
 {
     if hint < states {
@@ -114,12 +123,12 @@ fn place_above(row: &[u64], states: usize, prices: &[u64], sign: u64, hint: usiz
     if states < 128 {
         return place_by_sign(row, states, prices, sign);
     }
-    let from = place_in_fours(row, states, prices);
-    place_from(row, states, prices, from)
+    place_listed(row, states, prices, list)
 }
 
 // Whether the row's node has the same centre state, no higher centre cost and no higher price anywhere: then the answer is above the number of
-// states. Else it is the hint for the next node. `sign` is the signature of the prices.
+// states. Else it is the hint for the next node. `sign` is the signature of the prices, and `list` has the states that they reach
+// where there are 128 or more.
 pub fn test_row(
     row: &[u64],
     states: usize,
@@ -127,16 +136,17 @@ pub fn test_row(
     paid: u64,
     prices: &[u64],
     sign: u64,
+    list: &[u64],
     hint: usize,
 ) -> usize
     requires { ⌜ (states ≤ 1024) × (length (now row) ≡ 40 + states) × (states ≤ length (now prices)) × (hint ≤ states) × Packed (now row)
-        × (sign ≡ signOf (take states (now prices))) ⌝ }
+        × (sign ≡ signOf (take states (now prices))) × (128 ≤ states → Reaches states (now prices) (now list)) ⌝ }
     ensures { λ r. ⌜ Tested states (nodeOf states (now (row .entry))) (nodeWith spot paid (take states (now (prices .entry))) 0 0) r ⌝ }
 {
     if row[32] > paid {
         return hint;
     }
-    let place = place_above(row, states, prices, sign, hint);
+    let place = place_above(row, states, prices, sign, list, hint);
     if place < states {
         return place;
     }

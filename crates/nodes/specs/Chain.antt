@@ -1,11 +1,12 @@
--- The scan words: 41,232 words. Open keys stand at u, signatures at 4096 + u, the words of groups at 8192 + g, heads at 12288 + h, the number of groups
+-- The scan words: 42,256 words. Open keys stand at u, signatures at 4096 + u, the words of groups at 8192 + g, heads at 12288 + h, the number of groups
 -- at 16383, block words at 16384 + b, upper words at 16640 + b, the signatures of entries at 16656 + 4 * g + k, the nodes of entries, four in a word, at
--- 33040 + g, recent words at 37136 + k.
+-- 33040 + g, recent words at 37136 + k, the list of the states that a new node reaches at 41232 + j.
 -- Nodes are chained by the class of their centre state, in groups: a group has up to four entries, each a node with its signature, so that a walk sees
 -- four signatures side by side. A link or a head is one more than a group's number, 0 for none: the link of a group is the last group before it of the
 -- same class, the head of a class is the last group of that class, to which the next node of the class goes while it has room.
 -- The word of a group is its link and 65,536 times the sum of 8 times its class and the number of its entries: a walk reads the link as the low 16 bits.
 -- A recent word is one more than the number of a node that dominated or was kept, to be tried first. It may be any number: nothing else goes by it.
+-- Nor does anything go by the list of states once it was used: it is made again for each new node of 128 states or more.
 pub mod Groups
 pub mod Laws
 pub mod Walk
@@ -142,14 +143,14 @@ pub record Grouped (S : ℕ) (T C : List ℕ) (n : ℕ) : Type 0 where
 
 -- the first n nodes of table T have their signatures in C and are chained, the block words are those of their open keys, and their rows have their packs
 pub record Chained (S : ℕ) (T C : List ℕ) (n : ℕ) : Type 0 where
-  pub long : length C ≡ 41232
+  pub long : length C ≡ 42256
   pub signs : (u : ℕ) → u < n → signAt C u ≡ signOf (nodeIn S T u .prices)
   pub few-groups : groupsIn C ≤ n
   pub grouped : Grouped S T C n
   pub blocks : Blocked C n
   pub packed : (u : ℕ) → u < n → Packed (rowIn S T u)
 
--- the scan words D are those of C but for recent words
+-- the scan words D are those of C but for recent words and the list of states
 pub record Recalled (C D : List ℕ) : Type 0 where
   pub long : length D ≡ length C
   pub same : (i : ℕ) → i < 37136 → getD D i 0 ≡ getD C i 0

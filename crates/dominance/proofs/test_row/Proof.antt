@@ -12,7 +12,7 @@ shared-slice-read-if1 c = search needs
 
 returns : tie.Need-returns
 returns c =
-    let s = c .before .before .before .before in
+    let s = c .before .before .before .before .before in
     let a = s .args in
     test-paid (a .states) (a .paid) (a .row .now) (a .prices .now) (a .spot) (s .pre .1) (s .pre .2) (a .hint) (s .pre .3) (c .if1 .taken)
 
@@ -21,7 +21,7 @@ place-above-requires c κs = search needs
 
 returns-2 : tie.Need-returns-2
 returns-2 c =
-    let s = c .before .before .before .before .before .before in
+    let s = c .before .before .before .before .before .before .before in
     let a = s .args in
     test-price (a .states) (a .paid) (a .row .now) (a .prices .now) (a .spot) (s .pre .1) (s .pre .2) _ (c .if2 .taken)
     (c .before .place-above .ensures .higher (c .if2 .taken))
@@ -35,7 +35,7 @@ add-result c = search needs
 returns-3 : tie.Need-returns-3
 returns-3 c =
     let p = c .before .before .before in
-    let s = p .before .before .before .before .before in
+    let s = p .before .before .before .before .before .before in
     let a = s .args in
     let r = p .place-above .ensures in
     let e : p .place-above .result ≡ a .states = omega (arith, r .inside, c .before .before .if2 .left) in
@@ -44,7 +44,7 @@ returns-3 c =
 
 returns-4 : tie.Need-returns-4
 returns-4 c =
-    let s = c .before .before .before .before .before .before .before .before in
+    let s = c .before .before .before .before .before .before .before .before .before in
     let a = s .args in
     test-spot (a .states) (a .paid) (a .row .now) (a .prices .now) (a .spot) (s .pre .1) (s .pre .2) (a .hint) (s .pre .3)
     (told (c .before .same-spot .ensures) (c .if3 .left))

@@ -27,13 +27,13 @@ part-test-row-end c = search needs
 
 test-row-requires : tie.Need-test-row-requires
 test-row-requires c κs =
-    let s = c .before .before .before in
+    let s = c .before .before .before .before in
     let a = s .args in
-    (s .pre .0, search needs, s .pre .2, s .pre .3, rw (row-lent (a .states) (a .u) (a .table .now)) (s .pre .4), s .pre .5)
+    (s .pre .0, search needs, s .pre .2, s .pre .3, rw (row-lent (a .states) (a .u) (a .table .now)) (s .pre .4), s .pre .5, s .pre .6)
 
 returns : tie.Need-returns
 returns c =
-    let a = c .before .before .before .before .args in
+    let a = c .before .before .before .before .before .args in
     rw (row-lent (a .states) (a .u) (a .table .now)) at (c .test-row .ensures)
 
 pub test-at-spec : {M : Type 1} → statement M

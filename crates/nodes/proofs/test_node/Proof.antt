@@ -13,7 +13,7 @@ use Rattle.nodes.proofs.test_node.Tie as tie
 
 returns : tie.Need-returns
 returns c =
-    let s = c .before .before .before in
+    let s = c .before .before .before .before in
     let a = s .args in
     let m = nodeIn (a .states) (a .table .now) (a .u) in
     let P = take (a .states) (a .prices .now) in

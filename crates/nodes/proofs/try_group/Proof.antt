@@ -13,11 +13,11 @@ use Rattle.nodes.proofs.try_group.Statement.{statement}
 use Rattle.nodes.proofs.try_group.Tie as tie
 
 abbrev Inv-loop : tie.InvT-loop
-Inv-loop table states count scan group sign spot paid prices fill nodes hint₀ k₀ hint k =
+Inv-loop table states count scan group sign spot paid prices list fill nodes hint₀ k₀ hint k =
     (k ≤ fill) × (hint ≤ states) × Missed states table scan (nodeWith spot paid (take states prices) 0 0) group k
 
 abbrev μ-loop : tie.MeasureT-loop
-μ-loop table states count scan group sign spot paid prices fill nodes hint₀ k₀ hint k = fill - k
+μ-loop table states count scan group sign spot paid prices list fill nodes hint₀ k₀ hint k = fill - k
 
 -- the new node
 abbrev fresh : tie.Start Inv-loop μ-loop → Node
@@ -29,7 +29,7 @@ small s = omega (arith, s .pre .1 .0, s .pre .0 .4 .few-groups, s .pre .0 .1)
 
 -- where the function starts
 abbrev start : tie.In-loop Inv-loop μ-loop → tie.Start Inv-loop μ-loop
-start c = c .before .before .before .before .before .before .before
+start c = c .before .before .before .before .before .before .before .before
 
 -- a group has four entries at most
 few : (c : tie.In-loop Inv-loop μ-loop) → c .before .loop .k < 4
@@ -43,26 +43,26 @@ abbrev node : tie.In-loop Inv-loop μ-loop → ℕ
 node c = entryAt (start c .args .scan .now) (start c .args .group) (c .before .loop .k)
 
 add-fill : tie.Need-add-fill Inv-loop μ-loop
-add-fill c = omega (arith, small (c .before .before .before))
+add-fill c = omega (arith, small (c .before .before .before .before))
 
 mul-fill : tie.Need-mul-fill Inv-loop μ-loop
-mul-fill c = omega (arith, small (c .before .before .before))
+mul-fill c = omega (arith, small (c .before .before .before .before))
 
 shared-slice-read-fill : tie.Need-shared-slice-read-fill Inv-loop μ-loop
-shared-slice-read-fill c = let s = c .before .before .before .before in omega (arith, small s, s .pre .0 .4 .long)
+shared-slice-read-fill c = let s = c .before .before .before .before .before in omega (arith, small s, s .pre .0 .4 .long)
 
 add-nodes : tie.Need-add-nodes Inv-loop μ-loop
-add-nodes c = omega (arith, small (c .before .before .before .before))
+add-nodes c = omega (arith, small (c .before .before .before .before .before))
 
 mul-nodes : tie.Need-mul-nodes Inv-loop μ-loop
-mul-nodes c = omega (arith, small (c .before .before .before .before))
+mul-nodes c = omega (arith, small (c .before .before .before .before .before))
 
 shared-slice-read-nodes : tie.Need-shared-slice-read-nodes Inv-loop μ-loop
-shared-slice-read-nodes c = let s = c .before .before .before .before .before in omega (arith, small s, s .pre .0 .4 .long)
+shared-slice-read-nodes c = let s = c .before .before .before .before .before .before in omega (arith, small s, s .pre .0 .4 .long)
 
 loop-holds : tie.Need-loop-holds Inv-loop μ-loop
 loop-holds c =
-    let s = c .before .before .before .before .before in
+    let s = c .before .before .before .before .before .before in
     let a = s .args in
     (omega arith, omega arith, missed-none (a .states) (a .table .now) (a .scan .now) (a .count) (fresh s) (s .pre .0 .4 .grouped) (a .group))
 
@@ -98,7 +98,7 @@ test-node-requires c κs =
         t .before .loop .inv .1,
         s .pre .0 .4 .packed (node t) (e .inside),
       ),
-      (e .shown, s .pre .1 .1),
+      (e .shown, s .pre .1 .1, s .pre .1 .2),
     )
 
 -- what the test of the entry tells
@@ -135,7 +135,7 @@ loop-again c =
 
 returns-2 : tie.Need-returns-2 Inv-loop μ-loop
 returns-2 c =
-    let s = c .before .before .before .before .before .before .before in
+    let s = c .before .before .before .before .before .before .before .before in
     let l = c .before .loop in
     let a = s .args in
     let e : l .k ≡ fillAt (a .scan .now) (a .group) = omega (arith, l .inv .0, c .loop-test .left) in

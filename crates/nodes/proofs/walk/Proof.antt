@@ -16,10 +16,10 @@ use Rattle.nodes.proofs.walk.Statement.{statement}
 use Rattle.nodes.proofs.walk.Tie as tie
 
 abbrev Inv-loop : tie.InvT-loop
-Inv-loop table states count scan class sign spot paid prices to₀ to = Walked states table scan (nodeWith spot paid (take states prices) 0 0) to
+Inv-loop table states count scan class sign spot paid prices list to₀ to = Walked states table scan (nodeWith spot paid (take states prices) 0 0) to
 
 abbrev μ-loop : tie.MeasureT-loop
-μ-loop table states count scan class sign spot paid prices to₀ to = to
+μ-loop table states count scan class sign spot paid prices list to₀ to = to
 
 -- the new node
 abbrev fresh : tie.Start Inv-loop μ-loop → Node
@@ -30,23 +30,23 @@ small : (s : tie.Start Inv-loop μ-loop) → s .args .class < 4095
 small s = rw (s .pre .1 .0) (class-lt (s .args .spot))
 
 add-to : tie.Need-add-to Inv-loop μ-loop
-add-to c = omega (arith, small (c .before .before .before))
+add-to c = omega (arith, small (c .before .before .before .before))
 
 mul-to : tie.Need-mul-to Inv-loop μ-loop
-mul-to c = omega (arith, small (c .before .before .before))
+mul-to c = omega (arith, small (c .before .before .before .before))
 
 shared-slice-read-to : tie.Need-shared-slice-read-to Inv-loop μ-loop
-shared-slice-read-to c = let s = c .before .before .before .before in omega (arith, small s, s .pre .0 .4 .long)
+shared-slice-read-to c = let s = c .before .before .before .before .before in omega (arith, small s, s .pre .0 .4 .long)
 
 loop-holds : tie.Need-loop-holds Inv-loop μ-loop
 loop-holds c =
-    let s = c .before .before .before .before in
+    let s = c .before .before .before .before .before in
     let a = s .args in
     rw (s .pre .1 .0) (walk-start (a .states) (a .table .now) (a .scan .now) (a .count) (fresh s) (s .pre .0 .4 .grouped))
 
 -- where the function starts
 abbrev start : tie.In-loop Inv-loop μ-loop → tie.Start Inv-loop μ-loop
-start c = c .before .before .before .before .before .before
+start c = c .before .before .before .before .before .before .before
 
 -- the group that the turn is at
 abbrev group : tie.In-loop Inv-loop μ-loop → ℕ
@@ -104,7 +104,7 @@ loop-again c =
     (length-take-le (a .states) (a .prices .now) (s .pre .0 .3)) (group t) (below t) (rw (s .pre .1 .1) at (told (c .before .all-lack .ensures) (c .if1 .taken))))
 
 try-group-requires : tie.Need-try-group-requires Inv-loop μ-loop
-try-group-requires c κs = let t = c .before .before .before in let s = start t in (s .pre .0, (below t, s .pre .1 .1))
+try-group-requires c κs = let t = c .before .before .before in let s = start t in (s .pre .0, (below t, s .pre .1 .1, s .pre .1 .2))
 
 returns : tie.Need-returns Inv-loop μ-loop
 returns c =
@@ -124,7 +124,7 @@ loop-again-2 c =
 returns-2 : tie.Need-returns-2 Inv-loop μ-loop
 returns-2 c =
     let l = c .before .loop in
-    let s = c .before .before .before .before .before .before in
+    let s = c .before .before .before .before .before .before .before in
     let a = s .args in
     let e : l .to ≡ 0 = omega arith in
     dominator-none (a .states) (a .table .now) (a .scan .now) (a .count) (fresh s) (s .pre .0 .4 .grouped) (rw e at (l .inv))

@@ -23,7 +23,7 @@ use Rattle.nodes.specs.Chain.Groups.{room-some, room-head, group-last, g
 -- ---- chains
 
 -- no node
-pub chained-none : (S : ℕ) (T C : List ℕ) → length C ≡ 41232 → ((h : ℕ) → h < 4096 → headAt C h ≡ 0) → ((b : ℕ) → b < 272 → getD C (16384 + b) 0 ≡ mark)
+pub chained-none : (S : ℕ) (T C : List ℕ) → length C ≡ 42256 → ((h : ℕ) → h < 4096 → headAt C h ≡ 0) → ((b : ℕ) → b < 272 → getD C (16384 + b) 0 ≡ mark)
     → Chained S T C 0
 chained-none S T C l z m = record {
   long = l;
@@ -35,7 +35,7 @@ chained-none S T C l z m = record {
 }
 
 -- no node, after all block words are set to the mark
-pub chained-fresh : (S : ℕ) (T C : List ℕ) → length C ≡ 41232 → ((h : ℕ) → h < 4096 → headAt C h ≡ 0) → Chained S T (freshTo C 272) 0
+pub chained-fresh : (S : ℕ) (T C : List ℕ) → length C ≡ 42256 → ((h : ℕ) → h < 4096 → headAt C h ≡ 0) → Chained S T (freshTo C 272) 0
 chained-fresh S T C l z =
     chained-none S T (freshTo C 272) (fresh-length C 272 ∙ l) (λ h b. fresh-other C 272 (12288 + h) (omega arith) ∙ z h b)
     (λ b k. fresh-block C 272 b (omega arith) k)
@@ -66,7 +66,11 @@ chained-retire S T C n u few inside r =
 pub recalled-none : (C : List ℕ) → Recalled C C
 recalled-none C = record { long = refl; same = λ i l. refl }
 
--- one recent word is stored
+-- one step after the other
+pub recalled-both : (C D E : List ℕ) → Recalled C D → Recalled D E → Recalled C E
+recalled-both C D E r s = record { long = s .long ∙ r .long; same = λ i l. s .same i l ∙ r .same i l }
+
+-- one recent word is stored, or one of the list
 pub recalled-set : (C : List ℕ) (i v : ℕ) → 37136 ≤ i → Recalled C (set C i v)
 recalled-set C i v h = record { long = length-set C i v; same = λ k l. getD-set-other C i k v 0 (λ e. omega arith) }
 
@@ -134,7 +138,7 @@ module _ (C : List ℕ) (n key s : ℕ) where
   pub block-key : (u : ℕ) → u < 4096 → getD B u 0 ≡ getD (set C n key) u 0
   block-key u b = block-but u (λ e. omega arith) (λ e. omega arith) ∙ getD-set-other (set C n key) (4096 + n) u s 0 (λ e. omega arith)
 
-  module _ (long : length C ≡ 41232) (few : n < 4096) where
+  module _ (long : length C ≡ 42256) (few : n < 4096) where
     block-old : (i : ℕ) → 4096 ≤ i → (i ≡ 4096 + n → ⊥) → (i ≡ 16384 + n / 16 → ⊥) → (i ≡ 16640 + n / 16 / 16 → ⊥) → getD B i 0 ≡ getD C i 0
     block-old i b a d f =
         block-but i d f ∙ getD-set-other (set C n key) (4096 + n) i s 0 a ∙ getD-set-other C n i key 0 (λ e. omega arith)
@@ -219,7 +223,7 @@ pub record Ready (S : ℕ) (T C : List ℕ) (n h : ℕ) (D : List ℕ) (g : ℕ)
   pub own : classAt D g ≡ h
   pub grouped : Grouped S T D n
 
-module _ (S : ℕ) (T C : List ℕ) (n h : ℕ) (long : length C ≡ 41232) (few : groupsIn C < 4096) (small : h < 4095) (r : Grouped S T C n) where
+module _ (S : ℕ) (T C : List ℕ) (n h : ℕ) (long : length C ≡ 42256) (few : groupsIn C < 4096) (small : h < 4095) (r : Grouped S T C n) where
   -- it is the last of the class
   ready-last : hasRoom C (headAt C h) ≡ true → Ready S T C n h C ((headAt C h - 1) % 4096)
   ready-last e =
@@ -303,7 +307,7 @@ module _ (S : ℕ) (T C : List ℕ) (n key : ℕ) (few : n < 4096) (own : Packed
   abbrev mid : List ℕ
   mid = blockedTo C n key sign
 
-  mid-long : length mid ≡ 41232
+  mid-long : length mid ≡ 42256
   mid-long = block-length C n key sign ∙ r .long
 
   mid-groups : groupsIn mid ≡ groupsIn C
@@ -320,7 +324,7 @@ module _ (S : ℕ) (T C : List ℕ) (n key : ℕ) (few : n < 4096) (own : Packed
   abbrev g : ℕ
   g = groupFor mid class
 
-  E-long : length E ≡ 41232
+  E-long : length E ≡ 42256
   E-long = got .kept ∙ mid-long
 
   E-few : groupsIn E ≤ suc n
