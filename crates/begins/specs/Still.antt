@@ -12,7 +12,7 @@ use native.Mathlib.Omega.{arith}
 use lib.Dec.{ltb, eqb}
 use lib.ListN.{length, getD, set, take, drop, length-take, length-drop, length-set, List·getD-eq-default}
 use lib.Arith.{digits-div, digits-mod}
-use lib.Seq.{take-at, drop-at, take-add, getD-take, getD-drop, getD-set-same, getD-set-other, ext-getD}
+use lib.Seq.{take-at, drop-at, take-add, getD-take, getD-drop, getD-set-same, getD-set-other}
 use Rattle.loops.specs.Count.{any, sum}
 use Rattle.loops.specs.Count.Laws.{below-cases, all-not, sum-more, sum-ext}
 use Rattle.task.specs.declared.Centre.{Centre}
@@ -22,7 +22,7 @@ use Rattle.leaf.specs.Price.{mark}
 use Rattle.leaf.specs.Settle.Turns.{at-any}
 use Rattle.leaf.specs.Settle.Walks.{Capped}
 use Rattle.leaf.specs.Pass.{pass}
-use Rattle.leaf.specs.Pass.Laws.{pass-length, pass-hit, pass-from, pass-floor}
+use Rattle.leaf.specs.Pass.Laws.{pass-length, pass-floor}
 use Rattle.layer.specs.Layer.{leafPart, passLeaf, joined}
 use Rattle.layer.specs.Layer.Laws.{joined-part}
 use Rattle.layer.specs.Layer.Front.{part-take}
@@ -31,7 +31,7 @@ use Rattle.layer.specs.Board.Laws.{joined-ext}
 use Rattle.price.specs.Sums.{sum-le}
 use Rattle.search.specs.Node.{Node, nextNode, leastOf, key}
 use Rattle.search.specs.Node.Laws.{leastOf-le, leastOf-cap, leastOf-ge}
-use Rattle.search.specs.Begin.{beginNode, part-begin, key-begin}
+use Rattle.search.specs.Begin.{pass-still, beginNode, part-begin, key-begin}
 use Rattle.rows.specs.Scan.{Cut, keyBy}
 use Rattle.rows.specs.Scan.Laws.{cut-in}
 use Rattle.rows.specs.Sign.{signOf}
@@ -162,21 +162,6 @@ word-cap P h x = go (decLe (suc x) (length P))
     go : Dec (x < length P) → getD P x mark ≤ mark
     go (yes l) = rw (at-any P x mark 0 l) (h x)
     go (no l) = omega (arith, List·getD-eq-default P mark {n = x} (omega arith))
-
--- states that stay as they are keep their prices
-pass-still : (n : ℕ) (thr : ℕ → ℕ) (P : List ℕ) → length P ≡ n → Capped mark P → ((x : ℕ) → x < n → thr x ≡ x + 1) → pass mark n thr P n ≡ P
-pass-still n thr P long cap h =
-    ext-getD mark (pass mark n thr P n) P (many ∙ sym long) (λ y l. at y (omega (arith, many)) (decLe mark (getD (pass mark n thr P n) y mark)))
-  where
-    many : length (pass mark n thr P n) ≡ n
-    many = pass-length mark n thr P n
-
-    at : (y : ℕ) → y < n → Dec (mark ≤ getD (pass mark n thr P n) y mark) → getD (pass mark n thr P n) y mark ≡ getD P y mark
-    at y l (yes q) = omega (arith, pass-hit mark n thr P n y y l l (h y l ∙ add-one y), cap y)
-    at y l (no q) =
-        let (x, k, t, e) = pass-from mark n thr P n y (omega arith) in
-        let same : x ≡ y = omega (arith, h x k) in
-        e ∙ ap (λ z. getD P z mark) same
 
 -- no least price falls over an action
 pub pass-rises : (n : ℕ) (thr : ℕ → ℕ) (P : List ℕ) → leastOf P ≤ leastOf (pass mark n thr P n)

@@ -6,10 +6,11 @@ use mathlib.Core.Bool.{Bool, true, false, and-true, true≢false}
 use mathlib.Core.List.{List, _++_}
 use Prim.Native.Nat.{ℕ, zero, suc, _+_, _-_, _≤_, _<_}
 use native.Mathlib.Nat.{le-antisymm}
+use native.Mathlib.Numerals.{add-one}
 use native.Mathlib.Decide.{decLe, decLt}
 use native.Mathlib.Omega.{arith}
 use lib.ListN.{length, getD, take, drop, length-append, length-take, length-drop, List·getD-append, List·getD-eq-default}
-use lib.Seq.{take-all, take-add, take-append-le, drop-append-le, getD-append-add}
+use lib.Seq.{take-all, take-add, take-append-le, drop-append-le, getD-append-add, ext-getD}
 use Rattle.loops.specs.Count.{all, sum}
 use Rattle.loops.specs.Count.Laws.{test-cases, sum-ext, list-length}
 use Rattle.task.specs.declared.Task.{Task}
@@ -21,6 +22,8 @@ use Rattle.task.specs.Valid.{Valid}
 use Rattle.leaf.specs.Price.{mark}
 use Rattle.leaf.specs.Settle.Steps.{price-in}
 use Rattle.leaf.specs.Settle.Walks.{Capped, Below}
+use Rattle.leaf.specs.Pass.{pass}
+use Rattle.leaf.specs.Pass.Laws.{pass-length, pass-hit, pass-from}
 use Rattle.layer.specs.Layer.{settleLeaf, LeafWalk, passLeaf, passes, base, leafPart, joined, nextPrices, appliesTo, nextCentre}
 use Rattle.layer.specs.Layer.Leaf.{leaf-length, leaf-below, leaf-floor, leaf-real, leaf-walk-in, passLeaf-length, passLeaf-cap, passLeaf-from, passes-in}
 use Rattle.layer.specs.Layer.Laws.{sum-part, base-fits, part-length, joined-length, part-joined, next-length, part-next}
@@ -46,6 +49,21 @@ abbrev pub beginNode : Task → Node → ℕ → Centre → ℕ → ℕ → Node
 beginNode t n a c p q = record { spot = c; paid = n .paid + cost t a; prices = beginPrices t a (n .prices); parent = p; action = q }
 
 -- ---- the begin's prices
+
+-- states that stay as they are keep their prices
+pub pass-still : (n : ℕ) (thr : ℕ → ℕ) (P : List ℕ) → length P ≡ n → Capped mark P → ((x : ℕ) → x < n → thr x ≡ x + 1) → pass mark n thr P n ≡ P
+pass-still n thr P long cap h =
+    ext-getD mark (pass mark n thr P n) P (many ∙ sym long) (λ y l. at y (omega (arith, many)) (decLe mark (getD (pass mark n thr P n) y mark)))
+  where
+    many : length (pass mark n thr P n) ≡ n
+    many = pass-length mark n thr P n
+
+    at : (y : ℕ) → y < n → Dec (mark ≤ getD (pass mark n thr P n) y mark) → getD (pass mark n thr P n) y mark ≡ getD P y mark
+    at y l (yes q) = omega (arith, pass-hit mark n thr P n y y l l (h y l ∙ add-one y), cap y)
+    at y l (no q) =
+        let (x, k, t, e) = pass-from mark n thr P n y (omega arith) in
+        let same : x ≡ y = omega (arith, h x k) in
+        e ∙ ap (λ z. getD P z mark) same
 
 module _ (t : Task) (a : ℕ) (P : List ℕ) where
   -- each leaf's list is as long as the leaf has states
@@ -87,7 +105,7 @@ parts-front t P (suc n) =
     ap (λ (xs : List ℕ). xs ++ take (states t (suc n)) (drop (base t n) P)) (parts-front t P n) ∙ sym (take-add (base t n) (states t (suc n)) P)
 
 -- the parts of all leaves, one behind the other, are the whole list
-parts-all : (t : Task) (P : List ℕ) → length P ≡ allStates t → joined (t .leaves) (λ i. leafPart t i P) ≡ P
+pub parts-all : (t : Task) (P : List ℕ) → length P ≡ allStates t → joined (t .leaves) (λ i. leafPart t i P) ≡ P
 unfolding base allStates
 parts-all t P h = parts-front t P (t .leaves) ∙ take-all (base t (t .leaves)) P (omega arith)
 

@@ -3,6 +3,7 @@ pub mod Closure
 pub mod Laws
 pub mod Turns
 pub mod Rounds
+pub mod Detours
 use mathlib.Core.Bool.{Bool, true, false, not, _&&_}
 use mathlib.Core.List.{List, [], _∷_, _++_}
 use Prim.Native.Nat.{ℕ, zero, suc, _+_}

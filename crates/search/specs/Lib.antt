@@ -6,3 +6,4 @@ pub mod Made
 pub mod Small
 pub mod Optimal
 pub mod Begin
+pub mod Hop

@@ -48,7 +48,7 @@ ones-set (zero ∷ xs) (suc u) e = ones-set xs u e
 ones-set (suc x ∷ xs) (suc u) e = ap suc (ones-set xs u e)
 
 -- a flag more that is 0 stands for no flag
-flag-snoc : (xs : List ℕ) (j : ℕ) → getD (xs ++ (0 ∷ [])) j 0 ≡ getD xs j 0
+pub flag-snoc : (xs : List ℕ) (j : ℕ) → getD (xs ++ (0 ∷ [])) j 0 ≡ getD xs j 0
 flag-snoc [] zero = refl
 flag-snoc [] (suc j) = refl
 flag-snoc (x ∷ xs) zero = refl

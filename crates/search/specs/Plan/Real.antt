@@ -1,10 +1,11 @@
 -- What the walk back needs of a search: every kept node but node 0 was made from a node of a lower number by a centre action that applies to it;
 -- and what follows of a node's layer. Assumes nothing.
 use mathlib.Core.Path.{_≡_, sym, ap, _∙_}
+use mathlib.Core.Logic.{_≢_}
 use mathlib.Core.Bool.{true}
 use mathlib.Core.List.{List}
 use Prim.Native.Nat.{ℕ, zero, suc, _+_, _<_}
-use lib.ListN.{length}
+use lib.ListN.{length, getD}
 use Rattle.task.specs.declared.Task.{Task}
 use Rattle.task.specs.declared.Centre.{Centre}
 use Rattle.task.specs.Meaning.{initial, cost}
@@ -29,6 +30,11 @@ pub record Real (t : Task) (s : Search) : Type 0 where
   pub applied : (u : ℕ) → suc u < length (s .kept)
       → let n = nodeAt t s (suc u) in let p = nodeAt t s (n .parent) in appliesTo t (p .spot) (p .prices) (n .action) ≡ true
   pub made : (u : ℕ) → suc u < length (s .kept) → let n = nodeAt t s (suc u) in n ≡ nextNode t (n .parent) (nodeAt t s (n .parent)) (n .action)
+
+-- and the expansion of the node that it was made from has begun; the walk back does not ask for this
+pub record Rooted (t : Task) (s : Search) : Type 0 where
+  pub real : Real t s
+  pub opened : (u : ℕ) → suc u < length (s .kept) → getD (s .done) (nodeAt t s (suc u) .parent) 0 ≢ 0
 
 module _ (t : Task) (s : Search) (r : Real t s) where
   -- node 0 has the initial centre state
