@@ -1,25 +1,30 @@
 -- What a turn, an expansion and the search's end say of the search that the lent table holds.
+pub mod Lists
 pub mod Turns
 pub mod Rounds
 pub mod Start
 use mathlib.Core.Path.{_≡_}
-use mathlib.Core.Bool.{cond}
+use mathlib.Core.Logic.{_⊎_}
+use mathlib.Core.Bool.{Bool, true, false, cond}
 use mathlib.Core.List.{List}
-use Prim.Native.Nat.{ℕ, _≤_, min}
-use lib.ListN.{take}
+use Prim.Native.Nat.{ℕ, _+_, _≤_, _<_, min}
+use lib.ListN.{getD, take}
 use Rattle.task.specs.declared.Task.{Task}
 use Rattle.task.specs.declared.Centre.{Centre}
 use Rattle.task.specs.Factors.{allStates}
 use Rattle.task.specs.Valid.{Valid}
 use Rattle.leaf.specs.Price.{mark}
-use Rattle.layer.specs.Board.{Board, Fits, rowOn}
+use Rattle.layer.specs.Board.{Board, Fits, rowOn, metOn}
+use Rattle.mets.specs.Listed.{Listed}
 use Rattle.tables.specs.Tables.{Goals}
 use Rattle.search.specs.Node.{key}
 use Rattle.search.specs.Explore.{Search, Reason, finished, tableFull, budgetSpent, Stopped, full, turn, Expanded, through, filled, expand}
 use Rattle.search.specs.Explore.Laws.{Base}
+use Rattle.search.specs.Explore.Detours.{Sprung}
 use Rattle.rows.specs.Row.{nodeIn}
 use Rattle.rows.specs.Scan.{keyBy}
 use Rattle.nodes.specs.Chain.{Chained}
+use Rattle.hops.specs.Hops.{HopOn}
 use Rattle.offers.specs.declared.Run.{Run}
 use Rattle.offers.specs.declared.Turned.{Turned}
 use Rattle.explore.specs.declared.Stop.{Stop}
@@ -49,6 +54,30 @@ reasonOf BudgetSpent = budgetSpent
 abbrev pub stoppedOf : ℕ → List ℕ → List ℕ → Stop → Stopped
 stoppedOf S T O r = record { reason = reasonOf (r .why); search = searchOf S T O (r .run) }
 
+-- action a at node u is a detour: a hop behind the hop that made the node, which has its parent's prices, the first of `old`; it goes back, or one hop
+-- goes all the way at no higher cost
+pub record Aside (b : Board) (effects T : List ℕ) (u : ℕ) (old : List ℕ) (a : ℕ) : Type 0 where
+  pub lower : nodeIn (rowOn b) T u .parent < u
+  pub known : nodeIn (rowOn b) T u .action < b .actions
+  pub alike : nodeIn (rowOn b) T (nodeIn (rowOn b) T u .parent) .prices ≡ take (rowOn b) old
+  pub v : ℕ
+  pub x : ℕ
+  pub y : ℕ
+  pub w : ℕ
+  pub z : ℕ
+  pub first : HopOn b effects (nodeIn (rowOn b) T u .action) v x y
+  pub second : HopOn b effects a v w z
+  pub way : (z ≡ x)
+      ⊎ ((d : ℕ) × ((d < b .actions) × (HopOn b effects d v x z
+      × (getD (b .costs) d 0 ≤ getD (b .costs) (nodeIn (rowOn b) T u .action) 0 + getD (b .costs) a 0))))
+
+-- the first m numbers of f are actions whose centre conditions hold in `spot`, by rising number; those left out whose conditions hold are detours
+pub record Useful (b : Board) (effects : List ℕ) (spot : Centre) (T : List ℕ) (u : ℕ) (old : List ℕ) (m : ℕ) (f : ℕ → ℕ) : Type 0 where
+  pub test : ℕ → Bool
+  pub listed : Listed test (b .actions) m f
+  pub met : (a : ℕ) → a < b .actions → test a ≡ true → metOn b spot a ≡ true
+  pub out : (a : ℕ) → a < b .actions → test a ≡ false → (metOn b spot a ≡ false) ⊎ Aside b effects T u old a
+
 -- action a had its turn at node u, for every task whose tables these are; the node's parts are given, with words behind the prices, and `opens` is
 -- lent as its key
 pub record Moved (b : Board) (effects goals goalPairs : List ℕ) (nodes : ℕ) (spot : Centre) (paid : ℕ) (old : List ℕ) (opens u a : ℕ) (T O : List ℕ)
@@ -67,6 +96,6 @@ Grown b nodes r T′ O′ w =
 abbrev pub Done : Board → List ℕ → List ℕ → List ℕ → ℕ → ℕ → ℕ → List ℕ → List ℕ → Run → List ℕ → List ℕ → Turned → Type 0
 Done b effects goals goalPairs nodes u opens T O r T′ O′ w =
     (t : Task) → Suits t b effects goals goalPairs → Base t nodes (searchOf (allStates t) T O r) → Cached t (allStates t) T O r
-    → opens ≡ min (key t (nodeIn (allStates t) T u)) mark
+    → opens ≡ min (key t (nodeIn (allStates t) T u)) mark → (0 < u → Sprung t (searchOf (allStates t) T O r) u)
     → (expand t nodes u (t .actions) 0 (searchOf (allStates t) T O r) ≡ expandedOf w (searchOf (allStates t) T′ O′ (w .run)))
     × Cached t (allStates t) T′ O′ (w .run)

@@ -3,6 +3,10 @@ use begins::begin_of;
 use begins::is_stuck;
 use begins::still_actions;
 use begins::still_leaves;
+use hops::drop_detours;
+use hops::hop_behind;
+use hops::list_hops;
+use hops::list_ways;
 use layer::first_conditions;
 use layer::first_layer;
 use layer::pairs_of;
@@ -32,7 +36,6 @@ ghost use Rattle.task.specs.Valid.{Valid};
 ghost use Rattle.layer.specs.Board.{Sound, metOn};
 ghost use Rattle.layer.specs.First.{Firsts};
 ghost use Rattle.layer.specs.Lent.{boardOf};
-ghost use Rattle.mets.specs.Listed.{Listed};
 ghost use Rattle.mets.specs.Known.{Known};
 ghost use Rattle.edges.specs.Edges.{Edges};
 ghost use Rattle.tables.specs.Tables.{Tabled, Goals};
@@ -40,10 +43,11 @@ ghost use Rattle.search.specs.Explore.{start, explored};
 ghost use Rattle.rows.specs.Row.{nodeIn};
 ghost use Rattle.rows.specs.Sign.{signOf};
 ghost use Rattle.nodes.specs.Chain.{Chained};
-ghost use Rattle.explore.specs.Held.{Suits, stoppedOf, Moved, Grown, Done};
+ghost use Rattle.explore.specs.Held.{Suits, stoppedOf, Useful, Moved, Grown, Done};
 ghost use Rattle.offers.specs.Held.{searchOf, Cached, Room, Has};
 ghost use Rattle.explore.specs.Held.Rounds.{Ahead, Rounded};
 ghost use Rattle.begins.specs.Still.{Still, Stills};
+ghost use Rattle.hops.specs.Hops.{Hops, Ways};
 
 // Why a search stops.
 pub enum Why {
@@ -187,7 +191,7 @@ fn turn(
     )
 }
 
-// All actions of node u whose centre conditions hold, which `mets` lists by rising number; the node's parts, key and signature are given.
+// All actions of node u that need a turn, which `mets` lists by rising number; the node's parts, key and signature are given.
 fn turns(
     leaves: usize,
     actions: usize,
@@ -224,7 +228,7 @@ fn turns(
         × Firsts (boardOf leaves actions (now bases) (now moves) (now costs) (now kinds) factors (now conditions)) (now firsts)
         × Edges (boardOf leaves actions (now bases) (now moves) (now costs) (now kinds) factors (now conditions)) (now edges) (now ends)
         × Known (boardOf leaves actions (now bases) (now moves) (now costs) (now kinds) factors (now conditions)) (now known)
-        × Listed (metOn (boardOf leaves actions (now bases) (now moves) (now costs) (now kinds) factors (now conditions)) spot) actions
+        × Useful (boardOf leaves actions (now bases) (now moves) (now costs) (now kinds) factors (now conditions)) (now effects) spot (now table) u (now old)
         (length (now mets)) (λ j. getD (now mets) j 0)
         × Stills leaves actions (now bases) (now moves) (now stills) ⌝ }
     requires { ⌜ (length (now effects) ≡ 8192) × (length (now goals) ≡ 1024) × (length (now old) ≡ 1024) × (length (now next) ≡ 1024) × (u < run .count) ⌝ }
@@ -284,6 +288,60 @@ fn turns(
     }
 }
 
+// The actions of node u that need a turn, by rising number, at the front of `mets`: those whose centre conditions hold, but for detours behind the hop that
+// made the node, if it has its parent's prices, which `old` begins with. How many.
+fn list_turns(
+    leaves: usize,
+    actions: usize,
+    bases: &[usize],
+    moves: &[u16],
+    costs: &[u16],
+    kinds: &[u8],
+    factors: [u8; 32],
+    conditions: &[u8],
+    effects: &[u8],
+    firsts: &[u8],
+    hops: &[u16],
+    ways: &[u8],
+    spot: Centre,
+    u: usize,
+    old: &[u64],
+    table: &[u64],
+    known: &mut [u8],
+    mets: &mut [u8],
+) -> usize
+    requires { ⌜ Sound (boardOf leaves actions (now bases) (now moves) (now costs) (now kinds) factors (now conditions)) ⌝ }
+    requires { ⌜ Firsts (boardOf leaves actions (now bases) (now moves) (now costs) (now kinds) factors (now conditions)) (now firsts)
+        × Known (boardOf leaves actions (now bases) (now moves) (now costs) (now kinds) factors (now conditions)) (now known)
+        × Hops actions (boardOf leaves actions (now bases) (now moves) (now costs) (now kinds) factors (now conditions)) (now effects) (now hops)
+        × Ways actions (now hops) (now ways) ⌝ }
+    requires { ⌜ (length (now mets) ≡ 256) × (length (now old) ≡ 1024) × (u < 4096)
+        × (u * (40 + getD (now bases) leaves 0) + (40 + getD (now bases) leaves 0) ≤ length (now table)) ⌝ }
+    ensures { λ r. ⌜ Known (boardOf leaves actions (now (bases .entry)) (now (moves .entry)) (now (costs .entry)) (now (kinds .entry)) factors
+        (now (conditions .entry))) (now (known .exit)) × (r ≤ 256)
+        × Useful (boardOf leaves actions (now (bases .entry)) (now (moves .entry)) (now (costs .entry)) (now (kinds .entry)) factors
+        (now (conditions .entry))) (now (effects .entry)) spot (now (table .entry)) u (now (old .entry)) r (λ j. getD (now (mets .exit)) j 0) ⌝ }
+{
+    let states = bases[leaves];
+    let many = list_mets(
+        actions,
+        firsts,
+        factors,
+        conditions,
+        spot,
+        class_of(spot),
+        known,
+        mets,
+    );
+    let word = hop_behind(table, states, actions, hops, u, old);
+    if word == 0 {
+        return many;
+    }
+    let wide = 40 + states;
+    let made_by = table[u * wide + 34] as usize;
+    drop_detours(hops, ways, costs, word, costs[made_by], mets, many)
+}
+
 // All actions of node u, whose key is given, by rising number; `old`, `next` and `mets` are room to work in.
 fn expand(
     leaves: usize,
@@ -299,6 +357,8 @@ fn expand(
     firsts: &[u8],
     edges: &[u8],
     ends: &[usize],
+    hops: &[u16],
+    ways: &[u8],
     effects: &[u8],
     goals: &[u16],
     goal: [u8; 32],
@@ -318,7 +378,9 @@ fn expand(
         × Firsts (boardOf leaves actions (now bases) (now moves) (now costs) (now kinds) factors (now conditions)) (now firsts)
         × Edges (boardOf leaves actions (now bases) (now moves) (now costs) (now kinds) factors (now conditions)) (now edges) (now ends)
         × Known (boardOf leaves actions (now bases) (now moves) (now costs) (now kinds) factors (now conditions)) (now known)
-        × (length (now mets) ≡ 256) × Stills leaves actions (now bases) (now moves) (now stills) ⌝ }
+        × (length (now mets) ≡ 256) × Stills leaves actions (now bases) (now moves) (now stills)
+        × Hops actions (boardOf leaves actions (now bases) (now moves) (now costs) (now kinds) factors (now conditions)) (now effects) (now hops)
+        × Ways actions (now hops) (now ways) ⌝ }
     requires { ⌜ (length (now effects) ≡ 8192) × (length (now goals) ≡ 1024) × (u < run .count) ⌝ }
     requires { ⌜ Room (getD (now bases) leaves 0) nodes (now table) (now scan) run ⌝ }
     requires { ⌜ (length (now old) ≡ 1024) × (length (now next) ≡ 1024) ⌝ }
@@ -338,13 +400,23 @@ fn expand(
     let paid = table[at + 32];
     copy_words(&table[at + 40..end], old, states);
     let sign = scan[4096 + u];
-    let many = list_mets(
+    let many = list_turns(
+        leaves,
         actions,
-        firsts,
+        bases,
+        moves,
+        costs,
+        kinds,
         factors,
         conditions,
+        effects,
+        firsts,
+        hops,
+        ways,
         spot,
-        class_of(spot),
+        u,
+        &old[..],
+        &table[..],
         known,
         mets,
     );
@@ -465,6 +537,8 @@ fn next_round(
     firsts: &[u8],
     edges: &[u8],
     ends: &[usize],
+    hops: &[u16],
+    ways: &[u8],
     effects: &[u8],
     goals: &[u16],
     goal: [u8; 32],
@@ -483,7 +557,9 @@ fn next_round(
         × Firsts (boardOf leaves actions (now bases) (now moves) (now costs) (now kinds) factors (now conditions)) (now firsts)
         × Edges (boardOf leaves actions (now bases) (now moves) (now costs) (now kinds) factors (now conditions)) (now edges) (now ends)
         × Known (boardOf leaves actions (now bases) (now moves) (now costs) (now kinds) factors (now conditions)) (now known)
-        × (length (now mets) ≡ 256) × Stills leaves actions (now bases) (now moves) (now stills) ⌝ }
+        × (length (now mets) ≡ 256) × Stills leaves actions (now bases) (now moves) (now stills)
+        × Hops actions (boardOf leaves actions (now bases) (now moves) (now costs) (now kinds) factors (now conditions)) (now effects) (now hops)
+        × Ways actions (now hops) (now ways) ⌝ }
     requires { ⌜ (length (now effects) ≡ 8192) × (length (now goals) ≡ 1024) × (run .begun ≤ 4096) ⌝ }
     requires { ⌜ Room (getD (now bases) leaves 0) nodes (now table) (now scan) run ⌝ }
     requires { ⌜ (length (now old) ≡ 1024) × (length (now next) ≡ 1024) ⌝ }
@@ -530,6 +606,8 @@ fn next_round(
         firsts,
         edges,
         ends,
+        hops,
+        ways,
         effects,
         goals,
         goal,
@@ -588,6 +666,20 @@ pub fn explore(
     let stills = still_leaves(leaves, actions, bases, moves);
     let still = still_actions(leaves, actions, &stills);
     let firsts = first_conditions(factors, &conditions, actions);
+    let hops = list_hops(
+        leaves,
+        actions,
+        bases,
+        moves,
+        costs,
+        kinds,
+        factors,
+        &conditions,
+        &effects,
+        &firsts,
+        &still,
+    );
+    let ways = list_ways(actions, &hops);
     let mut run = start(task, bases, moves, costs, kinds, starts, goals, table, scan);
     let mut known = [0u8; 36864];
     let mut mets = [0u8; 256];
@@ -608,6 +700,8 @@ pub fn explore(
             &firsts,
             edges,
             ends,
+            &hops,
+            &ways,
             &effects,
             goals,
             goal,

@@ -1,4 +1,4 @@
--- `explore::expand` meets its contract: the node's parts are read, with the actions whose conditions hold in its centre state, and these have their turns. Assumes nothing.
+-- `explore::expand` meets its contract: the node's parts are read, the actions that need a turn are listed, and these have their turns. Assumes nothing.
 use mathlib.Core.Path.{_≡_, sym, ap, _∙_}
 use Prim.Native.Nat.{_+_, _*_, _≤_, _<_}
 use native.Mathlib.Omega.{arith}
@@ -7,11 +7,9 @@ use lib.ListN.{length, length-take, length-drop}
 use lib.Seq.{length-take-le}
 use Rattle.layer.specs.Board.{Board, rowOn}
 use Rattle.layer.specs.Lent.{boardOf}
-use Rattle.mets.specs.Listed.{listed-front}
-use Rattle.mets.specs.Known.{firsts-asks, known-asks, asks-known}
+use Rattle.explore.specs.Held.Lists.{useful-front}
 use Rattle.rows.specs.Row.Laws.{row-in}
 use Rattle.rows.specs.Sign.{signOf}
-use Rattle.rows.specs.Sign.Laws.{class-lt}
 use Rattle.offers.specs.Held.Laws.{row-has}
 use borrow.Author.Needs.{needs}
 use Rattle.explore.proofs.expand.Statement.{statement}
@@ -43,13 +41,13 @@ add-wide : tie.Need-add-wide
 add-wide c = search needs
 
 mul-at : tie.Need-mul-at
-mul-at c = omega (arith, c .before .before .before .before .before .before .before .before .before .before .before .before .before .before .before .before .before .before .before .good, row-fits (c .before .before .before .before .before .before .before .before .before .before .before .before .before .before .before .before .before .before .before))
+mul-at c = omega (arith, c .before .before .before .before .before .before .before .before .before .before .before .before .before .before .before .before .before .before .before .before .before .good, row-fits (c .before .before .before .before .before .before .before .before .before .before .before .before .before .before .before .before .before .before .before .before .before))
 
 add-end : tie.Need-add-end
-add-end c = omega (arith, c .before .before .before .before .before .before .before .before .before .before .before .before .before .before .before .before .before .before .before .good, row-fits (c .before .before .before .before .before .before .before .before .before .before .before .before .before .before .before .before .before .before .before))
+add-end c = omega (arith, c .before .before .before .before .before .before .before .before .before .before .before .before .before .before .before .before .before .before .before .before .before .good, row-fits (c .before .before .before .before .before .before .before .before .before .before .before .before .before .before .before .before .before .before .before .before .before))
 
 mul-read-spot : tie.Need-mul-read-spot
-mul-read-spot c = omega (arith, c .before .before .before .before .before .before .before .before .before .before .before .before .before .before .before .before .before .before .before .good, row-fits (c .before .before .before .before .before .before .before .before .before .before .before .before .before .before .before .before .before .before .before))
+mul-read-spot c = omega (arith, c .before .before .before .before .before .before .before .before .before .before .before .before .before .before .before .before .before .before .before .before .before .good, row-fits (c .before .before .before .before .before .before .before .before .before .before .before .before .before .before .before .before .before .before .before .before .before))
 
 sub-read-spot : tie.Need-sub-read-spot
 sub-read-spot c = search needs
@@ -58,25 +56,25 @@ part-read-spot-start : tie.Need-part-read-spot-start
 part-read-spot-start c = search needs
 
 part-read-spot-end : tie.Need-part-read-spot-end
-part-read-spot-end c = omega (arith, c .before .before .before .before .before .before .before .before .before .before .before .before .before .before .before .before .before .before .before .before .good, row-fits (c .before .before .before .before .before .before .before .before .before .before .before .before .before .before .before .before .before .before .before .before))
+part-read-spot-end c = omega (arith, c .before .before .before .before .before .before .before .before .before .before .before .before .before .before .before .before .before .before .before .before .before .before .good, row-fits (c .before .before .before .before .before .before .before .before .before .before .before .before .before .before .before .before .before .before .before .before .before .before))
 
 read-spot-requires : tie.Need-read-spot-requires
 read-spot-requires c κs = search needs
 
 add-paid : tie.Need-add-paid
-add-paid c = omega (arith, c .before .before .before .before .before .before .before .before .before .before .before .before .before .before .before .before .before .before .before .before .before .before .good, row-fits (c .before .before .before .before .before .before .before .before .before .before .before .before .before .before .before .before .before .before .before .before .before .before))
+add-paid c = omega (arith, c .before .before .before .before .before .before .before .before .before .before .before .before .before .before .before .before .before .before .before .before .before .before .before .before .good, row-fits (c .before .before .before .before .before .before .before .before .before .before .before .before .before .before .before .before .before .before .before .before .before .before .before .before))
 
 mul-paid : tie.Need-mul-paid
-mul-paid c = omega (arith, c .before .before .before .before .before .before .before .before .before .before .before .before .before .before .before .before .before .before .before .before .before .before .good, row-fits (c .before .before .before .before .before .before .before .before .before .before .before .before .before .before .before .before .before .before .before .before .before .before))
+mul-paid c = omega (arith, c .before .before .before .before .before .before .before .before .before .before .before .before .before .before .before .before .before .before .before .before .before .before .before .before .good, row-fits (c .before .before .before .before .before .before .before .before .before .before .before .before .before .before .before .before .before .before .before .before .before .before .before .before))
 
 slice-read-paid : tie.Need-slice-read-paid
-slice-read-paid c = omega (arith, c .before .before .before .before .before .before .before .before .before .before .before .before .before .before .before .before .before .before .before .before .before .before .before .good, row-fits (c .before .before .before .before .before .before .before .before .before .before .before .before .before .before .before .before .before .before .before .before .before .before .before))
+slice-read-paid c = omega (arith, c .before .before .before .before .before .before .before .before .before .before .before .before .before .before .before .before .before .before .before .before .before .before .before .before .before .good, row-fits (c .before .before .before .before .before .before .before .before .before .before .before .before .before .before .before .before .before .before .before .before .before .before .before .before .before))
 
 add-copy-words : tie.Need-add-copy-words
-add-copy-words c = omega (arith, c .before .before .before .before .before .before .before .before .before .before .before .before .before .before .before .before .before .before .before .before .before .before .before .good, row-fits (c .before .before .before .before .before .before .before .before .before .before .before .before .before .before .before .before .before .before .before .before .before .before .before))
+add-copy-words c = omega (arith, c .before .before .before .before .before .before .before .before .before .before .before .before .before .before .before .before .before .before .before .before .before .before .before .before .before .good, row-fits (c .before .before .before .before .before .before .before .before .before .before .before .before .before .before .before .before .before .before .before .before .before .before .before .before .before))
 
 mul-copy-words : tie.Need-mul-copy-words
-mul-copy-words c = omega (arith, c .before .before .before .before .before .before .before .before .before .before .before .before .before .before .before .before .before .before .before .before .before .before .before .good, row-fits (c .before .before .before .before .before .before .before .before .before .before .before .before .before .before .before .before .before .before .before .before .before .before .before))
+mul-copy-words c = omega (arith, c .before .before .before .before .before .before .before .before .before .before .before .before .before .before .before .before .before .before .before .before .before .before .before .before .before .good, row-fits (c .before .before .before .before .before .before .before .before .before .before .before .before .before .before .before .before .before .before .before .before .before .before .before .before .before))
 
 sub-copy-words : tie.Need-sub-copy-words
 sub-copy-words c = search needs
@@ -85,58 +83,56 @@ part-copy-words-start : tie.Need-part-copy-words-start
 part-copy-words-start c = search needs
 
 part-copy-words-end : tie.Need-part-copy-words-end
-part-copy-words-end c = omega (arith, c .before .before .before .before .before .before .before .before .before .before .before .before .before .before .before .before .before .before .before .before .before .before .before .before .good, row-fits (c .before .before .before .before .before .before .before .before .before .before .before .before .before .before .before .before .before .before .before .before .before .before .before .before))
+part-copy-words-end c = omega (arith, c .before .before .before .before .before .before .before .before .before .before .before .before .before .before .before .before .before .before .before .before .before .before .before .before .before .before .good, row-fits (c .before .before .before .before .before .before .before .before .before .before .before .before .before .before .before .before .before .before .before .before .before .before .before .before .before .before))
 
 copy-words-requires : tie.Need-copy-words-requires
 copy-words-requires c κs =
-    let s = c .before .before .before .before .before .before .before .before .before .before .before .before .before .before .before .before .before .before .before .before .before .before .before .before .before .before in
+    let s = c .before .before .before .before .before .before .before .before .before .before .before .before .before .before .before .before .before .before .before .before .before .before .before .before .before .before .before .before in
     (simp (length-take, length-drop) (omega (arith, row-fits s)), omega (arith, s .pre .1 .1 .1 .1 .0, s .pre .0 .few-all))
 
 add-sign : tie.Need-add-sign
-add-sign c = omega (arith, inside-scan (c .before .before .before .before .before .before .before .before .before .before .before .before .before .before .before .before .before .before .before .before .before .before .before .before .before .before .before .before .before))
+add-sign c = omega (arith, inside-scan (c .before .before .before .before .before .before .before .before .before .before .before .before .before .before .before .before .before .before .before .before .before .before .before .before .before .before .before .before .before .before .before))
 
 mul-sign : tie.Need-mul-sign
-mul-sign c = omega (arith, inside-scan (c .before .before .before .before .before .before .before .before .before .before .before .before .before .before .before .before .before .before .before .before .before .before .before .before .before .before .before .before .before))
+mul-sign c = omega (arith, inside-scan (c .before .before .before .before .before .before .before .before .before .before .before .before .before .before .before .before .before .before .before .before .before .before .before .before .before .before .before .before .before .before .before))
 
 slice-read-sign : tie.Need-slice-read-sign
-slice-read-sign c = omega (arith, inside-scan (c .before .before .before .before .before .before .before .before .before .before .before .before .before .before .before .before .before .before .before .before .before .before .before .before .before .before .before .before .before .before), c .before .before .before .before .before .before .before .before .before .before .before .before .before .before .before .before .before .before .before .before .before .before .before .before .before .before .before .before .before .before .pre .1 .1 .1 .0 .scan-long)
+slice-read-sign c = omega (arith, inside-scan (c .before .before .before .before .before .before .before .before .before .before .before .before .before .before .before .before .before .before .before .before .before .before .before .before .before .before .before .before .before .before .before .before), c .before .before .before .before .before .before .before .before .before .before .before .before .before .before .before .before .before .before .before .before .before .before .before .before .before .before .before .before .before .before .before .before .pre .1 .1 .1 .0 .scan-long)
 
-class-of-requires : tie.Need-class-of-requires
-class-of-requires c κs = search needs
-
-list-mets-requires : tie.Need-list-mets-requires
-list-mets-requires c κs =
-    let s = c .before .before .before .before .before .before .before .before .before .before .before .before .before .before .before .before .before .before .before .before .before .before .before .before .before .before .before .before .before .before .before .before .before in
-    let class = c .before .before .class-of in
-    (s .pre .0 .few-actions, s .pre .0 .conditions-long, firsts-asks (board s) _ (s .pre .1 .0 .1), omega (arith, class .ensures, class-lt (c .before .before .before .before .before .before .before .before .before .before .before .read-spot .result)), s .pre .1 .0 .4, known-asks (board s) _ (s .pre .1 .0 .3))
+list-turns-requires : tie.Need-list-turns-requires
+list-turns-requires c κs =
+    let s = c .before .before .before .before .before .before .before .before .before .before .before .before .before .before .before .before .before .before .before .before .before .before .before .before .before .before .before .before .before .before .before .before .before .before .before .before in
+    let w = c .before .before .before .before .before .before .before .copy-words in
+    let long : length (w .last .1 .0) ≡ 1024 = w .kept .1 .0 ∙ s .pre .1 .1 .1 .1 .0 in
+    (s .pre .0, ((s .pre .1 .0 .1, s .pre .1 .0 .3, s .pre .1 .0 .6, s .pre .1 .0 .7), (s .pre .1 .0 .4, long, inside-scan s, row-fits s)))
 
 -- the list lies within the room for it
-listed-in : (c : tie.After-list-mets) → c .list-mets .result ≤ length (c .list-mets .last .1 .1 .1 .1 .1 .1 .1 .0)
+listed-in : (c : tie.After-list-turns) → c .list-turns .result ≤ length (c .list-turns .last .1 .1 .1 .1 .1 .1 .1 .1 .1 .1 .1 .1 .1 .1 .1 .1 .1 .0)
 listed-in c =
-    let m = c .list-mets in
-    let s = c .before .before .before .before .before .before .before .before .before .before .before .before .before .before .before .before .before .before .before .before .before .before .before .before .before .before .before .before .before .before .before .before .before .before in
-    let kept : length (m .last .1 .1 .1 .1 .1 .1 .1 .0) ≡ length (now (s .args .mets)) = m .kept .1 .1 .1 .1 .1 .1 .1 .0 in
+    let m = c .list-turns in
+    let s = c .before .before .before .before .before .before .before .before .before .before .before .before .before .before .before .before .before .before .before .before .before .before .before .before .before .before .before .before .before .before .before .before .before .before .before .before .before in
+    let kept : length (m .last .1 .1 .1 .1 .1 .1 .1 .1 .1 .1 .1 .1 .1 .1 .1 .1 .1 .0) ≡ length (now (s .args .mets)) = m .kept .1 .1 .1 .1 .1 .1 .1 .1 .1 .1 .1 .1 .1 .1 .1 .1 .1 .0 in
     omega (arith, s .pre .1 .0 .4, m .ensures .1)
 
 slice-reshare-prefix-turns : tie.Need-slice-reshare-prefix-turns
 slice-reshare-prefix-turns c = listed-in (c .before .before .before .before)
 
 slice-aggregate-turns : tie.Need-slice-aggregate-turns
-slice-aggregate-turns c = let t = c .before .before .before .before .before in sym (length-take-le (t .list-mets .result) (t .list-mets .last .1 .1 .1 .1 .1 .1 .1 .0) (listed-in t))
+slice-aggregate-turns c = let t = c .before .before .before .before .before in sym (length-take-le (t .list-turns .result) (t .list-turns .last .1 .1 .1 .1 .1 .1 .1 .1 .1 .1 .1 .1 .1 .1 .1 .1 .1 .0) (listed-in t))
 
 turns-requires : tie.Need-turns-requires
 turns-requires c κs =
-    let s = c .before .before .before .before .before .before .before .before .before .before .before .before .before .before .before .before .before .before .before .before .before .before .before .before .before .before .before .before .before .before .before .before .before .before .before .before .before .before .before .before .before .before .before .before in
-    let r = c .before .before .before .before .before .before .before .before .before .before .before .before .before .before .before .before .before .before .before .before .before .before .read-spot in
-    let w = c .before .before .before .before .before .before .before .before .before .before .before .before .before .before .before .before .before .copy-words in
-    let m = c .before .before .before .before .before .before .before .before .before .before .list-mets in
-    let listed = listed-front _ _ (m .result) (m .last .1 .1 .1 .1 .1 .1 .1 .0) (listed-in (c .before .before .before .before .before .before .before .before .before .before)) (m .ensures .2) in
+    let s = c .before .before .before .before .before .before .before .before .before .before .before .before .before .before .before .before .before .before .before .before .before .before .before .before .before .before .before .before .before .before .before .before .before .before .before .before .before .before .before .before .before .before .before .before .before .before .before in
+    let r = c .before .before .before .before .before .before .before .before .before .before .before .before .before .before .before .before .before .before .before .before .before .before .before .read-spot in
+    let w = c .before .before .before .before .before .before .before .before .before .before .before .before .before .before .before .before .before .before .copy-words in
+    let m = c .before .before .before .before .before .before .before .before .before .before .list-turns in
+    let useful = useful-front _ _ _ _ _ _ (m .result) (m .last .1 .1 .1 .1 .1 .1 .1 .1 .1 .1 .1 .1 .1 .1 .1 .1 .1 .0) (listed-in (c .before .before .before .before .before .before .before .before .before .before)) (m .ensures .2) in
     let long : length (w .last .1 .0) ≡ 1024 = w .kept .1 .0 ∙ s .pre .1 .1 .1 .1 .0 in
     let has = row-has (rowOn (board s)) (s .args .u) (now (s .args .table)) (r .result) (w .last .1 .0) _ (row-fits s) (r .ensures) (w .ensures) in
     let sign = s .pre .1 .1 .1 .0 .chained .signs (s .args .u) (s .pre .1 .1 .0 .2) ∙ ap signOf (has .prices-is) in (
       s .pre .0,
       (
-        (s .pre .1 .0 .0, s .pre .1 .0 .1, s .pre .1 .0 .2, asks-known (board s) _ (m .ensures .0), listed, s .pre .1 .0 .5),
+        (s .pre .1 .0 .0, s .pre .1 .0 .1, s .pre .1 .0 .2, m .ensures .0, useful, s .pre .1 .0 .5),
         (
           (s .pre .1 .1 .0 .0, s .pre .1 .1 .0 .1, long, s .pre .1 .1 .1 .1 .1, s .pre .1 .1 .0 .2),
           ((sign, has), s .pre .1 .1 .1 .0),
@@ -157,7 +153,7 @@ same-length-4 : tie.Need-same-length-4
 same-length-4 c = search needs
 
 same-length-5 : tie.Need-same-length-5
-same-length-5 c = c .before .before .before .before .before .before .before .before .before .before .before .before .before .before .before .before .before .before .before .before .before .before .before .before .before .before .copy-words .kept .1 .0
+same-length-5 c = c .before .before .before .before .before .before .before .before .before .before .before .before .before .before .before .before .before .before .before .before .before .before .before .before .before .before .before .copy-words .kept .1 .0
 
 same-length-6 : tie.Need-same-length-6
 same-length-6 c = search needs
@@ -191,8 +187,7 @@ expand-spec =
     add-sign
     mul-sign
     slice-read-sign
-    class-of-requires
-    list-mets-requires
+    list-turns-requires
     slice-reshare-prefix-turns
     slice-aggregate-turns
     turns-requires

@@ -8,7 +8,7 @@ use lib.ListN.{length, getD}
 use Rattle.task.specs.Factors.{allStates}
 use Rattle.layer.specs.Board.{Board, Sound}
 use Rattle.layer.specs.Board.Laws.{row-on}
-use Rattle.layer.specs.First.{firsts-part}
+use Rattle.layer.specs.First.{Firsts, firsts-part}
 use Rattle.layer.specs.Lent.{boardOf}
 use Rattle.mets.specs.Known.{Known, known-none}
 use Rattle.rows.specs.Scan.{Cut}
@@ -24,7 +24,7 @@ use Rattle.explore.proofs.explore.Statement.{statement}
 use Rattle.explore.proofs.explore.Tie as tie
 
 abbrev Inv-loop : tie.InvT-loop
-Inv-loop bases moves costs kinds starts goals nodes budget edges ends table₀ scan₀ leaves actions factors goal conditions effects stills still firsts run₀ known₀ mets₀ old₀ next₀ table scan run known mets old next =
+Inv-loop bases moves costs kinds starts goals nodes budget edges ends table₀ scan₀ leaves actions factors goal conditions effects stills still firsts hops ways run₀ known₀ mets₀ old₀ next₀ table scan run known mets old next =
     (length table ≡ length table₀) × (length scan ≡ 42256)
     × AheadBy (boardOf leaves actions bases moves costs kinds factors conditions) effects goals goal nodes budget table₀ scan₀ run₀ table scan run
     × (length old ≡ 1024) × (length next ≡ 1024)
@@ -32,7 +32,7 @@ Inv-loop bases moves costs kinds starts goals nodes budget edges ends table₀ s
     × (length mets ≡ 256)
 
 abbrev μ-loop : tie.MeasureT-loop
-μ-loop bases moves costs kinds starts goals nodes budget edges ends table₀ scan₀ leaves actions factors goal conditions effects stills still firsts run₀ known₀ mets₀ old₀ next₀ table scan run known mets old next =
+μ-loop bases moves costs kinds starts goals nodes budget edges ends table₀ scan₀ leaves actions factors goal conditions effects stills still firsts hops ways run₀ known₀ mets₀ old₀ next₀ table scan run known mets old next =
     suc nodes - run .begun
 
 -- the Board of the task
@@ -54,7 +54,7 @@ fit s =
 
 -- the start, seen from the loop
 abbrev first : tie.At-loop Inv-loop μ-loop → tie.Start Inv-loop μ-loop
-first l = l .before .before .before .before .before .before .before .before .before .before .before .before .before .before .before .before .before .before .before .before .before .before .before .before .before .before .before .before .before
+first l = l .before .before .before .before .before .before .before .before .before .before .before .before .before .before .before .before .before .before .before .before .before .before .before .before .before .before .before .before .before .before .before .before .before .before .before .before
 
 -- before each round the rest of the task's search is ahead
 ahead : (l : tie.At-loop Inv-loop μ-loop) → let a = first l .args in
@@ -131,15 +131,44 @@ slice-aggregate-first-conditions c = sym (lists (c .before .before .before .befo
 first-conditions-requires : tie.Need-first-conditions-requires Inv-loop μ-loop
 first-conditions-requires c κs = (fit (c .before .before .before .before .before .before .before .before .before .before .before .before .before .before .before .before .before .before .before .before) .1 .few-actions, lists (c .before .before .before .before .before .before .before .before .before .before .before .before .before .before .before .before .before .before .before .before) .1)
 
+-- a condition of each action is tested first
+asked : (e : tie.After-first-conditions Inv-loop μ-loop) → Firsts (board (e .before .before .before .before .before .before .before .before .before .before .before .before .before .before .before .before .before .before .before .before .before)) (e .first-conditions .result)
+asked e = firsts-part (board (e .before .before .before .before .before .before .before .before .before .before .before .before .before .before .before .before .before .before .before .before .before)) (e .first-conditions .result) (e .first-conditions .ensures)
+
+slice-aggregate-list-hops : tie.Need-slice-aggregate-list-hops Inv-loop μ-loop
+slice-aggregate-list-hops c = sym (lists (c .before .before .before .before .before .before .before .before .before .before .before .before .before .before .before .before .before .before .before .before .before .before) .1)
+
+slice-aggregate-list-hops-2 : tie.Need-slice-aggregate-list-hops-2 Inv-loop μ-loop
+slice-aggregate-list-hops-2 c = sym (lists (c .before .before .before .before .before .before .before .before .before .before .before .before .before .before .before .before .before .before .before .before .before .before .before) .2)
+
+slice-aggregate-list-hops-3 : tie.Need-slice-aggregate-list-hops-3 Inv-loop μ-loop
+slice-aggregate-list-hops-3 c = sym (asked (c .before .before .before) .long)
+
+slice-aggregate-list-hops-4 : tie.Need-slice-aggregate-list-hops-4 Inv-loop μ-loop
+slice-aggregate-list-hops-4 c = sym (stays (c .before .before .before .before .before .before) .long)
+
+list-hops-requires : tie.Need-list-hops-requires Inv-loop μ-loop
+list-hops-requires c κs =
+    let s = c .before .before .before .before .before .before .before .before .before .before .before .before .before .before .before .before .before .before .before .before .before .before .before .before .before in
+    ((fit s .1, lists s .2), (stays (c .before .before .before .before .before .before), asked (c .before .before .before .before)))
+
+slice-aggregate-list-ways : tie.Need-slice-aggregate-list-ways Inv-loop μ-loop
+slice-aggregate-list-ways c = sym (c .before .list-hops .ensures .long)
+
+list-ways-requires : tie.Need-list-ways-requires Inv-loop μ-loop
+list-ways-requires c κs =
+    let hops = c .before .list-hops .ensures in
+    (fit (c .before .before .before .before .before .before .before .before .before .before .before .before .before .before .before .before .before .before .before .before .before .before .before .before .before .before .before) .1 .few-actions, hops .long, hops .few)
+
 start-requires : tie.Need-start-requires Inv-loop μ-loop
 start-requires c κs =
-    let s = c .before .before .before .before .before .before .before .before .before .before .before .before .before .before .before .before .before .before .before .before .before .before .before in
+    let s = c .before .before .before .before .before .before .before .before .before .before .before .before .before .before .before .before .before .before .before .before .before .before .before .before .before .before .before .before .before .before in
     let row = mul-le-mul-right {m = 1} {n = s .args .nodes + 1} (40 + allStates (s .args .task)) (omega arith) in
     (s .pre .0, (s .pre .1 .0, (omega (arith, row, s .pre .1 .1 .1 .2), s .pre .1 .1 .1 .3, s .pre .1 .1 .1 .4)))
 
 loop-holds : tie.Need-loop-holds Inv-loop μ-loop
 loop-holds c =
-    let s = c .before .before .before .before .before .before .before .before .before .before .before .before .before .before .before .before .before .before .before .before .before .before .before .before .before .before .before .before in
+    let s = c .before .before .before .before .before .before .before .before .before .before .before .before .before .before .before .before .before .before .before .before .before .before .before .before .before .before .before .before .before .before .before .before .before .before .before in
     let f = c .before .before .before .before .start in
     (refl, f .kept .1 .1 .1 .1 .1 .1 .1 .1 .0 ∙ s .pre .1 .1 .1 .3, (λ t f a. a), search needs, search needs, known-none (board s), search needs)
 
@@ -147,37 +176,51 @@ slice-aggregate-next-round : tie.Need-slice-aggregate-next-round Inv-loop μ-loo
 slice-aggregate-next-round c = sym (lists (first (c .before)) .1)
 
 slice-aggregate-next-round-2 : tie.Need-slice-aggregate-next-round-2 Inv-loop μ-loop
-slice-aggregate-next-round-2 c = sym (stays (c .before .before .before .before .before .before .before .before .before .before .before .before) .long)
+slice-aggregate-next-round-2 c = sym (stays (c .before .before .before .before .before .before .before .before .before .before .before .before .before .before .before .before .before .before .before) .long)
 
 slice-aggregate-next-round-3 : tie.Need-slice-aggregate-next-round-3 Inv-loop μ-loop
-slice-aggregate-next-round-3 c = sym (c .before .before .before .before .before .before .before .before .before .before .before .before .before .before .before .still-leaves .ensures .long)
+slice-aggregate-next-round-3 c = sym (c .before .before .before .before .before .before .before .before .before .before .before .before .before .before .before .before .before .before .before .before .before .before .still-leaves .ensures .long)
 
 slice-aggregate-next-round-4 : tie.Need-slice-aggregate-next-round-4 Inv-loop μ-loop
-slice-aggregate-next-round-4 c = sym (c .before .before .before .before .before .before .before .before .before .before .before .before .first-conditions .ensures .long)
+slice-aggregate-next-round-4 c = sym (c .before .before .before .before .before .before .before .before .before .before .before .before .before .before .before .before .before .before .before .first-conditions .ensures .long)
 
 slice-aggregate-next-round-5 : tie.Need-slice-aggregate-next-round-5 Inv-loop μ-loop
-slice-aggregate-next-round-5 c = sym (lists (first (c .before .before .before .before .before)) .2)
+slice-aggregate-next-round-5 c = sym (c .before .before .before .before .before .before .before .before .before .before .before .before .before .before .before .list-hops .ensures .long)
 
 slice-aggregate-next-round-6 : tie.Need-slice-aggregate-next-round-6 Inv-loop μ-loop
-slice-aggregate-next-round-6 c = sym (c .before .before .before .before .before .before .before .before .loop .inv .5 .long)
+slice-aggregate-next-round-6 c = sym (c .before .before .before .before .before .before .before .before .before .before .before .before .before .before .list-ways .ensures .long)
 
 slice-aggregate-next-round-7 : tie.Need-slice-aggregate-next-round-7 Inv-loop μ-loop
-slice-aggregate-next-round-7 c = sym (c .before .before .before .before .before .before .before .before .before .loop .inv .6)
+slice-aggregate-next-round-7 c = sym (lists (first (c .before .before .before .before .before .before .before)) .2)
 
 slice-aggregate-next-round-8 : tie.Need-slice-aggregate-next-round-8 Inv-loop μ-loop
-slice-aggregate-next-round-8 c = sym (c .before .before .before .before .before .before .before .before .before .before .loop .inv .3)
+slice-aggregate-next-round-8 c = sym (c .before .before .before .before .before .before .before .before .before .before .loop .inv .5 .long)
 
 slice-aggregate-next-round-9 : tie.Need-slice-aggregate-next-round-9 Inv-loop μ-loop
-slice-aggregate-next-round-9 c = sym (c .before .before .before .before .before .before .before .before .before .before .before .loop .inv .4)
+slice-aggregate-next-round-9 c = sym (c .before .before .before .before .before .before .before .before .before .before .before .loop .inv .6)
+
+slice-aggregate-next-round-10 : tie.Need-slice-aggregate-next-round-10 Inv-loop μ-loop
+slice-aggregate-next-round-10 c = sym (c .before .before .before .before .before .before .before .before .before .before .before .before .loop .inv .3)
+
+slice-aggregate-next-round-11 : tie.Need-slice-aggregate-next-round-11 Inv-loop μ-loop
+slice-aggregate-next-round-11 c = sym (c .before .before .before .before .before .before .before .before .before .before .before .before .before .loop .inv .4)
 
 next-round-requires : tie.Need-next-round-requires Inv-loop μ-loop
 next-round-requires c κs =
-    let l = c .before .before .before .before .before .before .before .before .before .before .before in
-    let s = first l in
-    let asked = firsts-part (board s) (c .before .before .before .before .before .before .before .before .before .before .before .before .before .before .before .before .before .before .before .first-conditions .result) (c .before .before .before .before .before .before .before .before .before .before .before .before .before .before .before .before .before .before .before .first-conditions .ensures) in (
+    let l = c .before .before .before .before .before .before .before .before .before .before .before .before .before in
+    let s = first l in (
       fit s .1,
       (
-        (stays (c .before .before .before .before .before .before .before .before .before .before .before .before .before .before .before .before .before .before .before .before .before), asked, s .pre .1 .1 .0, l .loop .inv .5, l .loop .inv .6, c .before .before .before .before .before .before .before .before .before .before .before .before .before .before .before .before .before .before .before .before .before .before .before .still-leaves .ensures),
+        (
+          stays (c .before .before .before .before .before .before .before .before .before .before .before .before .before .before .before .before .before .before .before .before .before .before .before .before .before .before .before .before .before .before),
+          asked (c .before .before .before .before .before .before .before .before .before .before .before .before .before .before .before .before .before .before .before .before .before .before .before .before .before .before .before .before),
+          s .pre .1 .1 .0,
+          l .loop .inv .5,
+          l .loop .inv .6,
+          c .before .before .before .before .before .before .before .before .before .before .before .before .before .before .before .before .before .before .before .before .before .before .before .before .before .before .before .before .before .before .before .before .still-leaves .ensures,
+          c .before .before .before .before .before .before .before .before .before .before .before .before .before .before .before .before .before .before .before .before .before .before .before .list-hops .ensures,
+          c .before .before .before .before .before .before .before .before .before .before .before .before .before .before .before .before .before .before .before .before .before .list-ways .ensures,
+        ),
         ((lists s .2, s .pre .1 .0 .1 .long, omega (arith, few l, s .pre .1 .1 .1 .1)), (room l, (l .loop .inv .3, l .loop .inv .4))),
       ),
     )
@@ -186,14 +229,14 @@ enum-known-round : tie.Need-enum-known-round Inv-loop μ-loop
 enum-known-round c = search needs
 
 same-length : tie.Need-same-length Inv-loop μ-loop
-same-length c = c .before .before .before .before .before .before .before .before .before .before .before .next-round .kept .1 .1 .1 .1 .1 .1 .1 .1 .1 .1 .1 .1 .1 .1 .1 .1 .1 .1 .0 ∙ long (c .before .before .before .before .before .before .before .before .before .before .before .before .before .before .before .before .before .before .before .before .before .before .before)
+same-length c = c .before .before .before .before .before .before .before .before .before .before .before .next-round .kept .1 .1 .1 .1 .1 .1 .1 .1 .1 .1 .1 .1 .1 .1 .1 .1 .1 .1 .1 .1 .0 ∙ long (c .before .before .before .before .before .before .before .before .before .before .before .before .before .before .before .before .before .before .before .before .before .before .before .before .before)
 
 same-length-2 : tie.Need-same-length-2 Inv-loop μ-loop
-same-length-2 c = c .before .before .before .before .before .before .before .before .before .before .before .next-round .kept .1 .1 .1 .1 .1 .1 .1 .1 .1 .1 .1 .1 .1 .1 .1 .1 .1 .1 .1 .0 ∙ c .before .before .before .before .before .before .before .before .before .before .before .before .before .before .before .before .before .before .before .before .before .before .before .loop .inv .1 ∙ sym (c .before .before .before .before .before .before .before .before .before .before .before .before .before .before .before .before .before .before .before .before .before .before .before .before .before .before .before .before .before .before .before .before .before .before .before .before .before .before .before .before .before .before .before .before .before .before .before .before .before .before .before .before .pre .1 .1 .1 .3)
+same-length-2 c = c .before .before .before .before .before .before .before .before .before .before .before .next-round .kept .1 .1 .1 .1 .1 .1 .1 .1 .1 .1 .1 .1 .1 .1 .1 .1 .1 .1 .1 .1 .1 .0 ∙ c .before .before .before .before .before .before .before .before .before .before .before .before .before .before .before .before .before .before .before .before .before .before .before .before .before .loop .inv .1 ∙ sym (first (c .before .before .before .before .before .before .before .before .before .before .before .before .before .before .before .before .before .before .before .before .before .before .before .before .before) .pre .1 .1 .1 .3)
 
 returns : tie.Need-returns Inv-loop μ-loop
 returns c =
-    let l = c .before .before .before .before .before .before .before .before .before .before .before .before .before .before .before .before .before .before .before .before .before .before .before in
+    let l = c .before .before .before .before .before .before .before .before .before .before .before .before .before .before .before .before .before .before .before .before .before .before .before .before .before in
     let s = first l in
     rw (c .before .round .given .1) at (c .before .before .before .before .before .before .before .before .before .before .before .next-round .ensures .0 (s .args .task) (fit s .0) (ahead l))
 
@@ -202,18 +245,18 @@ enum-known-round-2 c = search needs
 
 loop-less : tie.Need-loop-less Inv-loop μ-loop
 loop-less c =
-    let l = c .before .before .before .before .before .before .before .before .before .before .before .before .before .before .before .before .before .before .before .before .before .before .before in
+    let l = c .before .before .before .before .before .before .before .before .before .before .before .before .before .before .before .before .before .before .before .before .before .before .before .before .before in
     let s = first l in
     let n = c .before .before .before .before .before .before .before .before .before .before .before .next-round in
-    let told : Rounded (s .args .task) (s .args .nodes) (s .args .budget) (l .loop .run .begun) (allStates (s .args .task)) (n .last .1 .1 .1 .1 .1 .1 .1 .1 .1 .1 .1 .1 .1 .1 .1 .1 .1 .1 .0) (n .last .1 .1 .1 .1 .1 .1 .1 .1 .1 .1 .1 .1 .1 .1 .1 .1 .1 .1 .1 .0) (Goes (c .before .round2 .given .0 .0)) =
+    let told : Rounded (s .args .task) (s .args .nodes) (s .args .budget) (l .loop .run .begun) (allStates (s .args .task)) (n .last .1 .1 .1 .1 .1 .1 .1 .1 .1 .1 .1 .1 .1 .1 .1 .1 .1 .1 .1 .1 .0) (n .last .1 .1 .1 .1 .1 .1 .1 .1 .1 .1 .1 .1 .1 .1 .1 .1 .1 .1 .1 .1 .1 .0) (Goes (c .before .round2 .given .0 .0)) =
     rw (c .before .round2 .given .1) at (n .ensures .0 (s .args .task) (fit s .0) (ahead l)) in
     omega (arith, told .1, few l)
 
 loop-again : tie.Need-loop-again Inv-loop μ-loop
 loop-again c =
-    let l = c .before .before .before .before .before .before .before .before .before .before .before .before .before .before .before .before .before .before .before .before .before .before .before .loop in
+    let l = c .before .before .before .before .before .before .before .before .before .before .before .before .before .before .before .before .before .before .before .before .before .before .before .before .before .loop in
     let n = c .before .before .before .before .before .before .before .before .before .before .before .next-round in
-    (n .kept .1 .1 .1 .1 .1 .1 .1 .1 .1 .1 .1 .1 .1 .1 .1 .1 .1 .1 .0 ∙ l .inv .0, n .kept .1 .1 .1 .1 .1 .1 .1 .1 .1 .1 .1 .1 .1 .1 .1 .1 .1 .1 .1 .0 ∙ l .inv .1, (λ t f a. (rw (c .before .round2 .given .1) at (n .ensures .0 t f (l .inv .2 t f a))) .0), n .kept .1 .1 .1 .1 .1 .1 .1 .1 .1 .1 .1 .1 .1 .1 .1 .1 .1 .1 .1 .1 .1 .1 .0 ∙ l .inv .3, n .kept .1 .1 .1 .1 .1 .1 .1 .1 .1 .1 .1 .1 .1 .1 .1 .1 .1 .1 .1 .1 .1 .1 .1 .0 ∙ l .inv .4, n .ensures .1, n .kept .1 .1 .1 .1 .1 .1 .1 .1 .1 .1 .1 .1 .1 .1 .1 .1 .1 .1 .1 .1 .1 .0 ∙ l .inv .6)
+    (n .kept .1 .1 .1 .1 .1 .1 .1 .1 .1 .1 .1 .1 .1 .1 .1 .1 .1 .1 .1 .1 .0 ∙ l .inv .0, n .kept .1 .1 .1 .1 .1 .1 .1 .1 .1 .1 .1 .1 .1 .1 .1 .1 .1 .1 .1 .1 .1 .0 ∙ l .inv .1, (λ t f a. (rw (c .before .round2 .given .1) at (n .ensures .0 t f (l .inv .2 t f a))) .0), n .kept .1 .1 .1 .1 .1 .1 .1 .1 .1 .1 .1 .1 .1 .1 .1 .1 .1 .1 .1 .1 .1 .1 .1 .1 .0 ∙ l .inv .3, n .kept .1 .1 .1 .1 .1 .1 .1 .1 .1 .1 .1 .1 .1 .1 .1 .1 .1 .1 .1 .1 .1 .1 .1 .1 .1 .0 ∙ l .inv .4, n .ensures .1, n .kept .1 .1 .1 .1 .1 .1 .1 .1 .1 .1 .1 .1 .1 .1 .1 .1 .1 .1 .1 .1 .1 .1 .1 .0 ∙ l .inv .6)
 
 pub explore-spec : {M : Type 1} → statement M
 explore-spec =
@@ -228,6 +271,13 @@ explore-spec =
     still-actions-requires
     slice-aggregate-first-conditions
     first-conditions-requires
+    slice-aggregate-list-hops
+    slice-aggregate-list-hops-2
+    slice-aggregate-list-hops-3
+    slice-aggregate-list-hops-4
+    list-hops-requires
+    slice-aggregate-list-ways
+    list-ways-requires
     start-requires
     loop-holds
     slice-aggregate-next-round
@@ -239,6 +289,8 @@ explore-spec =
     slice-aggregate-next-round-7
     slice-aggregate-next-round-8
     slice-aggregate-next-round-9
+    slice-aggregate-next-round-10
+    slice-aggregate-next-round-11
     next-round-requires
     enum-known-round
     same-length

@@ -51,7 +51,7 @@ abbrev next-action : tie.In-loop Inv-loop μ-loop → ℕ
 next-action t = getD (now (start t .args .mets)) (t .before .loop .j) 0
 
 inside : (t : tie.In-loop Inv-loop μ-loop) → next-action t < start t .args .actions
-inside t = start t .pre .1 .0 .4 .inside (t .before .loop .j) (t .loop-test .taken)
+inside t = start t .pre .1 .0 .4 .listed .inside (t .before .loop .j) (t .loop-test .taken)
 
 reached : (t : tie.In-loop Inv-loop μ-loop) → let a = start t .args in let l = t .before .loop in
     Passed (board (start t)) (now (a .effects)) (now (a .goals)) (a .goal) (a .nodes) (a .u) (a .key) (now (a .table)) (now (a .scan)) (a .run)
@@ -72,7 +72,7 @@ turn-requires c κs =
     let few : s .args .u < l .going .count = omega (arith, s .pre .1 .1 .0 .4, l .inv .0 .more) in (
       s .pre .0,
       (
-        (s .pre .1 .0 .0, s .pre .1 .0 .1, s .pre .1 .0 .2, l .inv .2, s .pre .1 .0 .4 .holds (l .j) (t .loop-test .taken), s .pre .1 .0 .5),
+        (s .pre .1 .0 .0, s .pre .1 .0 .1, s .pre .1 .0 .2, l .inv .2, s .pre .1 .0 .4 .met (next-action t) (inside t) (s .pre .1 .0 .4 .listed .holds (l .j) (t .loop-test .taken)), s .pre .1 .0 .5),
         (
           (s .pre .1 .1 .0 .0, s .pre .1 .1 .0 .1, s .pre .1 .1 .0 .2, l .inv .1, few, inside t),
           (s .pre .1 .1 .1 .0 .0, l .inv .0 .room),

@@ -23,6 +23,9 @@ use Rattle.search.specs.Explore.{Search, Reason, finished, tableFull, budgetSpe
 use Rattle.search.specs.Explore.Laws.{ones, ones-le, flag-in, Base}
 use Rattle.search.specs.Explore.Rounds.{Holds, holds-start, start-ones, begin-base, round-ones, round-holds}
 use Rattle.search.specs.Explore.Turns.{waits-out, choose-some}
+use Rattle.search.specs.Plan.Real.{Rooted}
+use Rattle.search.specs.Plan.Found.{start-rooted, round-through}
+use Rattle.search.specs.Explore.Detours.{Sprung, sprung-begin}
 use Rattle.rows.specs.Row.{nodeIn, nodesIn}
 use Rattle.nodes.specs.Block.{retiredTo}
 use Rattle.nodes.specs.Block.Laws.{retired-length, retired-key}
@@ -208,10 +211,11 @@ module _ (S nodes : ℕ) (T O P : List ℕ) (r : Run) (u : ℕ) (room : Room S n
 
 -- ---- what is left of the search
 
--- what holds before each round: the search's own invariant, an expansion begun for each flag, the nodes are chained, and what is left of the search
--- is the whole
+-- what holds before each round: the search's own invariant, each node was made from one whose expansion has begun, an expansion begun for each flag, the nodes
+-- are chained, and what is left of the search is the whole
 pub record Ahead (t : Task) (nodes budget S : ℕ) (T O : List ℕ) (r : Run) : Type 0 where
   pub holds : Holds t nodes (searchOf S T O r)
+  pub rooted : Rooted t (searchOf S T O r)
   pub ones-is : r .begun ≡ ones (searchOf S T O r .done)
   pub cached : Cached t S T O r
   pub chained : Chained S T O (r .count)
@@ -234,6 +238,7 @@ ahead-start t nodes budget S T O r h e c chained =
     let z : r .begun ≡ 0 = sym (begun-is S T O r) ∙ ap (λ (s : Search). s .begun) e ∙ start-begun t in
     record {
       holds = rw e (holds-start t nodes h);
+      rooted = rw e (start-rooted t);
       ones-is = rw (e, z) (sym (start-ones t nodes));
       cached = c;
       chained = chained;
@@ -292,6 +297,7 @@ module _ (t : Task) (ok : Valid t) (nodes : ℕ) (few : nodes ≤ 4096) (budget 
 
       module _ (w : Turned) (T′ O′ : List ℕ)
           (h : Base t nodes (searchOf S T P (begun r)) → Cached t S T P (begun r) → getD O u 0 ≡ min (key t (nodeIn S T u)) mark
+          → (0 < u → Sprung t (searchOf S T P (begun r)) u)
           → (expand t nodes u (t .actions) 0 (searchOf S T P (begun r)) ≡ expandedOf w (searchOf S T′ O′ (w .run)))
           × Cached t S T′ O′ (w .run)) where
         -- the expansion by the table is that of the round
@@ -302,7 +308,9 @@ module _ (t : Task) (ok : Valid t) (nodes : ℕ) (few : nodes ≤ 4096) (budget 
             let waited = waiting t ok nodes few S T O r (a .holds .base) (a .cached) u waits-chosen in
             let own : getD O u 0 ≡ min (key t (nodeIn S T u)) mark =
             omega (arith, waited .1, waited .2, cap t ok nodes few S T O r (a .holds .base) (a .cached)) in
-            let (x, c) = h v (begin-cached S T O P r u (omega (arith, ahead-in)) keyed t (a .cached)) own in
+            let sprung : 0 < u → Sprung t (searchOf S T P (begun r)) u =
+            λ l. rw begins (sprung-begin t nodes (searchOf S T O r) u (a .holds) (a .rooted) l (omega (arith, ahead-in, kept-length S T O r))) in
+            let (x, c) = h v (begin-cached S T O P r u (omega (arith, ahead-in)) keyed t (a .cached)) own sprung in
             (ap (expand t nodes u (t .actions) 0) (sym begins) ∙ x, c)
 
         -- it found the table full
@@ -322,6 +330,7 @@ module _ (t : Task) (ok : Valid t) (nodes : ℕ) (few : nodes ≤ 4096) (budget 
             let m : nodes - r .begun ≡ suc nodes - w .run .begun = omega arith in
             record {
               holds = round-holds t nodes u (searchOf S T O r) (searchOf S T′ O′ (w .run)) (a .holds) waits-chosen x;
+              rooted = round-through t nodes (searchOf S T O r) (searchOf S T′ O′ (w .run)) u (a .rooted) p x;
               ones-is = omega (arith, round-ones t nodes u (searchOf S T O r) (searchOf S T′ O′ (w .run)) (a .holds) waits-chosen x, a .ones-is);
               cached = expands .1;
               chained = chained;

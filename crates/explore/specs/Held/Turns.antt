@@ -1,9 +1,11 @@
 -- The cases of a turn and of an expansion by tables, one law for each. Assumes nothing.
 use mathlib.Core.Path.{_≡_, refl, sym, ap, _∙_}
+use mathlib.Core.Logic.{_⊎_, inl, inr}
 use mathlib.Core.Bool.{Bool, true, false, not}
 use mathlib.Core.List.{List, _++_}
 use Prim.Native.Nat.{ℕ, zero, suc, _+_, _-_, _*_, _≤_, _<_, min}
 use native.Mathlib.Nat.{lt-of-lt-of-le}
+use native.Mathlib.Numerals.{add-one}
 use native.Mathlib.Decide.{ℕ-discrete}
 use native.Mathlib.Omega.{arith}
 use borrow.Author.Tests.{le-ltb, eq-eqb, ne-eqb}
@@ -14,28 +16,31 @@ use Rattle.loops.specs.Count.Laws.{told-true, told-false, list-at}
 use Rattle.task.specs.declared.Task.{Task}
 use Rattle.task.specs.declared.Centre.{Centre}
 use Rattle.task.specs.Meaning.{factor, condition, effect, cost}
-use Rattle.task.specs.Factors.{allStates, centreAction}
+use Rattle.task.specs.Factors.{states, allStates, centreAction}
 use Rattle.task.specs.Centre.{centreMeets, centreAfter}
 use Rattle.leaf.specs.Price.{mark}
 use Rattle.layer.specs.Layer.{nextPrices, appliesTo, nextCentre}
 use Rattle.layer.specs.Layer.Laws.{next-length}
 use Rattle.layer.specs.Layer.Front.{part-front, applies-front, after-list}
-use Rattle.layer.specs.Board.{Board, rowOn, metOn, beginOn, settledOn, appliesOn}
-use Rattle.layer.specs.Board.Laws.{joined-ext, row-on, met-on, applies-on}
-use Rattle.mets.specs.Listed.{Listed, past, past-next, past-end, listed-gap}
+use Rattle.layer.specs.Board.{Board, rowOn, statesOn, metOn, beginOn, settledOn, appliesOn}
+use Rattle.layer.specs.Board.Laws.{joined-ext, states-on, row-on, met-on, applies-on}
+use Rattle.mets.specs.Listed.{past, past-next, past-end, listed-gap}
 use Rattle.search.specs.Node.{Node, nextNode, key}
 use Rattle.search.specs.Made.{Made, made-next}
 use Rattle.search.specs.Small.{made-key, made-paid}
 use Rattle.search.specs.Begin.{beginPrices, beginNode, begin-on, settled-next, begin-length, key-begin, dominates-begin, blocked-begin}
 use Rattle.search.specs.Explore.{Search, nodeAt, belowBest, on, full, offer, turn, through, filled, expand}
-use Rattle.search.specs.Explore.Laws.{Base}
+use Rattle.search.specs.Explore.Laws.{Base, Grows, grows-none, grows-on}
 use Rattle.search.specs.Explore.Turns.{turn-on}
+use Rattle.search.specs.Hop.{Hop, Detour}
+use Rattle.search.specs.Explore.Detours.{Sprung, detour-turn}
 use Rattle.rows.specs.Row.{nodeIn}
 use Rattle.rows.specs.Scan.{keyBy}
 use Rattle.offers.specs.declared.Run.{Run}
 use Rattle.offers.specs.declared.Turned.{Turned}
 use Rattle.begins.specs.Still.{key-rises}
-use Rattle.explore.specs.Held.{Suits, expandedOf, Moved, Grown, Done}
+use Rattle.hops.specs.Hops.{HopOn}
+use Rattle.explore.specs.Held.{Suits, expandedOf, Aside, Useful, Moved, Grown, Done}
 use Rattle.offers.specs.Held.{searchOf, Cached, Scans, Room, Has, Stands, settledWords, begunNode, settledNode, Alike, Offered}
 use Rattle.offers.specs.Held.Offers.{went-same}
 use Rattle.offers.specs.Held.Laws.{kept-length, node-at, below-is, key-any, goal-is, search-recalled}
@@ -264,10 +269,62 @@ climb P a n h step p = let z : a + (n - a) ≡ n = omega arith in rw z at (go (n
     go zero l = let z : a + 0 ≡ a = omega arith in rw z p
     go (suc k) l = let z : a + suc k ≡ a + k + 1 = omega arith in rw z (step (a + k) (omega arith) (omega arith) (go k (omega arith)))
 
--- what is left of the expansion from action a on is the whole, and node u is as it was
+-- ---- hops
+
+module _ (b : Board) (effects goals goalPairs : List ℕ) (t : Task) (suits : Suits t b effects goals goalPairs) where
+  -- a hop by the tables is one of the task
+  hop-task : (a v x z : ℕ) → a < b .actions → HopOn b effects a v x z → Hop t a v x z
+  hop-task a v x z known h =
+      record {
+        known = here;
+        central = sym (suits .fits .kinds-centre a here) ∙ eq-eqb _ _ (h .central);
+        stays = λ i y l k.
+            let m : i < b .leaves = omega (arith, suits .fits .leaves-is) in
+            let e : statesOn b i ≡ states t (suc i) = states-on t b (suits .fits) i l in
+            sym (suits .fits .moves-is i a y l here k) ∙ h .stays i y m (omega arith) ∙ add-one y;
+        within = h .within;
+        own = rw (← suits .fits .factors-is) (h .own);
+        from = rw (← suits .fits .conditions-is) (h .from);
+        from-named = λ e. omega (arith, h .from-value);
+        into = rw (← suits .effects-is) (h .into);
+        into-named = λ e. omega (arith, h .into-value);
+        conditions-free = λ w l d. rw (← suits .fits .conditions-is) (h .conditions-free w l d);
+        effects-free = λ w l d. rw (← suits .effects-is) (h .effects-free w l d);
+      }
+    where
+      here : a < t .actions
+      here = omega (arith, suits .fits .actions-is)
+
+  -- a detour by the tables is one of the task
+  aside-detour : (T : List ℕ) (u : ℕ) (old : List ℕ) (a : ℕ) → a < b .actions → Aside b effects T u old a → Detour t (nodeIn (rowOn b) T u .action) a
+  aside-detour T u old a known e =
+      record {
+        v = e .v;
+        x = e .x;
+        y = e .y;
+        w = e .w;
+        z = e .z;
+        first = hop-task _ _ _ _ (e .known) (e .first);
+        second = hop-task _ _ _ _ known (e .second);
+        way = way (e .way);
+      }
+    where
+      by : ℕ
+      by = nodeIn (rowOn b) T u .action
+
+      costs : (d : ℕ) → d < b .actions → getD (b .costs) d 0 ≡ cost t d
+      costs d l = suits .fits .costs-is d (omega (arith, suits .fits .actions-is))
+
+      way : (e .z ≡ e .x) ⊎ ((d : ℕ) × ((d < b .actions) × (HopOn b effects d (e .v) (e .x) (e .z) × (getD (b .costs) d 0 ≤ getD (b .costs) by 0 + getD (b .costs) a 0))))
+          → (e .z ≡ e .x) ⊎ ((d : ℕ) × (Hop t d (e .v) (e .x) (e .z) × (cost t d ≤ cost t by + cost t a)))
+      way (inl q) = inl q
+      way (inr (d, (l, (h, c)))) = inr (d, (hop-task _ _ _ _ l h, omega (arith, costs d l, costs by (e .known), costs a known)))
+
+-- what is left of the expansion from action a on is the whole, the search has grown, and node u is as it was
 pub record Left (t : Task) (nodes u S : ℕ) (T₀ O₀ : List ℕ) (r₀ : Run) (T O : List ℕ) (r : Run) (a : ℕ) : Type 0 where
   pub whole : expand t nodes u (t .actions) 0 (searchOf S T₀ O₀ r₀) ≡ expand t nodes u (t .actions - a) a (searchOf S T O r)
   pub base : Base t nodes (searchOf S T O r)
+  pub grows : Grows t (searchOf S T₀ O₀ r₀) (searchOf S T O r)
   pub held : Cached t S T O r
   pub node : nodeIn S T u ≡ nodeIn S T₀ u
 
@@ -275,7 +332,8 @@ module _ (b : Board) (effects goals goalPairs : List ℕ) (nodes u opens : ℕ) 
   -- the same for every task whose tables these are
   abbrev pub Along : List ℕ → List ℕ → Run → ℕ → Type 0
   Along T O r a = (t : Task) → Suits t b effects goals goalPairs → Base t nodes (searchOf (rowOn b) T₀ O₀ r₀) → Cached t (rowOn b) T₀ O₀ r₀
-      → opens ≡ min (key t (nodeIn (rowOn b) T₀ u)) mark → Left t nodes u (rowOn b) T₀ O₀ r₀ T O r a
+      → opens ≡ min (key t (nodeIn (rowOn b) T₀ u)) mark → (0 < u → Sprung t (searchOf (rowOn b) T₀ O₀ r₀) u)
+      → Left t nodes u (rowOn b) T₀ O₀ r₀ T O r a
 
   -- where the loop stands before action a
   pub record Passed (T O : List ℕ) (r : Run) (a : ℕ) : Type 0 where
@@ -297,7 +355,9 @@ module _ (b : Board) (effects goals goalPairs : List ℕ) (nodes u opens : ℕ) 
         scan-kept = refl;
         more = omega arith;
         begun-is = refl;
-        along = λ t suits v held isKey. let z : t .actions - 0 ≡ t .actions = omega arith in record { whole = rw z; base = v; held = held; node = refl };
+        along = λ t suits v held isKey sprung.
+            let z : t .actions - 0 ≡ t .actions = omega arith in
+            record { whole = rw z; base = v; grows = grows-none t (searchOf (rowOn b) T₀ O₀ r₀); held = held; node = refl };
       }
 
   -- the turn of action a, from there on
@@ -306,9 +366,9 @@ module _ (b : Board) (effects goals goalPairs : List ℕ) (nodes u opens : ℕ) 
       (m : Moved b effects goals goalPairs nodes spot paid old opens u a T O r T′ O′ w) where
     -- for a task: what is left before the turn, and what it gave
     module _ (t : Task) (suits : Suits t b effects goals goalPairs) (v : Base t nodes (searchOf (rowOn b) T₀ O₀ r₀)) (held : Cached t (rowOn b) T₀ O₀ r₀)
-        (isKey : opens ≡ min (key t (nodeIn (rowOn b) T₀ u)) mark) where
+        (isKey : opens ≡ min (key t (nodeIn (rowOn b) T₀ u)) mark) (sprung : 0 < u → Sprung t (searchOf (rowOn b) T₀ O₀ r₀) u) where
       before : Left t nodes u (rowOn b) T₀ O₀ r₀ T O r a
-      before = l .along t suits v held isKey
+      before = l .along t suits v held isKey sprung
 
       gave : Stands t (rowOn b) T′ O′ w (turn t nodes u a (searchOf (rowOn b) T O r))
       gave = m .moved t suits (before .base) (before .held) (rw (before .node) has) own
@@ -334,6 +394,7 @@ module _ (b : Board) (effects goals goalPairs : List ℕ) (nodes u opens : ℕ) 
           record {
             whole = before .whole ∙ expand-more t nodes u (t .actions) a _ _ one q;
             base = z .base;
+            grows = grows-on t (before .grows) (z .grows);
             held = gave .held;
             node =
                 sym (node-at (rowOn b) T′ O′ (w .run) t u (omega (arith, m .went .more)))
@@ -372,7 +433,7 @@ module _ (b : Board) (effects goals goalPairs : List ℕ) (nodes u opens : ℕ) 
           scan-kept = q ∙ l .scan-kept;
           more = omega (arith, l .more, m .went .more);
           begun-is = m .went .begun-is ∙ l .begun-is;
-          along = λ t suits v held isKey. behind t suits v held isKey e;
+          along = λ t suits v held isKey sprung. behind t suits v held isKey sprung e;
         }
 
     -- the table was full at it
@@ -380,7 +441,7 @@ module _ (b : Board) (effects goals goalPairs : List ℕ) (nodes u opens : ℕ) 
         → Grown b nodes r₀ T′ O′ w × Done b effects goals goalPairs nodes u opens T₀ O₀ r₀ T′ O′ w
     passed-full e = (
       (omega (arith, l .more, m .went .more), m .went .room, m .went .begun-is ∙ l .begun-is, m .went .chained (l .room .chained)),
-      λ t suits. rw (← row-on t b (suits .fits)) (λ v held isKey. ended t suits v held isKey e),
+      λ t suits. rw (← row-on t b (suits .fits)) (λ v held isKey sprung. ended t suits v held isKey sprung e),
     )
 
   -- actions whose centre conditions do not hold are passed by
@@ -399,28 +460,67 @@ module _ (b : Board) (effects goals goalPairs : List ℕ) (nodes u opens : ℕ) 
         moved (yes k) = moved-unmet b effects goals goalPairs nodes spot paid old opens u a T O r few (l .room .count-few) known inside k false (sym e) refl
         moved (no k) = moved-leaf b effects goals goalPairs nodes spot paid old opens u a T O r few (l .room .count-few) known inside k
 
-    passed-skip : (a n : ℕ) → a ≤ n → n ≤ b .actions → ((i : ℕ) → a ≤ i → i < n → metOn b spot i ≡ false) → Passed T O r a → Passed T O r n
-    passed-skip a n h m e l = climb (Passed T O r) a n h (λ i p q x. passed-unmet i (lt-of-lt-of-le q m) (e i p q) x) l
+    -- a detour leaves the search as it is
+    passed-aside : (a : ℕ) → a < b .actions → Aside b effects T₀ u old a → Passed T O r a → Passed T O r (a + 1)
+    passed-aside a known e l =
+        record {
+          inside = omega arith;
+          room = l .room;
+          table-kept = l .table-kept;
+          scan-kept = l .scan-kept;
+          more = l .more;
+          begun-is = l .begun-is;
+          along = λ t suits v held isKey sprung.
+              let x = l .along t suits v held isKey sprung in
+              record {
+                whole = x .whole ∙ expand-more t nodes u (t .actions) a _ _ (omega (arith, suits .fits .actions-is)) (aside-turn t suits (sprung (omega (arith, e .lower))) (x .grows));
+                base = x .base;
+                grows = x .grows;
+                held = x .held;
+                node = x .node;
+              };
+        }
+      where
+        aside-turn : (t : Task) → Suits t b effects goals goalPairs → Sprung t (searchOf (rowOn b) T₀ O₀ r₀) u
+            → Grows t (searchOf (rowOn b) T₀ O₀ r₀) (searchOf (rowOn b) T O r) → turn t nodes u a (searchOf (rowOn b) T O r) ≡ on (searchOf (rowOn b) T O r)
+        aside-turn t suits sprung grows =
+            let s₀ = searchOf (rowOn b) T₀ O₀ r₀ in
+            let own : nodeAt t s₀ u ≡ nodeIn (rowOn b) T₀ u = node-at (rowOn b) T₀ O₀ r₀ t u within in
+            let up : nodeAt t s₀ (nodeIn (rowOn b) T₀ u .parent) ≡ nodeIn (rowOn b) T₀ (nodeIn (rowOn b) T₀ u .parent) =
+            node-at (rowOn b) T₀ O₀ r₀ t (nodeIn (rowOn b) T₀ u .parent) (omega (arith, e .lower)) in
+            let prices : nodeAt t s₀ u .prices ≡ nodeAt t s₀ (nodeAt t s₀ u .parent) .prices = rw (own, up, e .alike) (has .prices-is) in
+            detour-turn t (suits .valid) nodes u s₀ (searchOf (rowOn b) T O r) grows (omega (arith, kept-length (rowOn b) T₀ O₀ r₀)) sprung prices a
+            (rw own (aside-detour b effects goals goalPairs t suits T₀ u old a known e))
 
-    -- where all actions whose conditions hold are listed: up to the next of them, and behind the last
-    module _ (acts : List ℕ) (listed : Listed (metOn b spot) (b .actions) (length acts) (λ j. getD acts j 0)) where
+    passed-skip : (a n : ℕ) → a ≤ n → n ≤ b .actions → ((i : ℕ) → a ≤ i → i < n → (metOn b spot i ≡ false) ⊎ Aside b effects T₀ u old i) → Passed T O r a
+        → Passed T O r n
+    passed-skip a n h m e l = climb (Passed T O r) a n h (λ i p q. one i (lt-of-lt-of-le q m) (e i p q)) l
+      where
+        one : (i : ℕ) → i < b .actions → (metOn b spot i ≡ false) ⊎ Aside b effects T₀ u old i → Passed T O r i → Passed T O r (i + 1)
+        one i k (inl f) = passed-unmet i k f
+        one i k (inr f) = passed-aside i k f
+
+    -- where all actions are listed that need a turn: up to the next of them, and behind the last
+    module _ (acts : List ℕ) (useful : Useful b effects spot T₀ u old (length acts) (λ j. getD acts j 0)) where
       pub passed-next : (j : ℕ) → j < length acts → Passed T O r (past (λ i. getD acts i 0) j) → Passed T O r (getD acts j 0)
       passed-next j l =
+          let listed = useful .listed in
           let inside = listed .inside j l in
           passed-skip _ _ (past-next _ _ _ _ listed j l) (omega (arith, inside))
-          (λ i p q. listed-gap _ _ _ _ listed j i (omega arith) (omega (arith, inside)) p (λ _. q))
+          (λ i p q. useful .out i (omega (arith, inside)) (listed-gap _ _ _ _ listed j i (omega arith) (omega (arith, inside)) p (λ _. q)))
 
       pub passed-last : Passed T O r (past (λ i. getD acts i 0) (length acts)) → Passed T O r (b .actions)
       passed-last =
+          let listed = useful .listed in
           passed-skip _ _ (past-end _ _ _ _ listed (length acts) (omega arith)) (omega arith)
-          (λ i p q. listed-gap _ _ _ _ listed (length acts) i (omega arith) q p (λ h. absurd (omega (arith, h))))
+          (λ i p q. useful .out i q (listed-gap _ _ _ _ listed (length acts) i (omega arith) q p (λ h. absurd (omega (arith, h)))))
 
   -- behind the last action
   pub passed-all : (T O : List ℕ) (r : Run) (a : ℕ) → b .actions ≤ a → Passed T O r a
       → Grown b nodes r₀ T O (record { full = false; run = r }) × Done b effects goals goalPairs nodes u opens T₀ O₀ r₀ T O (record { full = false; run = r })
   passed-all T O r a end l = (
     (l .more, l .room .count-few, l .begun-is, l .room .chained),
-    λ t suits. rw (← row-on t b (suits .fits)) (λ v held isKey. last t suits (l .along t suits v held isKey)),
+    λ t suits. rw (← row-on t b (suits .fits)) (λ v held isKey sprung. last t suits (l .along t suits v held isKey sprung)),
   )
     where
       last : (t : Task) → Suits t b effects goals goalPairs → Left t nodes u (rowOn b) T₀ O₀ r₀ T O r a

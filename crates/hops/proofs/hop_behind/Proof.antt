@@ -1,0 +1,119 @@
+-- `hops::hop_behind` meets its contract: the parent's row lies within the table. Assumes nothing.
+use mathlib.Core.Path.{refl}
+use Prim.Native.Nat.{_+_, _*_, _≤_}
+use native.Mathlib.Omega.{arith}
+use lib.ListN.{length, getD}
+use borrow.Author.Tests.{not-false}
+use Rattle.hops.specs.Hops.Laws.{row-before, hop-read}
+use borrow.Author.Needs.{needs}
+use Rattle.hops.proofs.hop_behind.Statement.{statement}
+use Rattle.hops.proofs.hop_behind.Tie as tie
+
+-- where the parent's prices are compared: its row lies within the table
+fits : (c : tie.Else3) → let a = c .before .before .before .before .before .before .before .before .before .args in
+    getD (a .table .now) (a .u * (40 + a .states) + 33) 0 * (40 + a .states) + (40 + a .states) ≤ length (a .table .now)
+fits c =
+    let s = c .before .before .before .before .before .before .before .before .before in
+    row-before (s .args .states) (s .args .u) _ (length (s .args .table .now)) (c .before .before .before .if1 .left) (s .pre .2)
+
+add-wide : tie.Need-add-wide
+add-wide c = search needs
+
+mul-at : tie.Need-mul-at
+mul-at c = search needs
+
+add-parent : tie.Need-add-parent
+add-parent c = search needs
+
+mul-parent : tie.Need-mul-parent
+mul-parent c = search needs
+
+shared-slice-read-parent : tie.Need-shared-slice-read-parent
+shared-slice-read-parent c = search needs
+
+add-action : tie.Need-add-action
+add-action c = search needs
+
+mul-action : tie.Need-mul-action
+mul-action c = search needs
+
+shared-slice-read-action : tie.Need-shared-slice-read-action
+shared-slice-read-action c = search needs
+
+returns : tie.Need-returns
+returns c = λ d. absurd (d refl)
+
+returns-2 : tie.Need-returns-2
+returns-2 c = λ d. absurd (d refl)
+
+mul-word : tie.Need-mul-word
+mul-word c = search needs
+
+shared-slice-read-word : tie.Need-shared-slice-read-word
+shared-slice-read-word c = search needs
+
+returns-3 : tie.Need-returns-3
+returns-3 c = λ d. absurd (d refl)
+
+mul-from : tie.Need-mul-from
+mul-from c = omega (arith, fits c, c .before .before .before .before .before .before .before .before .before .good)
+
+add-from : tie.Need-add-from
+add-from c = omega (arith, fits c, c .before .before .before .before .before .before .before .before .before .good)
+
+add-end : tie.Need-add-end
+add-end c = omega (arith, fits c, c .before .before .before .before .before .before .before .before .before .good)
+
+mul-same-words : tie.Need-mul-same-words
+mul-same-words c = omega (arith, fits c, c .before .before .before .before .before .before .before .before .before .good)
+
+sub-same-words : tie.Need-sub-same-words
+sub-same-words c = search needs
+
+part-same-words-start : tie.Need-part-same-words-start
+part-same-words-start c = search needs
+
+part-same-words-end : tie.Need-part-same-words-end
+part-same-words-end c = omega (arith, fits c)
+
+same-words-requires : tie.Need-same-words-requires
+same-words-requires c κs = search needs
+
+returns-4 : tie.Need-returns-4
+returns-4 c = λ d. absurd (d refl)
+
+returns-5 : tie.Need-returns-5
+returns-5 c =
+    let s = c .before .before .before .before .before .before .before .before .before .before .before .before in
+    let a = s .args in
+    λ _. hop-read (a .states) (a .u) (a .actions) (a .table .now) (a .hops .now) (a .prices .now) (s .pre .2)
+    (c .before .before .before .before .before .before .if1 .left) (c .before .before .before .before .before .if2 .left)
+    (c .before .same-words .ensures (not-false _ (c .if4 .left)))
+
+pub hop-behind-spec : {M : Type 1} → statement M
+hop-behind-spec =
+    tie.close
+    (tie.spec
+    add-wide
+    mul-at
+    add-parent
+    mul-parent
+    shared-slice-read-parent
+    add-action
+    mul-action
+    shared-slice-read-action
+    returns
+    returns-2
+    mul-word
+    shared-slice-read-word
+    returns-3
+    mul-from
+    add-from
+    add-end
+    mul-same-words
+    sub-same-words
+    part-same-words-start
+    part-same-words-end
+    same-words-requires
+    returns-4
+    returns-5)
