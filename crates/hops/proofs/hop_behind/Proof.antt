@@ -10,11 +10,11 @@ use Rattle.hops.proofs.hop_behind.Statement.{statement}
 use Rattle.hops.proofs.hop_behind.Tie as tie
 
 -- where the parent's prices are compared: its row lies within the table
-fits : (c : tie.Else3) → let a = c .before .before .before .before .before .before .before .before .before .args in
+fits : (c : tie.Else4) → let a = c .before .before .before .before .before .before .before .before .before .before .args in
     getD (a .table .now) (a .u * (40 + a .states) + 33) 0 * (40 + a .states) + (40 + a .states) ≤ length (a .table .now)
 fits c =
-    let s = c .before .before .before .before .before .before .before .before .before in
-    row-before (s .args .states) (s .args .u) _ (length (s .args .table .now)) (c .before .before .before .if1 .left) (s .pre .2)
+    let s = c .before .before .before .before .before .before .before .before .before .before in
+    row-before (s .args .states) (s .args .u) _ (length (s .args .table .now)) (c .before .before .before .if2 .left) (s .pre .2)
 
 add-wide : tie.Need-add-wide
 add-wide c = search needs
@@ -56,16 +56,16 @@ returns-3 : tie.Need-returns-3
 returns-3 c = λ d. absurd (d refl)
 
 mul-from : tie.Need-mul-from
-mul-from c = omega (arith, fits c, c .before .before .before .before .before .before .before .before .before .good)
+mul-from c = omega (arith, fits c, c .before .before .before .before .before .before .before .before .before .before .good)
 
 add-from : tie.Need-add-from
-add-from c = omega (arith, fits c, c .before .before .before .before .before .before .before .before .before .good)
+add-from c = omega (arith, fits c, c .before .before .before .before .before .before .before .before .before .before .good)
 
 add-end : tie.Need-add-end
-add-end c = omega (arith, fits c, c .before .before .before .before .before .before .before .before .before .good)
+add-end c = omega (arith, fits c, c .before .before .before .before .before .before .before .before .before .before .good)
 
 mul-same-words : tie.Need-mul-same-words
-mul-same-words c = omega (arith, fits c, c .before .before .before .before .before .before .before .before .before .good)
+mul-same-words c = omega (arith, fits c, c .before .before .before .before .before .before .before .before .before .before .good)
 
 sub-same-words : tie.Need-sub-same-words
 sub-same-words c = search needs
@@ -83,17 +83,21 @@ returns-4 : tie.Need-returns-4
 returns-4 c = λ d. absurd (d refl)
 
 returns-5 : tie.Need-returns-5
-returns-5 c =
-    let s = c .before .before .before .before .before .before .before .before .before .before .before .before in
+returns-5 c = λ d. absurd (d refl)
+
+returns-6 : tie.Need-returns-6
+returns-6 c =
+    let s = c .before .before .before .before .before .before .before .before .before .before .before .before .before in
     let a = s .args in
     λ _. hop-read (a .states) (a .u) (a .actions) (a .table .now) (a .hops .now) (a .prices .now) (s .pre .2)
-    (c .before .before .before .before .before .before .if1 .left) (c .before .before .before .before .before .if2 .left)
-    (c .before .same-words .ensures (not-false _ (c .if4 .left)))
+    (c .before .before .before .before .before .before .if2 .left) (c .before .before .before .before .before .if3 .left)
+    (c .before .same-words .ensures (not-false _ (c .if5 .left)))
 
 pub hop-behind-spec : {M : Type 1} → statement M
 hop-behind-spec =
     tie.close
     (tie.spec
+    returns
     add-wide
     mul-at
     add-parent
@@ -102,11 +106,11 @@ hop-behind-spec =
     add-action
     mul-action
     shared-slice-read-action
-    returns
     returns-2
+    returns-3
     mul-word
     shared-slice-read-word
-    returns-3
+    returns-4
     mul-from
     add-from
     add-end
@@ -115,5 +119,5 @@ hop-behind-spec =
     part-same-words-start
     part-same-words-end
     same-words-requires
-    returns-4
-    returns-5)
+    returns-5
+    returns-6)

@@ -8,6 +8,7 @@ use native.Mathlib.Nat.{not-suc-le-zero}
 use native.Mathlib.Decide.{decLe, ℕ-discrete}
 use native.Mathlib.Omega.{arith}
 use lib.Dec.{leb}
+use lib.Bits.{bitOr, bitXor, and-le-l, and-le-r, or-add-and, xor-add-and}
 use lib.ListN.{length, getD, set, take, drop, replicate, length-drop, length-set, length-replicate, getD-replicate, List·getD-eq-default}
 use lib.Seq.{length-take-le, drop-drop, getD-take, getD-drop, getD-set-same, getD-set-other, ext-getD}
 use borrow.Author.Tests.{eq-eqb, ne-eqb}
@@ -188,6 +189,14 @@ module _ (p d : ℕ → Bool) (n m : ℕ) (f : ℕ → ℕ) (s : Listed p n m f)
       (λ a low l. gap m a (omega arith) l low (λ h. absurd (omega arith))) t
 
 -- ---- words that are the same
+
+-- two words none of whose bits is set
+pub or-none : (x y : ℕ) → bitOr x y ≡ 0 → (x ≡ 0) × (y ≡ 0)
+or-none x y e = (omega (arith, or-add-and x y, and-le-r x y), omega (arith, or-add-and x y, and-le-l x y))
+
+-- two words that are apart in no bit
+pub xor-same : (x y : ℕ) → bitXor x y ≡ 0 → x ≡ y
+xor-same x y e = omega (arith, xor-add-and x y, and-le-l x y, and-le-r x y)
 
 -- the front of a list, by its entries
 pub same-front : (xs ys : List ℕ) → length xs ≤ length ys → ((k : ℕ) → k < length xs → getD xs k 0 ≡ getD ys k 0) → xs ≡ take (length xs) ys
