@@ -509,6 +509,7 @@ fn start(
         factors,
         goal,
         spot,
+        class_of(spot),
         0,
         0,
         0,

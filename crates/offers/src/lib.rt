@@ -22,7 +22,7 @@ ghost use Rattle.edges.specs.Edges.{Edges};
 ghost use Rattle.rows.specs.Begun.{readFrom, begunWords};
 ghost use Rattle.rows.specs.Row.{nodeWith};
 ghost use Rattle.rows.specs.Scan.{Cut, goalCostBy};
-ghost use Rattle.rows.specs.Sign.{signOf};
+ghost use Rattle.rows.specs.Sign.{classOf, signOf};
 ghost use Rattle.offers.specs.Held.{Room, Kept, Offered};
 
 // The search beside its table: nodes kept, expansions begun, one more than best's node (0 for none), best's goal cost (the mark for none).
@@ -50,8 +50,8 @@ fn sign_behind(swept: bool, sign: u64, prices: &[u64]) -> u64
     sign
 }
 
-// A node under the next number: its row, its scan words (key, signature, links), and the new best. `sign` is the signature of its layer's begin, and
-// `swept` whether a leaf was swept since.
+// A node under the next number: its row, its scan words (key, signature, links), and the new best. `class` is its centre state's class, `sign` the signature of
+// its layer's begin, and `swept` whether a leaf was swept since.
 pub fn keep(
     leaves: usize,
     bases: &[usize],
@@ -59,6 +59,7 @@ pub fn keep(
     factors: [u8; 32],
     goal: [u8; 32],
     spot: Centre,
+    class: usize,
     paid: u64,
     parent: usize,
     action: usize,
@@ -73,7 +74,7 @@ pub fn keep(
     requires { ⌜ Cut leaves (now bases) (length (now prices)) × Cut leaves (now bases) (length (now goals)) ⌝ }
     requires { ⌜ (getD (now bases) leaves 0 ≤ 1024) × (run .count < 4096) × ((run .count + 1) * (40 + getD (now bases) leaves 0) ≤ length (now table))
         × (length (now scan) ≡ 42256) ⌝ }
-    requires { ⌜ (swept ≡ false → sign ≡ signOf (take (getD (now bases) leaves 0) (now prices))) ⌝ }
+    requires { ⌜ (swept ≡ false → sign ≡ signOf (take (getD (now bases) leaves 0) (now prices))) × (class ≡ classOf spot) ⌝ }
     ensures { λ r. ⌜ Kept (getD (now (bases .entry)) leaves 0) (now (table .entry)) (now (scan .entry)) run
         (nodeWith spot paid (take (getD (now (bases .entry)) leaves 0) (now (prices .entry))) parent action) key
         (goalCostBy leaves (now (bases .entry)) (now (goals .entry)) factors goal spot paid (now (prices .entry)))
@@ -94,7 +95,6 @@ pub fn keep(
         prices,
     );
     let own = sign_behind(swept, sign, &prices[..states]);
-    let class = class_of(spot);
     link(scan, count, key, own, class);
     let cost = goal_cost(leaves, bases, goals, factors, goal, spot, paid, prices);
     if cost < run.best_cost {
@@ -275,6 +275,7 @@ pub fn offer(
         factors,
         goal,
         spot,
+        class,
         paid,
         parent,
         action,

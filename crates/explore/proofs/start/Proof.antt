@@ -87,15 +87,18 @@ slice-aggregate-key-of c = search needs
 key-of-requires : tie.Need-key-of-requires
 key-of-requires c κs = layer-cut (c .before .before)
 
+class-of-requires : tie.Need-class-of-requires
+class-of-requires c κs = search needs
+
 slice-aggregate-keep : tie.Need-slice-aggregate-keep
 slice-aggregate-keep c = search needs
 
 keep-requires : tie.Need-keep-requires
 keep-requires c κs =
-    let s = c .before .before .before .before .before .before .before .before .before .before .before .before .before .before .before .before .before .before .before .before .before .before .before .before .before .before .before .before .before in
+    let s = c .before .before .before .before .before .before .before .before .before .before .before .before .before .before .before .before .before .before .before .before .before .before .before .before .before .before .before .before .before .before in
     let w = fit s in (
-      (layer-cut (c .before .before .before .before .before .before), cut {n = length (now (s .args .goals))} (w .1) (omega (arith, w .1 .few-all, s .pre .1 .0 .1 .long))),
-      ((w .1 .few-all, omega arith, omega (arith, row-on (s .args .task) (board s) (w .0 .fits), s .pre .1 .1 .0), wide (c .before .before .before .before .before .before .before .before .before .before .before .before .before .before .before .before .before .before .before)), λ e. absurd (true≢false e)),
+      (layer-cut (c .before .before .before .before .before .before .before), cut {n = length (now (s .args .goals))} (w .1) (omega (arith, w .1 .few-all, s .pre .1 .0 .1 .long))),
+      ((w .1 .few-all, omega arith, omega (arith, row-on (s .args .task) (board s) (w .0 .fits), s .pre .1 .1 .0), wide (c .before .before .before .before .before .before .before .before .before .before .before .before .before .before .before .before .before .before .before .before)), (λ e. absurd (true≢false e), c .before .before .before .class-of .ensures)),
     )
 
 same-length : tie.Need-same-length
@@ -103,23 +106,23 @@ same-length c = search needs
 
 same-length-2 : tie.Need-same-length-2
 same-length-2 c =
-    let f = c .before .before .before .before .before .before .before .before .before .before .before .before .before .before .before .before .before .before .before .before .before .before .before .before in
+    let f = c .before .before .before .before .before .before .before .before .before .before .before .before .before .before .before .before .before .before .before .before .before .before .before .before .before in
     let k = c .before .before .before .before .keep in
-    let linked : length (k .last .1 .1 .1 .1 .1 .1 .1 .1 .1 .1 .1 .1 .1 .1 .0) ≡ length (f .fresh .last .0) = k .kept .1 .1 .1 .1 .1 .1 .1 .1 .1 .1 .1 .1 .1 .1 .0 in
+    let linked : length (k .last .1 .1 .1 .1 .1 .1 .1 .1 .1 .1 .1 .1 .1 .1 .1 .0) ≡ length (f .fresh .last .0) = k .kept .1 .1 .1 .1 .1 .1 .1 .1 .1 .1 .1 .1 .1 .1 .1 .0 in
     let cleared : length (f .fresh .last .0) ≡ length (now (f .before .before .before .before .before .before .before .before .before .before .args .scan)) = f .fresh .kept .0 in
     linked ∙ cleared
 
 returns : tie.Need-returns
 returns c =
-    let s = c .before .before .before .before .before .before .before .before .before .before .before .before .before .before .before .before .before .before .before .before .before .before .before .before .before .before .before .before .before .before .before .before .before .before in
+    let s = c .before .before .before .before .before .before .before .before .before .before .before .before .before .before .before .before .before .before .before .before .before .before .before .before .before .before .before .before .before .before .before .before .before .before .before in
     let a = s .args in
     let t = a .task in
-    let f = c .before .before .before .before .before .before .before .before .before .before .before .first-layer in
+    let f = c .before .before .before .before .before .before .before .before .before .before .before .before .first-layer in
     let k = c .before .before .before .before .keep in
-    let spot = c .before .before .before .before .before .before .before .before .before .before .before .before .before .before .after .ensures ∙ ap (centreAfter (factor t) (initial t)) (c .before .before .before .before .before .before .before .before .before .before .before .before .before .before .before .blank .ensures) ∙ initial-centre t (s .pre .0) in
-    start-is t (board s) (t .effects) (now (a .goals)) (t .goal) (fit s .0) (now (a .starts)) (s .pre .1 .0 .0 .is-starts) (c .before .before .before .before .before .before .before .before .before .before .before .before .before .before .after .result) (drop (getD (now (a .bases)) (t .leaves) 0) (replicate 1024 mark)) (f .last .1 .1 .1 .1 .1 .1 .1 .1 .1 .1 .0)
-    spot (f .ensures) (now (a .table)) (now (a .scan)) (c .before .before .before .before .before .before .before .before .before .before .before .before .before .before .before .before .before .before .before .before .before .before .before .before .fresh .last .0) (k .last .1 .1 .1 .1 .1 .1 .1 .1 .1 .1 .1 .1 .1 .0) (k .last .1 .1 .1 .1 .1 .1 .1 .1 .1 .1 .1 .1 .1 .1 .0) (k .result)
-    (c .before .before .before .before .before .before .before .before .key-of .result) (s .pre .1 .1 .1) (s .pre .1 .1 .2) (c .before .before .before .before .before .before .before .before .before .before .before .before .before .before .before .before .before .before .before .before .before .before .before .before .fresh .ensures) (c .before .before .before .before .before .before .before .before .key-of .ensures) (k .ensures)
+    let spot = c .before .before .before .before .before .before .before .before .before .before .before .before .before .before .before .after .ensures ∙ ap (centreAfter (factor t) (initial t)) (c .before .before .before .before .before .before .before .before .before .before .before .before .before .before .before .before .blank .ensures) ∙ initial-centre t (s .pre .0) in
+    start-is t (board s) (t .effects) (now (a .goals)) (t .goal) (fit s .0) (now (a .starts)) (s .pre .1 .0 .0 .is-starts) (c .before .before .before .before .before .before .before .before .before .before .before .before .before .before .before .after .result) (drop (getD (now (a .bases)) (t .leaves) 0) (replicate 1024 mark)) (f .last .1 .1 .1 .1 .1 .1 .1 .1 .1 .1 .0)
+    spot (f .ensures) (now (a .table)) (now (a .scan)) (c .before .before .before .before .before .before .before .before .before .before .before .before .before .before .before .before .before .before .before .before .before .before .before .before .before .fresh .last .0) (k .last .1 .1 .1 .1 .1 .1 .1 .1 .1 .1 .1 .1 .1 .1 .0) (k .last .1 .1 .1 .1 .1 .1 .1 .1 .1 .1 .1 .1 .1 .1 .1 .0) (k .result)
+    (c .before .before .before .before .before .before .before .before .before .key-of .result) (s .pre .1 .1 .1) (s .pre .1 .1 .2) (c .before .before .before .before .before .before .before .before .before .before .before .before .before .before .before .before .before .before .before .before .before .before .before .before .before .fresh .ensures) (c .before .before .before .before .before .before .before .before .before .key-of .ensures) (k .ensures)
 
 pub start-spec : {M : Type 1} → statement M
 start-spec =
@@ -135,6 +138,7 @@ start-spec =
     first-layer-requires
     slice-aggregate-key-of
     key-of-requires
+    class-of-requires
     slice-aggregate-keep
     keep-requires
     same-length

@@ -62,22 +62,19 @@ slice-aggregate-sign-behind c =
 sign-behind-requires : tie.Need-sign-behind-requires
 sign-behind-requires c κs = search needs
 
-class-of-requires : tie.Need-class-of-requires
-class-of-requires c κs = search needs
-
 link-requires : tie.Need-link-requires
 link-requires c κs =
-    let s = c .before .before .before .before .before .before .before .before .before .before .before .before .before .before in
-    (s .pre .1 .0 .3, s .pre .1 .0 .1, omega (arith, c .before .class-of .ensures, class-lt (s .args .spot)))
+    let s = c .before .before .before .before .before .before .before .before .before .before .before .before .before in
+    (s .pre .1 .0 .3, s .pre .1 .0 .1, omega (arith, s .pre .1 .1 .1, class-lt (s .args .spot)))
 
 goal-cost-requires : tie.Need-goal-cost-requires
 goal-cost-requires c κs = search needs
 
 add-t37 : tie.Need-add-t37
-add-t37 c = let s = c .before .before .before .before .before .before .before .before .before .before .before .before .before .before .before .before .before .before .before .before in omega (arith, s .pre .1 .0 .1)
+add-t37 c = let s = c .before .before .before .before .before .before .before .before .before .before .before .before .before .before .before .before .before .before .before in omega (arith, s .pre .1 .0 .1)
 
 add-t38 : tie.Need-add-t38
-add-t38 c = let s = c .before .before .before .before .before .before .before .before .before .before .before .before .before .before .before .before .before .before .before .before in omega (arith, s .pre .1 .0 .1)
+add-t38 c = let s = c .before .before .before .before .before .before .before .before .before .before .before .before .before .before .before .before .before .before .before in omega (arith, s .pre .1 .0 .1)
 
 same-length : tie.Need-same-length
 same-length c = search needs
@@ -87,15 +84,15 @@ same-length-2 c = search needs
 
 returns : tie.Need-returns
 returns c =
-    let w = c .before .before .before .before .before .before .before .before .before .before .before .before in
+    let w = c .before .before .before .before .before .before .before .before .before .before .before in
     let s = w .before .before .before .before .before .before .before .before in
     kept-best (S s) (now (s .args .table)) (now (s .args .scan)) (s .args .run) (node s) (s .args .key) (cost s) (w .write-row .last .0) _
-    (omega arith) (omega arith) (w .write-row .ensures .0) (w .write-row .ensures .1) (s .pre .1 .0 .1) (c .before .before .before .before .before .link .last .0) (c .before .before .before .before .before .before .before .before .sign-behind .result) (c .before .before .before .before .before .before .before .class-of .result)
-    (c .before .before .before .before .before .before .before .before .sign-behind .ensures) (c .before .before .before .before .before .before .before .class-of .ensures) (c .before .before .before .before .before .link .ensures)
+    (omega arith) (omega arith) (w .write-row .ensures .0) (w .write-row .ensures .1) (s .pre .1 .0 .1) (c .before .before .before .before .before .link .last .0) (c .before .before .before .before .before .before .before .sign-behind .result) (s .args .class)
+    (c .before .before .before .before .before .before .before .sign-behind .ensures) (s .pre .1 .1 .1) (c .before .before .before .before .before .link .ensures)
     (c .before .before .goal-cost .result) (c .before .before .goal-cost .ensures) (c .if1 .taken)
 
 add-t27 : tie.Need-add-t27
-add-t27 c = let s = c .before .before .before .before .before .before .before .before .before .before .before .before .before .before .before .before .before .before .before .before in omega (arith, s .pre .1 .0 .1)
+add-t27 c = let s = c .before .before .before .before .before .before .before .before .before .before .before .before .before .before .before .before .before .before .before in omega (arith, s .pre .1 .0 .1)
 
 same-length-3 : tie.Need-same-length-3
 same-length-3 c = search needs
@@ -105,11 +102,11 @@ same-length-4 c = search needs
 
 returns-2 : tie.Need-returns-2
 returns-2 c =
-    let w = c .before .before .before .before .before .before .before .before .before .before .before .before in
+    let w = c .before .before .before .before .before .before .before .before .before .before .before in
     let s = w .before .before .before .before .before .before .before .before in
     kept-other (S s) (now (s .args .table)) (now (s .args .scan)) (s .args .run) (node s) (s .args .key) (cost s) (w .write-row .last .0) _
-    (omega arith) (omega arith) (w .write-row .ensures .0) (w .write-row .ensures .1) (s .pre .1 .0 .1) (c .before .before .before .before .before .link .last .0) (c .before .before .before .before .before .before .before .before .sign-behind .result) (c .before .before .before .before .before .before .before .class-of .result)
-    (c .before .before .before .before .before .before .before .before .sign-behind .ensures) (c .before .before .before .before .before .before .before .class-of .ensures) (c .before .before .before .before .before .link .ensures)
+    (omega arith) (omega arith) (w .write-row .ensures .0) (w .write-row .ensures .1) (s .pre .1 .0 .1) (c .before .before .before .before .before .link .last .0) (c .before .before .before .before .before .before .before .sign-behind .result) (s .args .class)
+    (c .before .before .before .before .before .before .before .sign-behind .ensures) (s .pre .1 .1 .1) (c .before .before .before .before .before .link .ensures)
     (c .before .before .goal-cost .result) (c .before .before .goal-cost .ensures) (c .if1 .left)
 
 pub keep-spec : {M : Type 1} → statement M
@@ -128,7 +125,6 @@ keep-spec =
     write-row-requires
     slice-aggregate-sign-behind
     sign-behind-requires
-    class-of-requires
     link-requires
     goal-cost-requires
     add-t37

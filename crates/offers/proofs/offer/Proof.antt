@@ -155,7 +155,10 @@ keep-requires c κs =
       (cut {n = length new} (s .pre .0) (omega (arith, filled f)), s .pre .1 .1 .0 .1),
       (
         (room .few-states, omega (arith, room .few-nodes), rows-fit room (s .args .run .count + 1) (omega arith), long ∙ room .scan-long),
-        λ e. s .pre .1 .1 .1 .0 .0 ∙ ap (λ (xs : List ℕ). signOf (take (rowOn (board s)) xs)) (sym (n .ensures .2 e ∙ f .fill-begin .ensures)),
+        (
+          λ e. s .pre .1 .1 .1 .0 .0 ∙ ap (λ (xs : List ℕ). signOf (take (rowOn (board s)) xs)) (sym (n .ensures .2 e ∙ f .fill-begin .ensures)),
+          c .before .before .before .before .before .before .before .before .before .before .before .before .before .before .before .before .before .before .before .before .before .before .before .class-of .ensures,
+        ),
       ),
     )
 
@@ -169,7 +172,7 @@ same-length-9 : tie.Need-same-length-9
 same-length-9 c =
     let d = c .before .before .before .before .before .before .before .before .before .before .before .before .before .before .before .before .before .before .before .before .before .before .before in
     let w = c .before .before .before .before .keep in
-    let kept : length (w .last .1 .1 .1 .1 .1 .1 .1 .1 .1 .1 .1 .1 .1 .1 .0) ≡ length (words d) = w .kept .1 .1 .1 .1 .1 .1 .1 .1 .1 .1 .1 .1 .1 .1 .0 in
+    let kept : length (w .last .1 .1 .1 .1 .1 .1 .1 .1 .1 .1 .1 .1 .1 .1 .1 .0) ≡ length (words d) = w .kept .1 .1 .1 .1 .1 .1 .1 .1 .1 .1 .1 .1 .1 .1 .1 .0 in
     kept ∙ d .is-dominated .kept .1 .1 .1 .0
 
 same-length-10 : tie.Need-same-length-10
@@ -186,7 +189,7 @@ returns-4 c =
       offered-kept (board s) (now (a .goals)) (a .goal) (a .nodes) (now (a .table)) (now (a .scan)) (a .run)
           (a .spot) (a .paid) (begun s) (a .parent) (a .action) (s .pre .1 .1 .1 .1 .few-nodes) (s .pre .1 .1 .1 .1 .count-few)
           (a .key) (c .before .before .before .before .before .before .before .before .before .before .before .before .before .before .before .before .before .before .before .before .before .before .before .before .before .before .before .before .before .if1 .left) (d .is-dominated .result) (found-is d) (words d) (d .is-dominated .ensures .1) (c .before .before .before .before .before .before .before .before .before .before .before .before .before .before .before .before .before .before .before .before .if2 .left) (c .before .before .before .before .before .before .before .before .before .before .before .before .before .before .before .before .before .before .before .if3 .left)
-          (s .pre .1 .1 .1 .1 .scan-long) (n .last .1 .1 .1 .1 .1 .1 .1 .1 .1 .1 .1 .1 .1 .0) (rw (f .ensures) at (n .ensures .0)) (w .last .1 .1 .1 .1 .1 .1 .1 .1 .1 .1 .1 .1 .1 .0) (w .last .1 .1 .1 .1 .1 .1 .1 .1 .1 .1 .1 .1 .1 .1 .0) (w .result) (w .ensures),
+          (s .pre .1 .1 .1 .1 .scan-long) (n .last .1 .1 .1 .1 .1 .1 .1 .1 .1 .1 .1 .1 .1 .0) (rw (f .ensures) at (n .ensures .0)) (w .last .1 .1 .1 .1 .1 .1 .1 .1 .1 .1 .1 .1 .1 .1 .0) (w .last .1 .1 .1 .1 .1 .1 .1 .1 .1 .1 .1 .1 .1 .1 .1 .0) (w .result) (w .ensures),
       n .ensures .1,
     )
 
