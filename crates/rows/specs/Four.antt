@@ -1,7 +1,7 @@
 -- Four words stored side by side in a list, and what stands there then.
 use mathlib.Core.Path.{_≡_, _∙_}
 use mathlib.Core.List.{List}
-use Prim.Native.Nat.{ℕ, _+_, _≤_, _<_}
+use Prim.Native.Nat.{ℕ, _+_, _≤_}
 use native.Mathlib.Omega.{arith}
 use lib.ListN.{length, getD, set, length-set}
 use lib.Seq.{getD-set-same, getD-set-other}
@@ -15,15 +15,6 @@ module _ (C : List ℕ) (i a b c d : ℕ) where
   pub four-length : length (fourTo C i a b c d) ≡ length C
   unfolding fourTo
   four-length = simp length-set
-
-  -- the other words are the same
-  pub four-other : (j : ℕ) → (i ≤ j → j < i + 4 → ⊥) → getD (fourTo C i a b c d) j 0 ≡ getD C j 0
-  unfolding fourTo
-  four-other j out =
-      getD-set-other (set (set (set C i a) (i + 1) b) (i + 2) c) (i + 3) j d 0 (λ e. out (omega arith) (omega arith))
-      ∙ getD-set-other (set (set C i a) (i + 1) b) (i + 2) j c 0 (λ e. out (omega arith) (omega arith))
-      ∙ getD-set-other (set C i a) (i + 1) j b 0 (λ e. out (omega arith) (omega arith))
-      ∙ getD-set-other C i j a 0 (λ e. out (omega arith) (omega arith))
 
   -- the four words
   pub four-first : i + 4 ≤ length C → getD (fourTo C i a b c d) i 0 ≡ a

@@ -49,7 +49,7 @@ loop-again c =
     let t = c .before .before .before in
     let a = t .before .before .args in
     let l = t .before .loop in
-    (omega arith, higher-more (a .row .now) (a .prices .now) (l .k) (40 + l .k) (l .k + 1) (l .inv .1) (c .if1 .left) refl refl)
+    (omega arith, higher-more (a .row .now) (a .prices .now) (l .k) (l .inv .1) (c .if1 .left))
 
 returns-2 : tie.Need-returns-2 Inv-loop μ-loop
 returns-2 c =

@@ -38,12 +38,12 @@ spot-lt row v h =
 abbrev pub notHigher : List ℕ → List ℕ → ℕ → Bool
 notHigher row P k = leb (getD row (40 + k) 0) (getD P k 0)
 
--- no price so far is higher, nor is price k; j is its place in the row
-pub higher-more : (row P : List ℕ) (k j m : ℕ) → NotAbove row P k → getD row j 0 ≤ getD P k 0 → j ≡ 40 + k → m ≡ k + 1 → NotAbove row P m
-higher-more row P k j m h e p q i l = go (ℕ-discrete i k)
+-- no price so far is higher, nor is price k
+pub higher-more : (row P : List ℕ) (k : ℕ) → NotAbove row P k → getD row (40 + k) 0 ≤ getD P k 0 → NotAbove row P (k + 1)
+higher-more row P k h e i l = go (ℕ-discrete i k)
   where
     go : Dec (i ≡ k) → getD row (40 + i) 0 ≤ getD P i 0
-    go (yes s) = rw (s, sym p) e
+    go (yes s) = rw s e
     go (no d) = h i (omega arith)
 
 -- a place where the price is higher
