@@ -1,14 +1,17 @@
--- The scan words: 42,256 words. Open keys stand at u, signatures at 4096 + u, the words of groups at 8192 + g, heads at 12288 + h, the number of groups
--- at 16383, block words at 16384 + b, upper words at 16640 + b, the signatures of entries at 16656 + 4 * g + k, the nodes of entries, four in a word, at
--- 33040 + g, recent words at 37136 + k, the list of the states that a new node reaches at 41232 + j.
+-- The scan words: 26,912 words. Open keys stand at u, signatures at 4096 + u, the words of groups at 8192 + g, heads at 10240 + h, the number of groups
+-- at 11264, block words at 11280 + b, upper words at 11536 + b, the signatures of entries at 11552 + 4 * g + k, the nodes of entries, four in a word, at
+-- 19744 + g, recent words at 21792 + k, the list of the states that a new node reaches at 25888 + j. The words 11265 to 11279 are not used.
 -- Nodes are chained by the class of their centre state, in groups: a group has up to four entries, each a node with its signature, so that a walk sees
 -- four signatures side by side. A link or a head is one more than a group's number, 0 for none: the link of a group is the last group before it of the
 -- same class, the head of a class is the last group of that class, to which the next node of the class goes while it has room.
+-- So only the last group of a class has room, for three entries at most: of 4,096 nodes in 1,024 classes there are at most (4096 + 3 * 1024) / 4 = 1,792
+-- groups, and there is room for 2,048.
 -- The word of a group is its link and 65,536 times the sum of 8 times its class and the number of its entries: a walk reads the link as the low 16 bits.
 -- A recent word is one more than the number of a node that dominated or was kept, to be tried first. It may be any number: nothing else goes by it.
 -- Nor does anything go by the list of states once it was used: it is made again for each new node of 128 states or more.
 pub mod Groups
 pub mod Laws
+pub mod Room
 pub mod Walk
 use mathlib.Core.Path.{_≡_}
 use mathlib.Core.Bool.{Bool, true, false, not, cond, _&&_}
@@ -17,7 +20,7 @@ use Prim.Native.Nat.{ℕ, zero, suc, _+_, _-_, _*_, _/_, _%_, _^_, _≤_, _<_}
 use lib.Bits.{bitOr}
 use lib.Dec.{eqb, ltb}
 use lib.ListN.{length, getD, set}
-use Rattle.loops.specs.Count.{any}
+use Rattle.loops.specs.Count.{any, sum}
 use Rattle.search.specs.Node.{Node, dominates}
 use Rattle.rows.specs.Row.{rowIn, nodeIn, Packed}
 use Rattle.rows.specs.Sign.{classOf, signOf}
@@ -27,13 +30,13 @@ use Rattle.nodes.specs.Block.{loweredTo, Blocked}
 abbrev pub signAt : List ℕ → ℕ → ℕ
 signAt C u = getD C (4096 + u) 0
 
--- the head of class h, of which there are fewer than 4,095
+-- the head of class h, of which there are 1,024
 abbrev pub headAt : List ℕ → ℕ → ℕ
-headAt C h = getD C (12288 + h) 0
+headAt C h = getD C (10240 + h) 0
 
 -- how many groups there are
 abbrev pub groupsIn : List ℕ → ℕ
-groupsIn C = getD C 16383 0
+groupsIn C = getD C 11264 0
 
 -- the word of group g, its link, its class and the number of its entries
 abbrev pub wordAt : List ℕ → ℕ → ℕ
@@ -54,13 +57,22 @@ entryOf w k = w / 2 ^ (16 * k) % 65536
 
 -- the signature and the node of entry k of group g
 abbrev pub shownAt : List ℕ → ℕ → ℕ → ℕ
-shownAt C g k = getD C (16656 + 4 * g + k) 0
+shownAt C g k = getD C (11552 + 4 * g + k) 0
 
 abbrev pub nodesAt : List ℕ → ℕ → ℕ
-nodesAt C g = getD C (33040 + g) 0
+nodesAt C g = getD C (19744 + g) 0
 
 abbrev pub entryAt : List ℕ → ℕ → ℕ → ℕ
 entryAt C g k = entryOf (nodesAt C g) k
+
+-- how many entries the group that a head stands for has room for, 0 where it stands for none
+unfoldable pub roomOf : List ℕ → ℕ → ℕ
+roomOf C zero = 0
+roomOf C (suc g) = 4 - fillAt C g
+
+-- how many entries the last group of class h has room for
+abbrev pub roomAt : List ℕ → ℕ → ℕ
+roomAt C h = roomOf C (headAt C h)
 
 -- the place of the recent word of a class h and a signature s; any number below 4,096 is right, only speed depends on it
 unfoldable pub slotOf : ℕ → ℕ → ℕ
@@ -71,19 +83,19 @@ slotOf h s = (h * 5 + s % 4093) % 4096
 -- whether the group that a head stands for has room
 unfoldable pub hasRoom : List ℕ → ℕ → Bool
 hasRoom C zero = false
-hasRoom C (suc g) = ltb (fillAt C (g % 4096)) 4
+hasRoom C (suc g) = ltb (fillAt C (g % 2048)) 4
 
 -- the group that the next node of class h goes to: the last of the class where that has room, else a new one
 unfoldable pub groupFor : List ℕ → ℕ → ℕ
-groupFor C h = cond (hasRoom C (headAt C h)) ((headAt C h - 1) % 4096) (groupsIn C % 4096)
+groupFor C h = cond (hasRoom C (headAt C h)) ((headAt C h - 1) % 2048) (groupsIn C % 2048)
 
 -- group g is the new last one of class h, without entries
 unfoldable pub withGroup : List ℕ → ℕ → ℕ → List ℕ
-withGroup C h g = set (set (set C (8192 + g) (h * 8 * 65536 + headAt C h % 65536)) (12288 + h) (g + 1)) 16383 (g + 1)
+withGroup C h g = set (set (set C (8192 + g) (h * 8 * 65536 + headAt C h % 65536)) (10240 + h) (g + 1)) 11264 (g + 1)
 
 -- that group is there
 unfoldable pub openedTo : List ℕ → ℕ → List ℕ
-openedTo C h = cond (hasRoom C (headAt C h)) C (withGroup C h (groupsIn C % 4096))
+openedTo C h = cond (hasRoom C (headAt C h)) C (withGroup C h (groupsIn C % 2048))
 
 -- node n is entry k of the nodes in a word, and none is behind it
 unfoldable pub withEntry : ℕ → ℕ → ℕ → ℕ
@@ -92,11 +104,11 @@ withEntry w k n = w % 2 ^ (16 * k) + n * 2 ^ (16 * k)
 -- node n, of signature s, is the next entry of group g
 unfoldable pub joinedTo : List ℕ → ℕ → ℕ → ℕ → List ℕ
 joinedTo C g n s =
-    set (set (set C (16656 + 4 * g + wordAt C g / 65536 % 4) s) (33040 + g) (withEntry (nodesAt C g) (wordAt C g / 65536 % 4) n)) (8192 + g) (wordAt C g % 4294967296 + 65536)
+    set (set (set C (11552 + 4 * g + wordAt C g / 65536 % 4) s) (19744 + g) (withEntry (nodesAt C g) (wordAt C g / 65536 % 4) n)) (8192 + g) (wordAt C g % 4294967296 + 65536)
 
 -- its key and its signature are stored, and its block's word is no higher than its key, nor is the upper word
 unfoldable pub blockedTo : List ℕ → ℕ → ℕ → ℕ → List ℕ
-blockedTo C n key s = loweredTo (loweredTo (set (set C n key) (4096 + n) s) (16384 + n / 16) key) (16640 + n / 16 / 16) key
+blockedTo C n key s = loweredTo (loweredTo (set (set C n key) (4096 + n) s) (11280 + n / 16) key) (11536 + n / 16 / 16) key
 
 -- the scan words after node n, of class h, is linked
 unfoldable pub linkedTo : List ℕ → ℕ → ℕ → ℕ → ℕ → List ℕ
@@ -129,31 +141,33 @@ pub record Placed (C : List ℕ) (w : ℕ) : Type 0 where
   pub filled : place < fillAt C group
   pub is : entryAt C group place ≡ w
 
--- the first n nodes of table T are the entries of groups, which are chained by class
+-- the first n nodes of table T are the entries of groups, which are chained by class; a group has room for four, and what is free is in the last groups
 pub record Grouped (S : ℕ) (T C : List ℕ) (n : ℕ) : Type 0 where
-  pub fills : (g : ℕ) → g < groupsIn C → (fillAt C g ≤ 4) × (classAt C g < 4095)
+  pub fills : (g : ℕ) → g < groupsIn C → (fillAt C g ≤ 4) × (classAt C g < 1024)
   pub links : (g : ℕ) → g < groupsIn C → linkAt C g ≤ g
   pub skips : (g f : ℕ) → g < groupsIn C → linkAt C g ≤ f → f < g → classAt C f ≡ classAt C g → ⊥
   pub linked : (g f : ℕ) → g < groupsIn C → linkAt C g ≡ suc f → classAt C f ≡ classAt C g
-  pub heads : (h : ℕ) → h < 4095 → headAt C h ≤ groupsIn C
-  pub last : (h f : ℕ) → h < 4095 → headAt C h ≤ f → f < groupsIn C → classAt C f ≡ h → ⊥
-  pub headed : (h f : ℕ) → h < 4095 → headAt C h ≡ suc f → classAt C f ≡ h
+  pub heads : (h : ℕ) → h < 1024 → headAt C h ≤ groupsIn C
+  pub last : (h f : ℕ) → h < 1024 → headAt C h ≤ f → f < groupsIn C → classAt C f ≡ h → ⊥
+  pub headed : (h f : ℕ) → h < 1024 → headAt C h ≡ suc f → classAt C f ≡ h
   pub entries : (g k : ℕ) → g < groupsIn C → k < fillAt C g → Entry S T C n g k
   pub placed : (w : ℕ) → w < n → Placed C w
+  pub counted : 4 * groupsIn C ≡ n + sum 1024 (λ h. roomAt C h)
 
--- the first n nodes of table T have their signatures in C and are chained, the block words are those of their open keys, and their rows have their packs
+-- the first n nodes of table T have their signatures in C and are chained, no group is without entries, the block words are those of the nodes' open keys,
+-- and their rows have their packs
 pub record Chained (S : ℕ) (T C : List ℕ) (n : ℕ) : Type 0 where
-  pub long : length C ≡ 42256
+  pub long : length C ≡ 26912
   pub signs : (u : ℕ) → u < n → signAt C u ≡ signOf (nodeIn S T u .prices)
-  pub few-groups : groupsIn C ≤ n
   pub grouped : Grouped S T C n
+  pub started : (g : ℕ) → g < groupsIn C → 0 < fillAt C g
   pub blocks : Blocked C n
   pub packed : (u : ℕ) → u < n → Packed (rowIn S T u)
 
 -- the scan words D are those of C but for recent words and the list of states
 pub record Recalled (C D : List ℕ) : Type 0 where
   pub long : length D ≡ length C
-  pub same : (i : ℕ) → i < 37136 → getD D i 0 ≡ getD C i 0
+  pub same : (i : ℕ) → i < 21792 → getD D i 0 ≡ getD C i 0
 
 -- ---- the node that dominates
 

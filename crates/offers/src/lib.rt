@@ -73,7 +73,7 @@ pub fn keep(
 ) -> Run
     requires { ⌜ Cut leaves (now bases) (length (now prices)) × Cut leaves (now bases) (length (now goals)) ⌝ }
     requires { ⌜ (getD (now bases) leaves 0 ≤ 1024) × (run .count < 4096) × ((run .count + 1) * (40 + getD (now bases) leaves 0) ≤ length (now table))
-        × (length (now scan) ≡ 42256) ⌝ }
+        × (length (now scan) ≡ 26912) ⌝ }
     requires { ⌜ (swept ≡ false → sign ≡ signOf (take (getD (now bases) leaves 0) (now prices))) × (class ≡ classOf spot) ⌝ }
     ensures { λ r. ⌜ Kept (getD (now (bases .entry)) leaves 0) (now (table .entry)) (now (scan .entry)) run
         (nodeWith spot paid (take (getD (now (bases .entry)) leaves 0) (now (prices .entry))) parent action) key

@@ -18,10 +18,10 @@ mixOf c =
     let all = bitXor (bitXor (packOf c 0) (packOf c 8)) (bitXor (packOf c 16) (packOf c 24)) in
     bitXor all (all / 2 ^ 32) % 4294967296
 
--- the class of a centre state, from its four packs; any function of its values below 4,095 is right, only speed depends on it: a remainder by a prime
+-- the class of a centre state, from its four packs; any function of its values below 1,024 is right, only speed depends on it: a remainder by a prime
 -- would take three times as many instructions as a product
 unfoldable pub classOf : Centre → ℕ
-classOf c = mixOf c * 2654435769 / 2 ^ 21 % 2048
+classOf c = mixOf c * 2654435769 / 2 ^ 22 % 1024
 
 -- the signature of the first n states looked at: bit k % 64 is set where state k * step is reachable
 unfoldable pub signTo : ℕ → List ℕ → ℕ → ℕ

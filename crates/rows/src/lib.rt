@@ -221,7 +221,7 @@ pub fn write_row(
     copy_words(prices, &mut row[40..], states);
 }
 
-// The class of a centre state, by its four packs: eleven bits of a product of their mixed halves.
+// The class of a centre state, by its four packs: ten bits of a product of their mixed halves.
 pub fn class_of(spot: Centre) -> usize
     ensures { λ r. ⌜ r ≡ classOf spot ⌝ }
 {
@@ -229,5 +229,5 @@ pub fn class_of(spot: Centre) -> usize
     let high = pack(spot, 16) ^ pack(spot, 24);
     let all = low ^ high;
     let mix = (all ^ (all >> 32)) % 4294967296;
-    ((mix * 2654435769 >> 21) % 2048) as usize
+    ((mix * 2654435769 >> 22) % 1024) as usize
 }

@@ -16,11 +16,11 @@ use Rattle.nodes.proofs.dominator.Tie as tie
 
 -- the list that is lent
 listed : (s : tie.Start) → let a = s .args in
-    128 ≤ a .states → Reaches (a .states) (a .prices .now) (take (41232 + a .many - 41232) (drop 41232 (a .scan .now)))
+    128 ≤ a .states → Reaches (a .states) (a .prices .now) (take (25888 + a .many - 25888) (drop 25888 (a .scan .now)))
 listed s l =
     let a = s .args in
-    let e : 41232 + a .many - 41232 ≡ a .many = omega arith in
-    rw e (reaches-part (a .states) (a .prices .now) (a .scan .now) 41232 (a .many) (omega (arith, s .pre .1 .2, s .pre .0 .4 .long)) (s .pre .1 .3 l))
+    let e : 25888 + a .many - 25888 ≡ a .many = omega arith in
+    rw e (reaches-part (a .states) (a .prices .now) (a .scan .now) 25888 (a .many) (omega (arith, s .pre .1 .2, s .pre .0 .4 .long)) (s .pre .1 .3 l))
 
 add-end : tie.Need-add-end
 add-end c = search needs
@@ -43,7 +43,7 @@ shared-slice-read-recent c = omega (arith, small (c .before), c .before .before 
 
 -- one more than the node that is tried
 abbrev recent : tie.Then2 → ℕ
-recent c = getD (c .before .before .before .before .before .before .before .args .scan .now) (37136 + c .before .before .before .slot-of .result) 0
+recent c = getD (c .before .before .before .before .before .before .before .args .scan .now) (21792 + c .before .before .before .slot-of .result) 0
 
 sub-test-at : tie.Need-sub-test-at
 sub-test-at c = search needs

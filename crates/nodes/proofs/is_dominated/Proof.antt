@@ -51,7 +51,7 @@ slice-write-scan c =
 
 -- no other words are stored
 recalled : (c : tie.After-recent-word) → let h = c .before .before .before .before .before .before in
-    Recalled (start h .args .scan .now) (set (h .list-reached .last .1 .1 .0) (37136 + c .before .slot-of .result) (c .recent-word .result))
+    Recalled (start h .args .scan .now) (set (h .list-reached .last .1 .1 .0) (21792 + c .before .slot-of .result) (c .recent-word .result))
 recalled c =
     let h = c .before .before .before .before .before .before in
     recalled-both (start h .args .scan .now) _ _ (h .list-reached .ensures .0) (recalled-set _ _ _ (omega arith))

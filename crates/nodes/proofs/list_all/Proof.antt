@@ -11,7 +11,7 @@ use Rattle.nodes.proofs.list_all.Statement.{statement}
 use Rattle.nodes.proofs.list_all.Tie as tie
 
 abbrev Inv-loop : tie.InvT-loop
-Inv-loop states prices scan₀ many₀ x₀ scan many x = (x ≤ states) × Recalled scan₀ scan × ReachesAt x prices scan 41232 many
+Inv-loop states prices scan₀ many₀ x₀ scan many x = (x ≤ states) × Recalled scan₀ scan × ReachesAt x prices scan 25888 many
 
 abbrev μ-loop : tie.MeasureT-loop
 μ-loop states prices scan₀ many₀ x₀ scan many x = states - x
@@ -19,7 +19,7 @@ abbrev μ-loop : tie.MeasureT-loop
 loop-holds : tie.Need-loop-holds Inv-loop μ-loop
 loop-holds c =
     let a = c .before .before .args in
-    (omega arith, recalled-none (a .scan .now), reaches-none (a .prices .now) (a .scan .now) 41232)
+    (omega arith, recalled-none (a .scan .now), reaches-none (a .prices .now) (a .scan .now) 25888)
 
 add-loop : tie.Need-add-loop Inv-loop μ-loop
 add-loop c = search needs

@@ -42,7 +42,7 @@ returns : tie.Need-returns
 returns c =
     let s = c .before .before .before .before .before .before .before in
     let a = s .args in
-    (recalled-none (a .scan .now), reaches-four (a .prices .now) (a .scan .now) 41232 (a .from) (a .many) (s .pre .3) (c .if1 .taken))
+    (recalled-none (a .scan .now), reaches-four (a .prices .now) (a .scan .now) 25888 (a .from) (a .many) (s .pre .3) (c .if1 .taken))
 
 add-list-from : tie.Need-add-list-from
 add-list-from c = search needs

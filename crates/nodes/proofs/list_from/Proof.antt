@@ -13,13 +13,13 @@ use Rattle.nodes.proofs.list_from.Statement.{statement}
 use Rattle.nodes.proofs.list_from.Tie as tie
 
 abbrev Inv-loop : tie.InvT-loop
-Inv-loop prices scan₀ from to many n₀ x₀ scan n x = (x ≤ to) × Recalled scan₀ scan × ReachesAt x prices scan 41232 n
+Inv-loop prices scan₀ from to many n₀ x₀ scan n x = (x ≤ to) × Recalled scan₀ scan × ReachesAt x prices scan 25888 n
 
 abbrev μ-loop : tie.MeasureT-loop
 μ-loop prices scan₀ from to many n₀ x₀ scan n x = to - x
 
 -- the next word of the list is one of the scan words
-room : (c : tie.In-loop Inv-loop μ-loop) → 41232 + c .before .loop .n < length (c .before .loop .scan)
+room : (c : tie.In-loop Inv-loop μ-loop) → 25888 + c .before .loop .n < length (c .before .loop .scan)
 room c =
     let l = c .before .loop in
     omega (arith, l .inv .2 .few, l .inv .1 .long, c .before .before .pre .0, c .before .before .pre .2, c .loop-test .taken)
@@ -53,14 +53,14 @@ loop-less c = search needs
 
 -- the states up to the next are listed
 listed : (c : tie.Joined1 Inv-loop μ-loop) → let l = c .before .before .before .loop in
-    ReachesAt (l .x + 1) (c .before .before .before .before .args .prices .now) (set (l .scan) (41232 + l .n) (l .x)) 41232 (c .if1 .n)
+    ReachesAt (l .x + 1) (c .before .before .before .before .args .prices .now) (set (l .scan) (25888 + l .n) (l .x)) 25888 (c .if1 .n)
 listed c =
     let t = c .before .before in
     let l = t .before .loop in
     let P = t .before .before .args .prices .now in
     ⊎-elim
-    (λ w. rw (w .1) (reaches-more P (l .scan) 41232 (l .x) (l .n) (l .inv .2) (room t)))
-    (λ w. rw (w .1) (reaches-skip P (l .scan) 41232 (l .x) (l .n) (l .inv .2) (l .x) (w .0 .left)))
+    (λ w. rw (w .1) (reaches-more P (l .scan) 25888 (l .x) (l .n) (l .inv .2) (room t)))
+    (λ w. rw (w .1) (reaches-skip P (l .scan) 25888 (l .x) (l .n) (l .inv .2) (l .x) (w .0 .left)))
     (c .if1 .came)
 
 loop-again : tie.Need-loop-again Inv-loop μ-loop
@@ -68,7 +68,7 @@ loop-again c =
     let t = c .before .before in
     let l = t .before .loop in
     let a = t .before .before .args in
-    (omega arith, recalled-both (a .scan .now) (l .scan) _ (l .inv .1) (recalled-set (l .scan) (41232 + l .n) (l .x) (omega arith)), listed c)
+    (omega arith, recalled-both (a .scan .now) (l .scan) _ (l .inv .1) (recalled-set (l .scan) (25888 + l .n) (l .x) (omega arith)), listed c)
 
 same-length : tie.Need-same-length Inv-loop μ-loop
 same-length c = c .before .loop .inv .1 .long

@@ -8,6 +8,7 @@ use Rattle.search.specs.Node.{Node}
 use Rattle.rows.specs.Row.{nodeIn, nodeWith, Tested}
 use Rattle.rows.specs.Row.Laws.{row-in}
 use Rattle.nodes.specs.Chain.{entryAt, fillAt, Entry, Missed}
+use Rattle.nodes.specs.Chain.Room.{groups-few}
 use Rattle.nodes.specs.Chain.Walk.{missed-none, missed-more, tried-found}
 use Rattle.nodes.proofs.try_group.Statement.{statement}
 use Rattle.nodes.proofs.try_group.Tie as tie
@@ -23,9 +24,9 @@ abbrev μ-loop : tie.MeasureT-loop
 abbrev fresh : tie.Start Inv-loop μ-loop → Node
 fresh s = nodeWith (s .args .spot) (s .args .paid) (take (s .args .states) (s .args .prices .now)) 0 0
 
--- there are at most 4,096 groups
-small : (s : tie.Start Inv-loop μ-loop) → s .args .group < 4096
-small s = omega (arith, s .pre .1 .0, s .pre .0 .4 .few-groups, s .pre .0 .1)
+-- there are at most 1,792 groups
+small : (s : tie.Start Inv-loop μ-loop) → s .args .group < 2048
+small s = omega (arith, s .pre .1 .0, groups-few _ _ _ _ (s .pre .0 .1) (s .pre .0 .4))
 
 -- where the function starts
 abbrev start : tie.In-loop Inv-loop μ-loop → tie.Start Inv-loop μ-loop

@@ -11,6 +11,7 @@ use Rattle.search.specs.Node.{Node}
 use Rattle.rows.specs.Row.{nodeWith}
 use Rattle.rows.specs.Sign.Laws.{class-lt}
 use Rattle.nodes.specs.Chain.{groupsIn, fillAt, linkAt, Missed, Walked}
+use Rattle.nodes.specs.Chain.Room.{groups-few}
 use Rattle.nodes.specs.Chain.Walk.{walk-start, walk-more, lack-all, dominator-none, dominator-tried}
 use Rattle.nodes.proofs.walk.Statement.{statement}
 use Rattle.nodes.proofs.walk.Tie as tie
@@ -25,8 +26,8 @@ abbrev μ-loop : tie.MeasureT-loop
 abbrev fresh : tie.Start Inv-loop μ-loop → Node
 fresh s = nodeWith (s .args .spot) (s .args .paid) (take (s .args .states) (s .args .prices .now)) 0 0
 
--- the class is below 4,095
-small : (s : tie.Start Inv-loop μ-loop) → s .args .class < 4095
+-- the class is below 1,024
+small : (s : tie.Start Inv-loop μ-loop) → s .args .class < 1024
 small s = rw (s .pre .1 .0) (class-lt (s .args .spot))
 
 add-to : tie.Need-add-to Inv-loop μ-loop
@@ -56,12 +57,12 @@ group c = c .before .loop .to - 1
 walked : (c : tie.In-loop Inv-loop μ-loop) → let a = start c .args in Walked (a .states) (a .table .now) (a .scan .now) (fresh (start c)) (suc (group c))
 walked c = let e : c .before .loop .to ≡ suc (group c) = omega arith in rw e at (c .before .loop .inv)
 
--- it is one of the groups, of which there are at most 4,096
+-- it is one of the groups, of which there are at most 1,792
 below : (c : tie.In-loop Inv-loop μ-loop) → group c < groupsIn (start c .args .scan .now)
 below c = walked c .low
 
-few : (c : tie.In-loop Inv-loop μ-loop) → group c < 4096
-few c = let s = start c in omega (arith, below c, s .pre .0 .4 .few-groups, s .pre .0 .1)
+few : (c : tie.In-loop Inv-loop μ-loop) → group c < 2048
+few c = let s = start c in omega (arith, below c, groups-few _ _ _ _ (s .pre .0 .1) (s .pre .0 .4))
 
 sub-group : tie.Need-sub-group Inv-loop μ-loop
 sub-group c = search needs

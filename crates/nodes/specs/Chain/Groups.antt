@@ -10,10 +10,13 @@ use native.Mathlib.Decide.{ℕ-discrete}
 use lib.Dec.{ltb}
 use lib.ListN.{length, getD, set, length-set}
 use lib.Seq.{getD-set-same, getD-set-other}
-use Rattle.loops.specs.Count.Laws.{below-cases, test-cases}
+use Rattle.loops.specs.Count.{sum}
+use Rattle.loops.specs.Count.Laws.{sum-ext, below-cases, test-cases}
+use Rattle.price.specs.Sums.{sum-zero}
 use Rattle.rows.specs.Row.{nodeOf, rowIn, nodeIn}
 use Rattle.rows.specs.Sign.{classOf, signOf}
-use Rattle.nodes.specs.Chain.{linkAt, headAt, groupsIn, wordAt, classAt, fillAt, entryOf, shownAt, nodesAt, entryAt, hasRoom, groupFor, withGroup, openedTo, withEntry, joinedTo, Entry, Placed, Grouped}
+use Rattle.nodes.specs.Chain.{linkAt, headAt, groupsIn, wordAt, classAt, fillAt, entryOf, shownAt, nodesAt, entryAt, roomAt, hasRoom, groupFor, withGroup, openedTo, withEntry, joinedTo, Entry, Placed, Grouped}
+use Rattle.nodes.specs.Chain.Room.{sum-change, free-none, free-some, free-same}
 
 -- ---- the group that a node goes to
 
@@ -23,7 +26,7 @@ module _ (C : List ℕ) where
   unfolding hasRoom
   room-none x e = rw (e, hasRoom)
 
-  pub room-some : (x : ℕ) → (x ≡ 0 → ⊥) → hasRoom C x ≡ ltb (fillAt C ((x - 1) % 4096)) 4
+  pub room-some : (x : ℕ) → (x ≡ 0 → ⊥) → hasRoom C x ≡ ltb (fillAt C ((x - 1) % 2048)) 4
   unfolding hasRoom
   room-some zero d = absurd (d refl)
   room-some (suc g) d = let e : suc g - 1 ≡ g = omega arith in rw e
@@ -34,19 +37,19 @@ module _ (C : List ℕ) where
   room-head (suc g) e = omega arith
 
   -- the last group of the class has room, or a new one is there
-  pub group-last : (h : ℕ) → hasRoom C (headAt C h) ≡ true → (groupFor C h ≡ (headAt C h - 1) % 4096) × (openedTo C h ≡ C)
+  pub group-last : (h : ℕ) → hasRoom C (headAt C h) ≡ true → (groupFor C h ≡ (headAt C h - 1) % 2048) × (openedTo C h ≡ C)
   unfolding groupFor openedTo
   group-last h e = (rw (groupFor, e), rw (openedTo, e))
 
-  pub group-new : (h : ℕ) → hasRoom C (headAt C h) ≡ false → (groupFor C h ≡ groupsIn C % 4096) × (openedTo C h ≡ withGroup C h (groupsIn C % 4096))
+  pub group-new : (h : ℕ) → hasRoom C (headAt C h) ≡ false → (groupFor C h ≡ groupsIn C % 2048) × (openedTo C h ≡ withGroup C h (groupsIn C % 2048))
   unfolding groupFor openedTo
   group-new h e = (rw (groupFor, e), rw (openedTo, e))
 
-  -- it is one of 4,096
-  pub group-lt : (h : ℕ) → groupFor C h < 4096
+  -- it is one of 2,048
+  pub group-lt : (h : ℕ) → groupFor C h < 2048
   group-lt h = go (test-cases (hasRoom C (headAt C h)))
     where
-      go : (hasRoom C (headAt C h) ≡ true) ⊎ (hasRoom C (headAt C h) ≡ false) → groupFor C h < 4096
+      go : (hasRoom C (headAt C h) ≡ true) ⊎ (hasRoom C (headAt C h) ≡ false) → groupFor C h < 2048
       go (inl e) = omega (arith, group-last h e .0)
       go (inr e) = omega (arith, group-new h e .0)
 
@@ -95,9 +98,10 @@ entry-before w i (suc (suc (suc (suc k)))) n a b = absurd (omega arith)
 -- ---- none, and the same words
 
 -- no group
-pub grouped-none : (S : ℕ) (T C : List ℕ) → ((h : ℕ) → h < 4096 → headAt C h ≡ 0) → Grouped S T C 0
+pub grouped-none : (S : ℕ) (T C : List ℕ) → ((h : ℕ) → h < 1025 → headAt C h ≡ 0) → Grouped S T C 0
 grouped-none S T C z =
-    let none : groupsIn C ≡ 0 = z 4095 (omega arith) in
+    let none : groupsIn C ≡ 0 = z 1024 (omega arith) in
+    let free = sum-ext 1024 (λ h. roomAt C h) (λ h. 0) (λ h l. free-none C (headAt C h) (z h (omega arith))) ∙ sum-zero 1024 in
     record {
       fills = λ g l. absurd (omega arith);
       links = λ g l. absurd (omega arith);
@@ -108,16 +112,17 @@ grouped-none S T C z =
       headed = λ h f b e. absurd (omega (arith, z h (omega arith)));
       entries = λ g k l. absurd (omega arith);
       placed = λ w l. absurd (not-suc-le-zero l);
+      counted = omega arith;
     }
 
 -- the words of groups are the same, with the heads, and from the entries' signatures on
 pub record SameGroups (C D : List ℕ) : Type 0 where
-  pub chains : (i : ℕ) → 8192 ≤ i → i < 16384 → getD D i 0 ≡ getD C i 0
-  pub members : (i : ℕ) → 16656 ≤ i → i < 37136 → getD D i 0 ≡ getD C i 0
+  pub chains : (i : ℕ) → 8192 ≤ i → i < 11280 → getD D i 0 ≡ getD C i 0
+  pub members : (i : ℕ) → 11552 ≤ i → i < 21792 → getD D i 0 ≡ getD C i 0
 
-module _ (S : ℕ) (T C D : List ℕ) (n : ℕ) (few : groupsIn C ≤ 4096) (s : SameGroups C D) (r : Grouped S T C n) where
+module _ (S : ℕ) (T C D : List ℕ) (n : ℕ) (few : groupsIn C ≤ 2048) (s : SameGroups C D) (r : Grouped S T C n) where
   same-groups : groupsIn D ≡ groupsIn C
-  same-groups = s .chains 16383 (omega arith) (omega arith)
+  same-groups = s .chains 11264 (omega arith) (omega arith)
 
   same-word : (g : ℕ) → g < groupsIn C → wordAt D g ≡ wordAt C g
   same-word g l = s .chains (8192 + g) (omega arith) (omega arith)
@@ -125,14 +130,14 @@ module _ (S : ℕ) (T C D : List ℕ) (n : ℕ) (few : groupsIn C ≤ 4096) (s :
   same-link : (g : ℕ) → g < groupsIn C → linkAt D g ≡ linkAt C g
   same-link g l = ap (λ (x : ℕ). x % 65536) (same-word g l)
 
-  same-head : (h : ℕ) → h < 4095 → headAt D h ≡ headAt C h
-  same-head h l = s .chains (12288 + h) (omega arith) (omega arith)
+  same-head : (h : ℕ) → h < 1024 → headAt D h ≡ headAt C h
+  same-head h l = s .chains (10240 + h) (omega arith) (omega arith)
 
   same-class : (g : ℕ) → g < groupsIn C → classAt D g ≡ classAt C g
   same-class g l = ap (λ (x : ℕ). x / 65536 / 8) (same-word g l)
 
   same-entry : (g k : ℕ) → g < groupsIn C → entryAt D g k ≡ entryAt C g k
-  same-entry g k l = ap (λ (w : ℕ). entryOf w k) (s .members (33040 + g) (omega arith) (omega arith))
+  same-entry g k l = ap (λ (w : ℕ). entryOf w k) (s .members (19744 + g) (omega arith) (omega arith))
 
   same-entries : (g k : ℕ) → g < groupsIn D → k < fillAt D g → Entry S T D n g k
   same-entries g k b f =
@@ -143,7 +148,7 @@ module _ (S : ℕ) (T C D : List ℕ) (n : ℕ) (few : groupsIn C ≤ 4096) (s :
       let is = same-entry g k l in
       record {
         inside = omega (arith, is, e .inside);
-        shown = s .members (16656 + 4 * g + k) (omega arith) (omega arith) ∙ e .shown ∙ ap (λ (u : ℕ). signOf (nodeIn S T u .prices)) (sym is);
+        shown = s .members (11552 + 4 * g + k) (omega arith) (omega arith) ∙ e .shown ∙ ap (λ (u : ℕ). signOf (nodeIn S T u .prices)) (sym is);
         class = ap (λ (u : ℕ). classOf (nodeIn S T u .spot)) is ∙ e .class ∙ sym (same-class g l);
       }
 
@@ -157,6 +162,12 @@ module _ (S : ℕ) (T C D : List ℕ) (n : ℕ) (few : groupsIn C ≤ 4096) (s :
         filled = omega (arith, same-word (p .group) (p .known), p .filled);
         is = same-entry (p .group) (p .place) (p .known) ∙ p .is;
       }
+
+  same-free : sum 1024 (λ h. roomAt D h) ≡ sum 1024 (λ h. roomAt C h)
+  same-free =
+      sum-ext 1024 (λ h. roomAt D h) (λ h. roomAt C h)
+      (λ h b. free-same C D (headAt C h) (headAt D h) (same-head h b)
+      (λ f e. ap (λ (x : ℕ). x / 65536 % 8) (same-word f (omega (arith, r .heads h b)))))
 
   pub grouped-words : Grouped S T D n
   grouped-words = record {
@@ -173,6 +184,7 @@ module _ (S : ℕ) (T C D : List ℕ) (n : ℕ) (few : groupsIn C ≤ 4096) (s :
     headed = λ h f b e. let q = sym (same-head h b) ∙ e in same-class f (omega (arith, r .heads h b)) ∙ r .headed h f b q;
     entries = same-entries;
     placed = same-placed;
+    counted = omega (arith, same-groups, same-free, r .counted);
   }
 
 -- another table with the same rows
@@ -193,11 +205,12 @@ grouped-same S T T′ C n s r = record {
         class = ap (λ (w : List ℕ). classOf (nodeOf S w .spot)) row ∙ e .class;
       };
   placed = r .placed;
+  counted = r .counted;
 }
 
 -- ---- a group is opened
 
-module _ (S : ℕ) (T C : List ℕ) (n h : ℕ) (long : length C ≡ 42256) (few : groupsIn C < 4096) (small : h < 4095) (r : Grouped S T C n) where
+module _ (S : ℕ) (T C : List ℕ) (n h : ℕ) (long : length C ≡ 26912) (few : groupsIn C < 2048) (small : h < 1024) (r : Grouped S T C n) where
   abbrev g : ℕ
   g = groupsIn C
 
@@ -205,28 +218,28 @@ module _ (S : ℕ) (T C : List ℕ) (n h : ℕ) (long : length C ≡ 42256) (few
   D = withGroup C h g
 
   -- a word that is none of the three
-  pub open-other : (i : ℕ) → (i ≡ 8192 + g → ⊥) → (i ≡ 12288 + h → ⊥) → (i ≡ 16383 → ⊥) → getD D i 0 ≡ getD C i 0
+  pub open-other : (i : ℕ) → (i ≡ 8192 + g → ⊥) → (i ≡ 10240 + h → ⊥) → (i ≡ 11264 → ⊥) → getD D i 0 ≡ getD C i 0
   unfolding withGroup
   open-other i a c d =
-      getD-set-other (set (set C (8192 + g) (h * 8 * 65536 + headAt C h % 65536)) (12288 + h) (g + 1)) 16383 i (g + 1) 0 d
-      ∙ getD-set-other (set C (8192 + g) (h * 8 * 65536 + headAt C h % 65536)) (12288 + h) i (g + 1) 0 c
+      getD-set-other (set (set C (8192 + g) (h * 8 * 65536 + headAt C h % 65536)) (10240 + h) (g + 1)) 11264 i (g + 1) 0 d
+      ∙ getD-set-other (set C (8192 + g) (h * 8 * 65536 + headAt C h % 65536)) (10240 + h) i (g + 1) 0 c
       ∙ getD-set-other C (8192 + g) i (h * 8 * 65536 + headAt C h % 65536) 0 a
 
   pub open-groups : groupsIn D ≡ g + 1
   unfolding withGroup
-  open-groups = getD-set-same (set (set C (8192 + g) (h * 8 * 65536 + headAt C h % 65536)) (12288 + h) (g + 1)) 16383 (g + 1) 0 (simp length-set (omega arith))
+  open-groups = getD-set-same (set (set C (8192 + g) (h * 8 * 65536 + headAt C h % 65536)) (10240 + h) (g + 1)) 11264 (g + 1) 0 (simp length-set (omega arith))
 
-  open-head : headAt D h ≡ g + 1
+  pub open-head : headAt D h ≡ g + 1
   unfolding withGroup
   open-head =
-      getD-set-other (set (set C (8192 + g) (h * 8 * 65536 + headAt C h % 65536)) (12288 + h) (g + 1)) 16383 (12288 + h) (g + 1) 0 (λ e. omega arith)
-      ∙ getD-set-same (set C (8192 + g) (h * 8 * 65536 + headAt C h % 65536)) (12288 + h) (g + 1) 0 (simp length-set (omega arith))
+      getD-set-other (set (set C (8192 + g) (h * 8 * 65536 + headAt C h % 65536)) (10240 + h) (g + 1)) 11264 (10240 + h) (g + 1) 0 (λ e. omega arith)
+      ∙ getD-set-same (set C (8192 + g) (h * 8 * 65536 + headAt C h % 65536)) (10240 + h) (g + 1) 0 (simp length-set (omega arith))
 
   pub open-word : wordAt D g ≡ h * 8 * 65536 + headAt C h % 65536
   unfolding withGroup
   open-word =
-      getD-set-other (set (set C (8192 + g) (h * 8 * 65536 + headAt C h % 65536)) (12288 + h) (g + 1)) 16383 (8192 + g) (g + 1) 0 (λ e. omega arith)
-      ∙ getD-set-other (set C (8192 + g) (h * 8 * 65536 + headAt C h % 65536)) (12288 + h) (8192 + g) (g + 1) 0 (λ e. omega arith)
+      getD-set-other (set (set C (8192 + g) (h * 8 * 65536 + headAt C h % 65536)) (10240 + h) (g + 1)) 11264 (8192 + g) (g + 1) 0 (λ e. omega arith)
+      ∙ getD-set-other (set C (8192 + g) (h * 8 * 65536 + headAt C h % 65536)) (10240 + h) (8192 + g) (g + 1) 0 (λ e. omega arith)
       ∙ getD-set-same C (8192 + g) (h * 8 * 65536 + headAt C h % 65536) 0 (omega arith)
 
   open-link : linkAt D g ≡ headAt C h
@@ -240,7 +253,7 @@ module _ (S : ℕ) (T C : List ℕ) (n h : ℕ) (long : length C ≡ 42256) (few
   open-class = rw open-word (omega arith)
 
   -- the words of the other groups and the heads of the other classes
-  word-old : (f : ℕ) → f < g → wordAt D f ≡ wordAt C f
+  pub word-old : (f : ℕ) → f < g → wordAt D f ≡ wordAt C f
   word-old f l = open-other (8192 + f) (λ e. omega arith) (λ e. omega arith) (λ e. omega arith)
 
   class-old : (f : ℕ) → f < g → classAt D f ≡ classAt C f
@@ -249,19 +262,19 @@ module _ (S : ℕ) (T C : List ℕ) (n h : ℕ) (long : length C ≡ 42256) (few
   link-old : (f : ℕ) → f < g → linkAt D f ≡ linkAt C f
   link-old f l = ap (λ (x : ℕ). x % 65536) (word-old f l)
 
-  head-old : (i : ℕ) → i < 4095 → (i ≡ h → ⊥) → headAt D i ≡ headAt C i
-  head-old i b d = open-other (12288 + i) (λ e. omega arith) (λ e. d (omega arith)) (λ e. omega arith)
+  head-old : (i : ℕ) → i < 1024 → (i ≡ h → ⊥) → headAt D i ≡ headAt C i
+  head-old i b d = open-other (10240 + i) (λ e. omega arith) (λ e. d (omega arith)) (λ e. omega arith)
 
   entry-old : (f k : ℕ) → f < g → entryAt D f k ≡ entryAt C f k
-  entry-old f k l = ap (λ (w : ℕ). entryOf w k) (open-other (33040 + f) (λ e. omega arith) (λ e. omega arith) (λ e. omega arith))
+  entry-old f k l = ap (λ (w : ℕ). entryOf w k) (open-other (19744 + f) (λ e. omega arith) (λ e. omega arith) (λ e. omega arith))
 
   shown-old : (f k : ℕ) → f < g → k < 4 → shownAt D f k ≡ shownAt C f k
-  shown-old f k l b = open-other (16656 + 4 * f + k) (λ e. omega arith) (λ e. omega arith) (λ e. omega arith)
+  shown-old f k l b = open-other (11552 + 4 * f + k) (λ e. omega arith) (λ e. omega arith) (λ e. omega arith)
 
   cases : (f : ℕ) → f < groupsIn D → (f < g) ⊎ (f ≡ g)
   cases f l = below-cases (omega (arith, open-groups))
 
-  fills-more : (f : ℕ) → (f < g) ⊎ (f ≡ g) → (fillAt D f ≤ 4) × (classAt D f < 4095)
+  fills-more : (f : ℕ) → (f < g) ⊎ (f ≡ g) → (fillAt D f ≤ 4) × (classAt D f < 1024)
   fills-more f (inl l) = rw (word-old f l) (r .fills f l)
   fills-more f (inr e) = rw (e, open-word) (omega arith, omega arith)
 
@@ -285,11 +298,11 @@ module _ (S : ℕ) (T C : List ℕ) (n h : ℕ) (long : length C ≡ 42256) (few
       let e′ = sym open-link ∙ rw q at e in
       rw q (class-old i (omega (arith, r .heads h small)) ∙ r .headed h i small e′ ∙ sym open-class)
 
-  heads-more : (i : ℕ) → i < 4095 → Dec (i ≡ h) → headAt D i ≤ groupsIn D
+  heads-more : (i : ℕ) → i < 1024 → Dec (i ≡ h) → headAt D i ≤ groupsIn D
   heads-more i b (yes e) = rw e (omega (arith, open-head, open-groups))
   heads-more i b (no d) = omega (arith, head-old i b d, r .heads i b, open-groups)
 
-  last-more : (i f : ℕ) → i < 4095 → headAt D i ≤ f → (f < g) ⊎ (f ≡ g) → classAt D f ≡ i → Dec (i ≡ h) → ⊥
+  last-more : (i f : ℕ) → i < 1024 → headAt D i ≤ f → (f < g) ⊎ (f ≡ g) → classAt D f ≡ i → Dec (i ≡ h) → ⊥
   last-more i f b a k c (yes e) = let a′ = rw e at a in omega (arith, open-head, k′ k)
     where
       k′ : (f < g) ⊎ (f ≡ g) → f ≤ g
@@ -298,7 +311,7 @@ module _ (S : ℕ) (T C : List ℕ) (n h : ℕ) (long : length C ≡ 42256) (few
   last-more i f b a (inl l) c (no d) = r .last i f b (omega (arith, head-old i b d)) l (sym (class-old f l) ∙ c)
   last-more i f b a (inr q) c (no d) = d (sym c ∙ ap (λ (x : ℕ). classAt D x) q ∙ open-class)
 
-  headed-more : (i f : ℕ) → i < 4095 → headAt D i ≡ suc f → Dec (i ≡ h) → classAt D f ≡ i
+  headed-more : (i f : ℕ) → i < 1024 → headAt D i ≡ suc f → Dec (i ≡ h) → classAt D f ≡ i
   headed-more i f b a (yes e) =
       let a′ = rw e at a in
       let q : f ≡ g = omega (arith, open-head) in
@@ -331,8 +344,17 @@ module _ (S : ℕ) (T C : List ℕ) (n h : ℕ) (long : length C ≡ 42256) (few
         is = entry-old (p .group) (p .place) (p .known) ∙ p .is;
       }
 
-  pub grouped-open : Grouped S T D n
-  grouped-open = record {
+  -- the class had no group or a full one
+  counted-open : roomAt C h ≡ 0 → 4 * groupsIn D ≡ n + sum 1024 (λ i. roomAt D i)
+  counted-open full =
+      let new : roomAt D h ≡ 4 - fillAt D g = free-some D (headAt D h) g (omega (arith, open-head)) in
+      let none : fillAt D g ≡ 0 = rw open-word (omega arith) in
+      let sums = sum-change h (λ i. roomAt C i) (λ i. roomAt D i) 1024 small (λ i b d. free-same C D (headAt C i) (headAt D i) (head-old i b d)
+      (λ f e. ap (λ (x : ℕ). x / 65536 % 8) (word-old f (omega (arith, r .heads i b))))) in
+      omega (arith, open-groups, r .counted)
+
+  pub grouped-open : roomAt C h ≡ 0 → Grouped S T D n
+  grouped-open full = record {
     fills = λ f l. fills-more f (cases f l);
     links = λ f l. links-more f (cases f l);
     skips = λ f i l. skips-more f i (cases f l);
@@ -342,11 +364,12 @@ module _ (S : ℕ) (T C : List ℕ) (n h : ℕ) (long : length C ≡ 42256) (few
     headed = λ i f b a. headed-more i f b a (ℕ-discrete i h);
     entries = λ f k l. entries-more f k (cases f l);
     placed = placed-old;
+    counted = counted-open full;
   }
 
--- ---- node n joins group g of its class, which has room
+-- ---- node n joins group g, the last of its class, which has room
 
-module _ (S : ℕ) (T C : List ℕ) (n g : ℕ) (inside : n < 4096) (long : length C ≡ 42256) (few : groupsIn C ≤ 4096) (known : g < groupsIn C)
+module _ (S : ℕ) (T C : List ℕ) (n g : ℕ) (inside : n < 4096) (long : length C ≡ 26912) (few : groupsIn C ≤ 2048) (known : g < groupsIn C)
     (room : fillAt C g < 4) (own : classAt C g ≡ classOf (nodeIn S T n .spot)) (r : Grouped S T C n) where
   abbrev s : ℕ
   s = signOf (nodeIn S T n .prices)
@@ -367,26 +390,26 @@ module _ (S : ℕ) (T C : List ℕ) (n g : ℕ) (inside : n < 4096) (long : leng
   word-is = omega (arith, r .fills g known .1)
 
   -- a word that is none of the three
-  pub join-other : (i : ℕ) → (i ≡ 16656 + 4 * g + k → ⊥) → (i ≡ 33040 + g → ⊥) → (i ≡ 8192 + g → ⊥) → getD J i 0 ≡ getD C i 0
+  pub join-other : (i : ℕ) → (i ≡ 11552 + 4 * g + k → ⊥) → (i ≡ 19744 + g → ⊥) → (i ≡ 8192 + g → ⊥) → getD J i 0 ≡ getD C i 0
   unfolding joinedTo
   join-other i a b c =
       rw (place-is, word-is)
-      (getD-set-other (set (set C (16656 + 4 * g + k) s) (33040 + g) w) (8192 + g) i (wordAt C g + 65536) 0 c
-      ∙ getD-set-other (set C (16656 + 4 * g + k) s) (33040 + g) i w 0 b
-      ∙ getD-set-other C (16656 + 4 * g + k) i s 0 a)
+      (getD-set-other (set (set C (11552 + 4 * g + k) s) (19744 + g) w) (8192 + g) i (wordAt C g + 65536) 0 c
+      ∙ getD-set-other (set C (11552 + 4 * g + k) s) (19744 + g) i w 0 b
+      ∙ getD-set-other C (11552 + 4 * g + k) i s 0 a)
 
   join-word : wordAt J g ≡ wordAt C g + 65536
   unfolding joinedTo
   join-word =
       rw (place-is, word-is)
-      (getD-set-same (set (set C (16656 + 4 * g + k) s) (33040 + g) w) (8192 + g) (wordAt C g + 65536) 0 (simp length-set (omega arith)))
+      (getD-set-same (set (set C (11552 + 4 * g + k) s) (19744 + g) w) (8192 + g) (wordAt C g + 65536) 0 (simp length-set (omega arith)))
 
   join-nodes : nodesAt J g ≡ w
   unfolding joinedTo
   join-nodes =
       rw (place-is, word-is)
-      (getD-set-other (set (set C (16656 + 4 * g + k) s) (33040 + g) w) (8192 + g) (33040 + g) (wordAt C g + 65536) 0 (λ e. omega arith)
-      ∙ getD-set-same (set C (16656 + 4 * g + k) s) (33040 + g) w 0 (simp length-set (omega arith)))
+      (getD-set-other (set (set C (11552 + 4 * g + k) s) (19744 + g) w) (8192 + g) (19744 + g) (wordAt C g + 65536) 0 (λ e. omega arith)
+      ∙ getD-set-same (set C (11552 + 4 * g + k) s) (19744 + g) w 0 (simp length-set (omega arith)))
 
   join-entry : entryAt J g k ≡ n
   join-entry = ap (λ (x : ℕ). entryOf x k) join-nodes ∙ entry-here (nodesAt C g) k n room inside
@@ -395,9 +418,9 @@ module _ (S : ℕ) (T C : List ℕ) (n g : ℕ) (inside : n < 4096) (long : leng
   unfolding joinedTo
   join-shown =
       rw (place-is, word-is)
-      (getD-set-other (set (set C (16656 + 4 * g + k) s) (33040 + g) w) (8192 + g) (16656 + 4 * g + k) (wordAt C g + 65536) 0 (λ e. omega arith)
-      ∙ getD-set-other (set C (16656 + 4 * g + k) s) (33040 + g) (16656 + 4 * g + k) w 0 (λ e. omega arith)
-      ∙ getD-set-same C (16656 + 4 * g + k) s 0 (omega arith))
+      (getD-set-other (set (set C (11552 + 4 * g + k) s) (19744 + g) w) (8192 + g) (11552 + 4 * g + k) (wordAt C g + 65536) 0 (λ e. omega arith)
+      ∙ getD-set-other (set C (11552 + 4 * g + k) s) (19744 + g) (11552 + 4 * g + k) w 0 (λ e. omega arith)
+      ∙ getD-set-same C (11552 + 4 * g + k) s 0 (omega arith))
 
   pub join-length : length J ≡ length C
   unfolding joinedTo
@@ -407,38 +430,38 @@ module _ (S : ℕ) (T C : List ℕ) (n g : ℕ) (inside : n < 4096) (long : leng
   pub join-before : (i : ℕ) → i < 8192 → getD J i 0 ≡ getD C i 0
   join-before i l = join-other i (λ e. omega arith) (λ e. omega arith) (λ e. omega arith)
 
-  pub join-between : (i : ℕ) → 12288 ≤ i → i < 16656 → getD J i 0 ≡ getD C i 0
+  pub join-between : (i : ℕ) → 10240 ≤ i → i < 11552 → getD J i 0 ≡ getD C i 0
   join-between i a l = join-other i (λ e. omega arith) (λ e. omega arith) (λ e. omega arith)
 
   -- the group's word counts one entry more, and the link and the class stay
   fill-new : fillAt J g ≡ k + 1
   fill-new = rw join-word (omega arith)
 
-  word-kept : (f : ℕ) → f < 4096 → (f ≡ g → ⊥) → wordAt J f ≡ wordAt C f
+  word-kept : (f : ℕ) → f < 2048 → (f ≡ g → ⊥) → wordAt J f ≡ wordAt C f
   word-kept f l d = join-other (8192 + f) (λ e. omega arith) (λ e. omega arith) (λ e. d (omega arith))
 
-  link-all : (f : ℕ) → f < 4096 → linkAt J f ≡ linkAt C f
+  link-all : (f : ℕ) → f < 2048 → linkAt J f ≡ linkAt C f
   link-all f l = go (ℕ-discrete f g)
     where
       go : Dec (f ≡ g) → linkAt J f ≡ linkAt C f
       go (yes e) = rw (e, join-word) (omega arith)
       go (no d) = ap (λ (x : ℕ). x % 65536) (word-kept f l d)
 
-  class-all : (f : ℕ) → f < 4096 → classAt J f ≡ classAt C f
+  class-all : (f : ℕ) → f < 2048 → classAt J f ≡ classAt C f
   class-all f l = go (ℕ-discrete f g)
     where
       go : Dec (f ≡ g) → classAt J f ≡ classAt C f
       go (yes e) = rw (e, join-word) (omega arith)
       go (no d) = ap (λ (x : ℕ). x / 65536 / 8) (word-kept f l d)
 
-  fill-all : (f : ℕ) → f < 4096 → fillAt C f ≤ fillAt J f
+  fill-all : (f : ℕ) → f < 2048 → fillAt C f ≤ fillAt J f
   fill-all f l = go (ℕ-discrete f g)
     where
       go : Dec (f ≡ g) → fillAt C f ≤ fillAt J f
       go (yes e) = rw e (omega (arith, fill-new))
       go (no d) = omega (arith, word-kept f l d)
 
-  fill-low : (f : ℕ) → f < 4096 → fillAt C f ≤ 4 → fillAt J f ≤ 4
+  fill-low : (f : ℕ) → f < 2048 → fillAt C f ≤ 4 → fillAt J f ≤ 4
   fill-low f l h = go (ℕ-discrete f g)
     where
       go : Dec (f ≡ g) → fillAt J f ≤ 4
@@ -446,18 +469,18 @@ module _ (S : ℕ) (T C : List ℕ) (n g : ℕ) (inside : n < 4096) (long : leng
       go (no d) = omega (arith, word-kept f l d)
 
   groups-all : groupsIn J ≡ groupsIn C
-  groups-all = join-between 16383 (omega arith) (omega arith)
+  groups-all = join-between 11264 (omega arith) (omega arith)
 
   -- an entry that was there
-  entry-kept : (f i : ℕ) → f < 4096 → i < 4 → (f ≡ g → i < k) → (entryAt J f i ≡ entryAt C f i) × (shownAt J f i ≡ shownAt C f i)
+  entry-kept : (f i : ℕ) → f < 2048 → i < 4 → (f ≡ g → i < k) → (entryAt J f i ≡ entryAt C f i) × (shownAt J f i ≡ shownAt C f i)
   entry-kept f i l b d = (
     go (ℕ-discrete f g),
-    join-other (16656 + 4 * f + i) (λ e. let q : f ≡ g = omega arith in omega (arith, d q)) (λ e. omega arith) (λ e. omega arith),
+    join-other (11552 + 4 * f + i) (λ e. let q : f ≡ g = omega arith in omega (arith, d q)) (λ e. omega arith) (λ e. omega arith),
   )
     where
       go : Dec (f ≡ g) → entryAt J f i ≡ entryAt C f i
       go (yes e) = rw e (ap (λ (x : ℕ). entryOf x i) join-nodes ∙ entry-before (nodesAt C g) i k n (d e) room)
-      go (no q) = ap (λ (x : ℕ). entryOf x i) (join-other (33040 + f) (λ e. omega arith) (λ e. q (omega arith)) (λ e. omega arith))
+      go (no q) = ap (λ (x : ℕ). entryOf x i) (join-other (19744 + f) (λ e. omega arith) (λ e. q (omega arith)) (λ e. omega arith))
 
   entries-new : (f i : ℕ) → f < groupsIn C → i < fillAt J f → Entry S T J (suc n) f i
   entries-new f i l b = go (ℕ-discrete f g) (ℕ-discrete i k)
@@ -490,7 +513,7 @@ module _ (S : ℕ) (T C : List ℕ) (n g : ℕ) (inside : n < 4096) (long : leng
       go : (w < n) ⊎ (w ≡ n) → Placed J w
       go (inl l) =
           let p = r .placed w l in
-          let far : p .group < 4096 = omega (arith, p .known) in
+          let far : p .group < 2048 = omega (arith, p .known) in
           let tiny : p .place < 4 = omega (arith, p .filled, r .fills (p .group) (p .known)) in
           let apart : p .group ≡ g → p .place < k = λ e. rw e at (p .filled) in
           let (is, shows) = entry-kept (p .group) (p .place) far tiny apart in
@@ -503,8 +526,29 @@ module _ (S : ℕ) (T C : List ℕ) (n g : ℕ) (inside : n < 4096) (long : leng
           }
       go (inr e) = record { group = g; place = k; known = omega (arith, groups-all); filled = omega (arith, fill-new); is = join-entry ∙ sym e }
 
-  pub grouped-join : Grouped S T J (suc n)
-  grouped-join = record {
+  -- each group has an entry if the others have
+  pub started-join : ((f : ℕ) → f < groupsIn C → (f ≡ g → ⊥) → 0 < fillAt C f) → (f : ℕ) → f < groupsIn J → 0 < fillAt J f
+  started-join others f l = go (ℕ-discrete f g)
+    where
+      go : Dec (f ≡ g) → 0 < fillAt J f
+      go (yes e) = rw e (omega (arith, fill-new))
+      go (no d) = omega (arith, others f (omega (arith, groups-all)) d, fill-all f (omega (arith, groups-all)))
+
+  -- the group is the last of its class, and no other class has it
+  counted-join : headAt C (classAt C g) ≡ suc g → 4 * groupsIn J ≡ suc n + sum 1024 (λ h. roomAt J h)
+  counted-join end =
+      let h = classAt C g in
+      let small : h < 1024 = r .fills g known .1 in
+      let old : roomAt C h ≡ 4 - k = free-some C (headAt C h) g end in
+      let new : roomAt J h ≡ 4 - fillAt J g = free-some J (headAt J h) g (join-between (10240 + h) (omega arith) (omega arith) ∙ end) in
+      let sums = sum-change h (λ i. roomAt C i) (λ i. roomAt J i) 1024 small (λ i b d. free-same C J (headAt C i) (headAt J i)
+      (join-between (10240 + i) (omega arith) (omega arith))
+      (λ f e. ap (λ (x : ℕ). x / 65536 % 8)
+      (word-kept f (omega (arith, r .heads i b)) (λ q. d (sym (r .headed i f b e) ∙ ap (λ (x : ℕ). classAt C x) q))))) in
+      omega (arith, groups-all, fill-new, r .counted)
+
+  pub grouped-join : headAt C (classAt C g) ≡ suc g → Grouped S T J (suc n)
+  grouped-join end = record {
     fills = λ f l. let b : f < groupsIn C = omega (arith, groups-all) in
         (fill-low f (omega arith) (r .fills f b .0), omega (arith, class-all f (omega arith), r .fills f b .1));
     links = λ f l. let b : f < groupsIn C = omega (arith, groups-all) in omega (arith, link-all f (omega arith), r .links f b);
@@ -513,10 +557,11 @@ module _ (S : ℕ) (T C : List ℕ) (n g : ℕ) (inside : n < 4096) (long : leng
     linked = λ f i l e. let b : f < groupsIn C = omega (arith, groups-all) in
         let q = sym (link-all f (omega arith)) ∙ e in
         class-all i (omega (arith, r .links f b)) ∙ r .linked f i b q ∙ sym (class-all f (omega arith));
-    heads = λ h b. omega (arith, groups-all, join-between (12288 + h) (omega arith) (omega arith), r .heads h b);
+    heads = λ h b. omega (arith, groups-all, join-between (10240 + h) (omega arith) (omega arith), r .heads h b);
     last = λ h f b a l e. let q : f < groupsIn C = omega (arith, groups-all) in
-        r .last h f b (omega (arith, join-between (12288 + h) (omega arith) (omega arith))) q (sym (class-all f (omega arith)) ∙ e);
-    headed = λ h f b e. let q = sym (join-between (12288 + h) (omega arith) (omega arith)) ∙ e in class-all f (omega (arith, r .heads h b)) ∙ r .headed h f b q;
+        r .last h f b (omega (arith, join-between (10240 + h) (omega arith) (omega arith))) q (sym (class-all f (omega arith)) ∙ e);
+    headed = λ h f b e. let q = sym (join-between (10240 + h) (omega arith) (omega arith)) ∙ e in class-all f (omega (arith, r .heads h b)) ∙ r .headed h f b q;
     entries = λ f i l. entries-new f i (omega (arith, groups-all));
     placed = placed-new;
+    counted = counted-join end;
   }

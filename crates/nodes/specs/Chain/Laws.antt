@@ -18,37 +18,39 @@ use Rattle.rows.specs.Sign.Laws.{class-lt}
 use Rattle.nodes.specs.Block.{blockWords, upperWords, Blocked, freshTo, loweredTo, retiredTo}
 use Rattle.nodes.specs.Block.Laws.{under-same, under-lowered, blocked-none, fresh-length, fresh-other, fresh-block, drop-same, lowered-length, lowered-other, lowered-here, retired-length, retired-key, retired-behind, blocked-retire}
 use Rattle.nodes.specs.Chain.{signAt, headAt, groupsIn, wordAt, classAt, fillAt, nodesAt, slotOf, hasRoom, groupFor, withGroup, openedTo, withEntry, joinedTo, blockedTo, linkedTo, Grouped, Chained, Recalled}
-use Rattle.nodes.specs.Chain.Groups.{room-some, room-head, group-last, group-new, SameGroups, grouped-none, grouped-words, grouped-same, open-other, open-groups, open-word, open-length, grouped-open, join-length, join-before, join-between, grouped-join}
+use Rattle.nodes.specs.Chain.Groups.{room-some, room-head, group-last, group-new, SameGroups, grouped-none, grouped-words, grouped-same, open-other, open-groups, open-head, open-word, open-length, word-old, grouped-open, join-length, join-before, join-between, started-join, grouped-join}
+use Rattle.nodes.specs.Chain.Room.{free-full, groups-few}
 
 -- ---- chains
 
 -- no node
-pub chained-none : (S : ℕ) (T C : List ℕ) → length C ≡ 42256 → ((h : ℕ) → h < 4096 → headAt C h ≡ 0) → ((b : ℕ) → b < 272 → getD C (16384 + b) 0 ≡ mark)
+pub chained-none : (S : ℕ) (T C : List ℕ) → length C ≡ 26912 → ((h : ℕ) → h < 1025 → headAt C h ≡ 0) → ((b : ℕ) → b < 272 → getD C (11280 + b) 0 ≡ mark)
     → Chained S T C 0
 chained-none S T C l z m = record {
   long = l;
   signs = λ u h. absurd (not-suc-le-zero h);
-  few-groups = omega (arith, z 4095 (omega arith));
   grouped = grouped-none S T C z;
+  started = λ g l. absurd (omega (arith, z 1024 (omega arith)));
   blocks = blocked-none C m;
   packed = λ u h. absurd (not-suc-le-zero h);
 }
 
 -- no node, after all block words are set to the mark
-pub chained-fresh : (S : ℕ) (T C : List ℕ) → length C ≡ 42256 → ((h : ℕ) → h < 4096 → headAt C h ≡ 0) → Chained S T (freshTo C 272) 0
+pub chained-fresh : (S : ℕ) (T C : List ℕ) → length C ≡ 26912 → ((h : ℕ) → h < 1025 → headAt C h ≡ 0) → Chained S T (freshTo C 272) 0
 chained-fresh S T C l z =
-    chained-none S T (freshTo C 272) (fresh-length C 272 ∙ l) (λ h b. fresh-other C 272 (12288 + h) (omega arith) ∙ z h b)
+    chained-none S T (freshTo C 272) (fresh-length C 272 ∙ l) (λ h b. fresh-other C 272 (10240 + h) (omega arith) ∙ z h b)
     (λ b k. fresh-block C 272 b (omega arith) k)
 
 -- signatures and groups are the same, and the block words are right
-chained-words : (S : ℕ) (T C C′ : List ℕ) (n : ℕ) → n ≤ 4096 → length C′ ≡ length C → ((i : ℕ) → 4096 ≤ i → i < 16384 → getD C′ i 0 ≡ getD C i 0)
-    → ((i : ℕ) → 16656 ≤ i → i < 37136 → getD C′ i 0 ≡ getD C i 0) → Blocked C′ n → Chained S T C n → Chained S T C′ n
+chained-words : (S : ℕ) (T C C′ : List ℕ) (n : ℕ) → n ≤ 4096 → length C′ ≡ length C → ((i : ℕ) → 4096 ≤ i → i < 11280 → getD C′ i 0 ≡ getD C i 0)
+    → ((i : ℕ) → 11552 ≤ i → i < 21792 → getD C′ i 0 ≡ getD C i 0) → Blocked C′ n → Chained S T C n → Chained S T C′ n
 chained-words S T C C′ n few l s f k r = record {
   long = l ∙ r .long;
   signs = λ u h. s (4096 + u) (omega arith) (omega arith) ∙ r .signs u h;
-  few-groups = omega (arith, s 16383 (omega arith) (omega arith), r .few-groups);
   grouped =
-      grouped-words S T C C′ n (omega (arith, r .few-groups)) (record { chains = λ i a. s i (omega arith); members = f }) (r .grouped);
+      grouped-words S T C C′ n (omega (arith, groups-few S T C n few r)) (record { chains = λ i a. s i (omega arith); members = f }) (r .grouped);
+  started = λ g b. let known : g < groupsIn C = omega (arith, s 11264 (omega arith) (omega arith)) in
+      omega (arith, s (8192 + g) (omega arith) (omega (arith, groups-few S T C n few r)), r .started g known);
   blocks = k;
   packed = r .packed;
 }
@@ -71,19 +73,19 @@ pub recalled-both : (C D E : List ℕ) → Recalled C D → Recalled D E → Rec
 recalled-both C D E r s = record { long = s .long ∙ r .long; same = λ i l. s .same i l ∙ r .same i l }
 
 -- one recent word is stored, or one of the list
-pub recalled-set : (C : List ℕ) (i v : ℕ) → 37136 ≤ i → Recalled C (set C i v)
+pub recalled-set : (C : List ℕ) (i v : ℕ) → 21792 ≤ i → Recalled C (set C i v)
 recalled-set C i v h = record { long = length-set C i v; same = λ k l. getD-set-other C i k v 0 (λ e. omega arith) }
 
 -- the block words do not go by recent words
 pub blocked-recalled : (C D : List ℕ) (n : ℕ) → n ≤ 4096 → Recalled C D → Blocked C n → Blocked D n
 blocked-recalled C D n few k r = record {
-  keys = under-same C (blockWords C) D (blockWords D) 256 n (omega arith) (λ u l. k .same u (omega arith)) (λ b l. word 16384 b (omega arith)) (r .keys);
+  keys = under-same C (blockWords C) D (blockWords D) 256 n (omega arith) (λ u l. k .same u (omega arith)) (λ b l. word 11280 b (omega arith)) (r .keys);
   words =
-      under-same (blockWords C) (upperWords C) (blockWords D) (upperWords D) 16 256 (omega arith) (λ b l. word 16384 b (omega arith))
-      (λ g l. word 16640 g (omega arith)) (r .words);
+      under-same (blockWords C) (upperWords C) (blockWords D) (upperWords D) 16 256 (omega arith) (λ b l. word 11280 b (omega arith))
+      (λ g l. word 11536 g (omega arith)) (r .words);
 }
   where
-    word : (at b : ℕ) → at + b < 37136 → getD (drop at D) b 0 ≡ getD (drop at C) b 0
+    word : (at b : ℕ) → at + b < 21792 → getD (drop at D) b 0 ≡ getD (drop at C) b 0
     word at b l = drop-same C D at b (k .same (at + b) l)
 
 -- nor do the chains
@@ -103,8 +105,8 @@ pub chained-same : (S : ℕ) (T T′ C : List ℕ) (n : ℕ) → ((u : ℕ) → 
 chained-same S T T′ C n s r = record {
   long = r .long;
   signs = λ u h. r .signs u h ∙ ap (λ (row : List ℕ). signOf (nodeOf S row .prices)) (sym (s u h));
-  few-groups = r .few-groups;
   grouped = grouped-same S T T′ C n s (r .grouped);
+  started = r .started;
   blocks = r .blocks;
   packed = λ u h. rw (s u h) (r .packed u h);
 }
@@ -116,30 +118,30 @@ module _ (C : List ℕ) (n key s : ℕ) where
   stored = set (set C n key) (4096 + n) s
 
   abbrev half : List ℕ
-  half = loweredTo stored (16384 + n / 16) key
+  half = loweredTo stored (11280 + n / 16) key
 
   abbrev B : List ℕ
   B = blockedTo C n key s
 
   half-length : length half ≡ length C
-  half-length = lowered-length stored (16384 + n / 16) key ∙ simp length-set
+  half-length = lowered-length stored (11280 + n / 16) key ∙ simp length-set
 
   -- the scan words stay as many
   pub block-length : length B ≡ length C
   unfolding blockedTo
-  block-length = lowered-length half (16640 + n / 16 / 16) key ∙ half-length
+  block-length = lowered-length half (11536 + n / 16 / 16) key ∙ half-length
 
   -- but for the key, the signature, its block's word and the upper word they are the same
-  block-but : (i : ℕ) → (i ≡ 16384 + n / 16 → ⊥) → (i ≡ 16640 + n / 16 / 16 → ⊥) → getD B i 0 ≡ getD stored i 0
+  block-but : (i : ℕ) → (i ≡ 11280 + n / 16 → ⊥) → (i ≡ 11536 + n / 16 / 16 → ⊥) → getD B i 0 ≡ getD stored i 0
   unfolding blockedTo
-  block-but i d f = lowered-other half (16640 + n / 16 / 16) key i f ∙ lowered-other stored (16384 + n / 16) key i d
+  block-but i d f = lowered-other half (11536 + n / 16 / 16) key i f ∙ lowered-other stored (11280 + n / 16) key i d
 
   -- of the open keys only the node's is stored
   pub block-key : (u : ℕ) → u < 4096 → getD B u 0 ≡ getD (set C n key) u 0
   block-key u b = block-but u (λ e. omega arith) (λ e. omega arith) ∙ getD-set-other (set C n key) (4096 + n) u s 0 (λ e. omega arith)
 
-  module _ (long : length C ≡ 42256) (few : n < 4096) where
-    block-old : (i : ℕ) → 4096 ≤ i → (i ≡ 4096 + n → ⊥) → (i ≡ 16384 + n / 16 → ⊥) → (i ≡ 16640 + n / 16 / 16 → ⊥) → getD B i 0 ≡ getD C i 0
+  module _ (long : length C ≡ 26912) (few : n < 4096) where
+    block-old : (i : ℕ) → 4096 ≤ i → (i ≡ 4096 + n → ⊥) → (i ≡ 11280 + n / 16 → ⊥) → (i ≡ 11536 + n / 16 / 16 → ⊥) → getD B i 0 ≡ getD C i 0
     block-old i b a d f =
         block-but i d f ∙ getD-set-other (set C n key) (4096 + n) i s 0 a ∙ getD-set-other C n i key 0 (λ e. omega arith)
 
@@ -158,16 +160,16 @@ module _ (C : List ℕ) (n key s : ℕ) where
     }
 
     -- the other words of blocks and upper words, as those from a place on
-    block-at : (at b : ℕ) → 16384 ≤ at → at + b < 16656 → (at + b ≡ 16384 + n / 16 → ⊥) → (at + b ≡ 16640 + n / 16 / 16 → ⊥)
+    block-at : (at b : ℕ) → 11280 ≤ at → at + b < 11552 → (at + b ≡ 11280 + n / 16 → ⊥) → (at + b ≡ 11536 + n / 16 / 16 → ⊥)
         → getD (drop at B) b 0 ≡ getD (drop at C) b 0
     block-at at b l i d f = drop-same C B at b (block-old (at + b) (omega arith) (λ e. omega arith) d f)
 
     -- so the words of the other blocks
     block-words : (b : ℕ) → b < 256 → (b ≡ n / 16 → ⊥) → getD (blockWords B) b 0 ≡ getD (blockWords C) b 0
-    block-words b l d = block-at 16384 b (omega arith) (omega arith) (λ e. d (omega arith)) (λ e. omega arith)
+    block-words b l d = block-at 11280 b (omega arith) (omega arith) (λ e. d (omega arith)) (λ e. omega arith)
 
     -- a word from the block words on, before it is lowered
-    stored-word : (at b : ℕ) → 16384 ≤ at → getD stored (at + b) 0 ≡ getD (drop at C) b 0
+    stored-word : (at b : ℕ) → 11280 ≤ at → getD stored (at + b) 0 ≡ getD (drop at C) b 0
     stored-word at b l =
         getD-set-other (set C n key) (4096 + n) (at + b) s 0 (λ e. omega arith) ∙ getD-set-other C n (at + b) key 0 (λ e. omega arith)
         ∙ sym (getD-drop at C b 0)
@@ -176,19 +178,19 @@ module _ (C : List ℕ) (n key s : ℕ) where
     block-word : getD (blockWords B) (n / 16) 0 ≡ min (getD (blockWords C) (n / 16) 0) key
     unfolding blockedTo
     block-word =
-        getD-drop 16384 B (n / 16) 0
-        ∙ lowered-other half (16640 + n / 16 / 16) key (16384 + n / 16) (λ e. omega arith)
-        ∙ lowered-here stored (16384 + n / 16) key (simp length-set (omega arith))
-        ∙ ap (λ (i : ℕ). min i key) (stored-word 16384 (n / 16) (omega arith))
+        getD-drop 11280 B (n / 16) 0
+        ∙ lowered-other half (11536 + n / 16 / 16) key (11280 + n / 16) (λ e. omega arith)
+        ∙ lowered-here stored (11280 + n / 16) key (simp length-set (omega arith))
+        ∙ ap (λ (i : ℕ). min i key) (stored-word 11280 (n / 16) (omega arith))
 
     -- the upper word
     block-upper : getD (upperWords B) (n / 16 / 16) 0 ≡ min (getD (upperWords C) (n / 16 / 16) 0) key
     unfolding blockedTo
     block-upper =
-        getD-drop 16640 B (n / 16 / 16) 0
-        ∙ lowered-here half (16640 + n / 16 / 16) key (omega (arith, half-length))
+        getD-drop 11536 B (n / 16 / 16) 0
+        ∙ lowered-here half (11536 + n / 16 / 16) key (omega (arith, half-length))
         ∙ ap (λ (i : ℕ). min i key)
-        (lowered-other stored (16384 + n / 16) key (16640 + n / 16 / 16) (λ e. omega arith) ∙ stored-word 16640 (n / 16 / 16) (omega arith))
+        (lowered-other stored (11280 + n / 16) key (11536 + n / 16 / 16) (λ e. omega arith) ∙ stored-word 11536 (n / 16 / 16) (omega arith))
 
     -- the open keys of the nodes before it, and its own
     key-old : (u : ℕ) → u < n → getD B u 0 ≡ getD C u 0
@@ -206,7 +208,7 @@ module _ (C : List ℕ) (n key s : ℕ) where
           (r .keys) key (omega arith) block-word (λ l. absurd (omega arith)) (λ _. key-new);
       words =
           under-lowered (blockWords C) (upperWords C) (blockWords B) (upperWords B) 16 256 256 (n / 16)
-          (record { keys = block-words; words = λ g l d. block-at 16640 g (omega arith) (omega arith) (λ e. omega arith) (λ e. d (omega arith)); old = λ u l d. l; kept = omega arith; few = omega arith })
+          (record { keys = block-words; words = λ g l d. block-at 11536 g (omega arith) (omega arith) (λ e. omega arith) (λ e. d (omega arith)); old = λ u l d. l; kept = omega arith; few = omega arith })
           (r .words) key (omega arith) block-upper (λ _. block-word) (λ l. absurd (omega arith));
     }
 
@@ -216,20 +218,23 @@ module _ (C : List ℕ) (n key s : ℕ) where
 pub record Ready (S : ℕ) (T C : List ℕ) (n h : ℕ) (D : List ℕ) (g : ℕ) : Type 0 where
   pub kept : length D ≡ length C
   pub same : (i : ℕ) → i < 8192 → getD D i 0 ≡ getD C i 0
-  pub words : (i : ℕ) → 16384 ≤ i → i < 16656 → getD D i 0 ≡ getD C i 0
+  pub words : (i : ℕ) → 11280 ≤ i → i < 11552 → getD D i 0 ≡ getD C i 0
   pub few : groupsIn D ≤ groupsIn C + 1
   pub known : g < groupsIn D
   pub room : fillAt D g < 4
   pub own : classAt D g ≡ h
+  pub end : headAt D h ≡ suc g
+  pub others : (f : ℕ) → f < groupsIn D → (f ≡ g → ⊥) → 0 < fillAt D f
   pub grouped : Grouped S T D n
 
-module _ (S : ℕ) (T C : List ℕ) (n h : ℕ) (long : length C ≡ 42256) (few : groupsIn C < 4096) (small : h < 4095) (r : Grouped S T C n) where
+module _ (S : ℕ) (T C : List ℕ) (n h : ℕ) (long : length C ≡ 26912) (few : groupsIn C < 2048) (small : h < 1024) (r : Grouped S T C n)
+    (started : (f : ℕ) → f < groupsIn C → 0 < fillAt C f) where
   -- it is the last of the class
-  ready-last : hasRoom C (headAt C h) ≡ true → Ready S T C n h C ((headAt C h - 1) % 4096)
+  ready-last : hasRoom C (headAt C h) ≡ true → Ready S T C n h C ((headAt C h - 1) % 2048)
   ready-last e =
       let some = room-head C (headAt C h) e in
       let top = r .heads h small in
-      let is : headAt C h ≡ suc ((headAt C h - 1) % 4096) = omega arith in
+      let is : headAt C h ≡ suc ((headAt C h - 1) % 2048) = omega arith in
       record {
         kept = refl;
         same = λ i l. refl;
@@ -237,15 +242,17 @@ module _ (S : ℕ) (T C : List ℕ) (n h : ℕ) (long : length C ≡ 42256) (few
         few = omega arith;
         known = omega arith;
         room = ltb-true _ 4 (sym (room-some C (headAt C h) (λ z. omega arith)) ∙ e);
-        own = r .headed h ((headAt C h - 1) % 4096) small is;
+        own = r .headed h ((headAt C h - 1) % 2048) small is;
+        end = is;
+        others = λ f l d. started f l;
         grouped = r;
       }
 
   -- it is new
-  ready-new : Ready S T C n h (withGroup C h (groupsIn C % 4096)) (groupsIn C % 4096)
+  ready-new : hasRoom C (headAt C h) ≡ false → Ready S T C n h (withGroup C h (groupsIn C % 2048)) (groupsIn C % 2048)
   unfolding withGroup
-  ready-new =
-      let is : groupsIn C % 4096 ≡ groupsIn C = omega arith in
+  ready-new e =
+      let is : groupsIn C % 2048 ≡ groupsIn C = omega arith in
       let word = open-word S T C n h long few small r in
       let more = open-groups S T C n h long few small r in
       rw is
@@ -257,7 +264,9 @@ module _ (S : ℕ) (T C : List ℕ) (n h : ℕ) (long : length C ≡ 42256) (few
         known = omega (arith, more);
         room = rw word (omega arith);
         own = rw word (omega arith);
-        grouped = grouped-open S T C n h long few small r;
+        end = omega (arith, open-head S T C n h long few small r);
+        others = λ f l d. let b : f < groupsIn C = omega (arith, more) in omega (arith, word-old S T C n h long few small r f b, started f b);
+        grouped = grouped-open S T C n h long few small r (free-full C (headAt C h) (omega (arith, r .heads h small)) e);
       })
 
   ready : Ready S T C n h (openedTo C h) (groupFor C h)
@@ -265,7 +274,7 @@ module _ (S : ℕ) (T C : List ℕ) (n h : ℕ) (long : length C ≡ 42256) (few
     where
       go : (hasRoom C (headAt C h) ≡ true) ⊎ (hasRoom C (headAt C h) ≡ false) → Ready S T C n h (openedTo C h) (groupFor C h)
       go (inl e) = rw (group-last C h e .0, group-last C h e .1) (ready-last e)
-      go (inr e) = rw (group-new C h e .0, group-new C h e .1) ready-new
+      go (inr e) = rw (group-new C h e .0, group-new C h e .1) (ready-new e)
 
 -- ---- a node is linked
 
@@ -273,8 +282,8 @@ module _ (S : ℕ) (T C : List ℕ) (n h : ℕ) (long : length C ≡ 42256) (few
 group-key : (C : List ℕ) (h g u : ℕ) → u < 4096 → getD (withGroup C h g) u 0 ≡ getD C u 0
 unfolding withGroup
 group-key C h g u b =
-    getD-set-other (set (set C (8192 + g) (h * 8 * 65536 + headAt C h % 65536)) (12288 + h) (g + 1)) 16383 u (g + 1) 0 (λ e. omega arith)
-    ∙ getD-set-other (set C (8192 + g) (h * 8 * 65536 + headAt C h % 65536)) (12288 + h) u (g + 1) 0 (λ e. omega arith)
+    getD-set-other (set (set C (8192 + g) (h * 8 * 65536 + headAt C h % 65536)) (10240 + h) (g + 1)) 11264 u (g + 1) 0 (λ e. omega arith)
+    ∙ getD-set-other (set C (8192 + g) (h * 8 * 65536 + headAt C h % 65536)) (10240 + h) u (g + 1) 0 (λ e. omega arith)
     ∙ getD-set-other C (8192 + g) u (h * 8 * 65536 + headAt C h % 65536) 0 (λ e. omega arith)
 
 opened-key : (C : List ℕ) (h u : ℕ) → u < 4096 → getD (openedTo C h) u 0 ≡ getD C u 0
@@ -282,14 +291,14 @@ opened-key C h u b = go (test-cases (hasRoom C (headAt C h)))
   where
     go : (hasRoom C (headAt C h) ≡ true) ⊎ (hasRoom C (headAt C h) ≡ false) → getD (openedTo C h) u 0 ≡ getD C u 0
     go (inl e) = ap (λ (D : List ℕ). getD D u 0) (group-last C h e .1)
-    go (inr e) = ap (λ (D : List ℕ). getD D u 0) (group-new C h e .1) ∙ group-key C h (groupsIn C % 4096) u b
+    go (inr e) = ap (λ (D : List ℕ). getD D u 0) (group-new C h e .1) ∙ group-key C h (groupsIn C % 2048) u b
 
 joined-key : (C : List ℕ) (g n s u : ℕ) → u < 4096 → getD (joinedTo C g n s) u 0 ≡ getD C u 0
 unfolding joinedTo
 joined-key C g n s u b =
-    getD-set-other (set (set C (16656 + 4 * g + wordAt C g / 65536 % 4) s) (33040 + g) (withEntry (nodesAt C g) (wordAt C g / 65536 % 4) n)) (8192 + g) u (wordAt C g % 4294967296 + 65536) 0 (λ e. omega arith)
-    ∙ getD-set-other (set C (16656 + 4 * g + wordAt C g / 65536 % 4) s) (33040 + g) u (withEntry (nodesAt C g) (wordAt C g / 65536 % 4) n) 0 (λ e. omega arith)
-    ∙ getD-set-other C (16656 + 4 * g + wordAt C g / 65536 % 4) u s 0 (λ e. omega arith)
+    getD-set-other (set (set C (11552 + 4 * g + wordAt C g / 65536 % 4) s) (19744 + g) (withEntry (nodesAt C g) (wordAt C g / 65536 % 4) n)) (8192 + g) u (wordAt C g % 4294967296 + 65536) 0 (λ e. omega arith)
+    ∙ getD-set-other (set C (11552 + 4 * g + wordAt C g / 65536 % 4) s) (19744 + g) u (withEntry (nodesAt C g) (wordAt C g / 65536 % 4) n) 0 (λ e. omega arith)
+    ∙ getD-set-other C (11552 + 4 * g + wordAt C g / 65536 % 4) u s 0 (λ e. omega arith)
 
 -- of the open keys only the node's is stored
 pub linked-key : (C : List ℕ) (n key s h u : ℕ) → u < 4096 → getD (linkedTo C n key s h) u 0 ≡ getD (set C n key) u 0
@@ -307,16 +316,21 @@ module _ (S : ℕ) (T C : List ℕ) (n key : ℕ) (few : n < 4096) (own : Packed
   abbrev mid : List ℕ
   mid = blockedTo C n key sign
 
-  mid-long : length mid ≡ 42256
+  mid-long : length mid ≡ 26912
   mid-long = block-length C n key sign ∙ r .long
 
   mid-groups : groupsIn mid ≡ groupsIn C
-  mid-groups = same-groups C n key sign (r .long) few .chains 16383 (omega arith) (omega arith)
+  mid-groups = same-groups C n key sign (r .long) few .chains 11264 (omega arith) (omega arith)
+
+  few-old : groupsIn C ≤ 1792
+  few-old = groups-few S T C n (omega arith) r
 
   got : Ready S T mid n class (openedTo mid class) (groupFor mid class)
   got =
-      ready S T mid n class mid-long (omega (arith, mid-groups, r .few-groups)) (class-lt (nodeIn S T n .spot))
-      (grouped-words S T C mid n (omega (arith, r .few-groups)) (same-groups C n key sign (r .long) few) (r .grouped))
+      ready S T mid n class mid-long (omega (arith, mid-groups, few-old)) (class-lt (nodeIn S T n .spot))
+      (grouped-words S T C mid n (omega (arith, few-old)) (same-groups C n key sign (r .long) few) (r .grouped))
+      (λ f l. let b : f < groupsIn C = omega (arith, mid-groups) in
+      omega (arith, same-groups C n key sign (r .long) few .chains (8192 + f) (omega arith) (omega (arith, few-old)), r .started f b))
 
   abbrev E : List ℕ
   E = openedTo mid class
@@ -324,11 +338,11 @@ module _ (S : ℕ) (T C : List ℕ) (n key : ℕ) (few : n < 4096) (own : Packed
   abbrev g : ℕ
   g = groupFor mid class
 
-  E-long : length E ≡ 42256
+  E-long : length E ≡ 26912
   E-long = got .kept ∙ mid-long
 
-  E-few : groupsIn E ≤ suc n
-  E-few = omega (arith, got .few, mid-groups, r .few-groups)
+  E-few : groupsIn E ≤ 1793
+  E-few = omega (arith, got .few, mid-groups, few-old)
 
   -- a word before the groups
   word-same : (i : ℕ) → i < 8192 → getD (linkedTo C n key sign class) i 0 ≡ getD mid i 0
@@ -337,7 +351,7 @@ module _ (S : ℕ) (T C : List ℕ) (n key : ℕ) (few : n < 4096) (own : Packed
       join-before S T E n g few E-long (omega (arith, E-few)) (got .known) (got .room) (got .own) (got .grouped) i (omega arith) ∙ got .same i l
 
   -- a block word or an upper word
-  block-same : (i : ℕ) → 16384 ≤ i → i < 16656 → getD (linkedTo C n key sign class) i 0 ≡ getD mid i 0
+  block-same : (i : ℕ) → 11280 ≤ i → i < 11552 → getD (linkedTo C n key sign class) i 0 ≡ getD mid i 0
   unfolding linkedTo
   block-same i a l =
       join-between S T E n g few E-long (omega (arith, E-few)) (got .known) (got .room) (got .own) (got .grouped) i (omega arith) l ∙ got .words i a l
@@ -354,13 +368,13 @@ module _ (S : ℕ) (T C : List ℕ) (n key : ℕ) (few : n < 4096) (own : Packed
       let k = blocked-link C n key sign (r .long) few (r .blocks) in
       let D = linkedTo C n key sign class in
       record {
-        keys = under-same mid (blockWords mid) D (blockWords D) 256 (suc n) (omega arith) (λ u l. word-same u (omega arith)) (λ b l. word 16384 b (omega arith) (omega arith)) (k .keys);
+        keys = under-same mid (blockWords mid) D (blockWords D) 256 (suc n) (omega arith) (λ u l. word-same u (omega arith)) (λ b l. word 11280 b (omega arith) (omega arith)) (k .keys);
         words =
-            under-same (blockWords mid) (upperWords mid) (blockWords D) (upperWords D) 16 256 (omega arith) (λ b l. word 16384 b (omega arith) (omega arith))
-            (λ b l. word 16640 b (omega arith) (omega arith)) (k .words);
+            under-same (blockWords mid) (upperWords mid) (blockWords D) (upperWords D) 16 256 (omega arith) (λ b l. word 11280 b (omega arith) (omega arith))
+            (λ b l. word 11536 b (omega arith) (omega arith)) (k .words);
       }
     where
-      word : (at b : ℕ) → 16384 ≤ at → at + b < 16656 → getD (drop at (linkedTo C n key sign class)) b 0 ≡ getD (drop at mid) b 0
+      word : (at b : ℕ) → 11280 ≤ at → at + b < 11552 → getD (drop at (linkedTo C n key sign class)) b 0 ≡ getD (drop at mid) b 0
       word at b a l = drop-same mid (linkedTo C n key sign class) at b (block-same (at + b) (omega arith) l)
 
   packed-more : (u : ℕ) → u < suc n → Packed (rowIn S T u)
@@ -375,8 +389,10 @@ module _ (S : ℕ) (T C : List ℕ) (n key : ℕ) (few : n < 4096) (own : Packed
   chained-link = record {
     long = join-length S T E n g few E-long (omega (arith, E-few)) (got .known) (got .room) (got .own) (got .grouped) ∙ E-long;
     signs = signs-more;
-    few-groups = omega (arith, join-between S T E n g few E-long (omega (arith, E-few)) (got .known) (got .room) (got .own) (got .grouped) 16383 (omega arith) (omega arith), E-few);
-    grouped = grouped-join S T E n g few E-long (omega (arith, E-few)) (got .known) (got .room) (got .own) (got .grouped);
+    grouped =
+        grouped-join S T E n g few E-long (omega (arith, E-few)) (got .known) (got .room) (got .own) (got .grouped)
+        (ap (λ (h : ℕ). headAt E h) (got .own) ∙ got .end);
+    started = started-join S T E n g few E-long (omega (arith, E-few)) (got .known) (got .room) (got .own) (got .grouped) (got .others);
     blocks = blocks-more;
     packed = packed-more;
   }

@@ -118,8 +118,8 @@ sign-within P Q e h =
 
 -- ---- classes
 
--- a class is below 4,095
-pub class-lt : (c : Centre) → classOf c < 4095
+-- a class is below 1,024
+pub class-lt : (c : Centre) → classOf c < 1024
 unfolding classOf
 class-lt c = omega arith
 
