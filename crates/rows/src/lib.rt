@@ -11,7 +11,7 @@ ghost use Rattle.search.specs.Node.{leastOf};
 ghost use Rattle.rows.specs.Four.{fourTo};
 ghost use Rattle.rows.specs.Row.{spotOf, nodeOf, nodeWith, packOf, Packed};
 ghost use Rattle.rows.specs.Scan.{Cut, goalsBy, keyBy, goalSumBy, goalCostBy};
-ghost use Rattle.rows.specs.Sign.{classOf, signOf};
+ghost use Rattle.rows.specs.Sign.{classOf, signTo, signOf};
 
 // ---- prices
 
@@ -119,16 +119,16 @@ pub fn goal_cost(
     goal_sum(leaves, bases, goals, paid, prices)
 }
 
-// The signature of fewer than 64 prices, each of which is looked at: from the last one down, so that a state takes two instructions.
-fn sign_of_few(prices: &[u64]) -> u64
-    requires { ⌜ length (now prices) < 64 ⌝ }
-    ensures { λ r. ⌜ r ≡ signOf (now (prices .entry)) ⌝ }
+// The signature of every `step`-th of the prices, `count` of them, at most 64: a bit for each, the first the lowest.
+fn sign_by_step(prices: &[u64], step: usize, count: usize) -> u64
+    requires { ⌜ (0 < step) × (count ≤ 64) × (count * step ≤ length (now prices)) ⌝ }
+    ensures { λ r. ⌜ r ≡ signTo step (now (prices .entry)) count ⌝ }
 {
     let mut sign: u64 = 0;
-    let mut k = prices.len();
+    let mut k = count;
     while k > 0 {
         k -= 1;
-        sign = sign * 2 + (prices[k] < MARK) as u64;
+        sign = sign * 2 + (prices[k * step] < MARK) as u64;
     }
     sign
 }
@@ -149,12 +149,17 @@ fn sign_of_many(prices: &[u64]) -> u64
     sign
 }
 
-// The signature of the prices: a bit for each reachable state that is looked at, the same for every 64th.
+// The signature of prices: where 64 of them or fewer are looked at, bit by bit.
 pub fn sign_of(prices: &[u64]) -> u64
     ensures { λ r. ⌜ r ≡ signOf (now (prices .entry)) ⌝ }
 {
-    if prices.len() < 64 {
-        return sign_of_few(prices);
+    let states = prices.len();
+    if states < 64 {
+        return sign_by_step(prices, 1, states);
+    }
+    let step = states / 64;
+    if states / step == 64 {
+        return sign_by_step(prices, step, 64);
     }
     sign_of_many(prices)
 }

@@ -7,8 +7,8 @@ use Prim.Native.Nat.{ℕ, _+_, _-_, _*_, _/_, _%_, _≤_, _<_}
 use native.Mathlib.Omega.{arith}
 use lib.Dec.{leb, eqb}
 use lib.ListN.{length, getD, take}
-use borrow.Author.Tests.{leb-true, eqb-true, eqb-false}
-use Rattle.loops.specs.Count.Laws.{and-out}
+use borrow.Author.Tests.{leb-true, eqb-true, eqb-false, not-true}
+use Rattle.loops.specs.Count.Laws.{and-out, or-out}
 use Rattle.task.specs.declared.Centre.{Centre}
 use Rattle.layer.specs.Board.{Board, rowOn, metOn}
 use Rattle.mets.specs.Listed.{Listed, listed-front}
@@ -22,16 +22,6 @@ way-parts : (h m n : ℕ) → n ≡ (h - 1) / 16 * 16 + (m - 1) % 16 + 1
 way-parts h m n e =
     let left : (n - 1) / 16 ≡ (h - 1) / 16 = omega arith in
     (omega arith, ap (λ (k : ℕ). k % 16) left, omega arith)
-
--- one of two tests passes
-or-out : (p q : Bool) → (p || q) ≡ true → (p ≡ true) ⊎ (q ≡ true)
-or-out true q e = inl refl
-or-out false q e = inr e
-
--- a test that does not fail
-not-out : (p : Bool) → not p ≡ true → p ≡ false
-not-out true e = absurd (true≢false (sym e))
-not-out false e = refl
 
 module _ (b : Board) (effects : List ℕ) (spot : Centre) (T : List ℕ) (u : ℕ) (old : List ℕ) where
   -- all whose conditions hold
@@ -69,7 +59,7 @@ module _ (b : Board) (effects : List ℕ) (spot : Centre) (T : List ℕ) (u : �
           w = (m - 1) / 16 % 16;
           z = (m - 1) % 16;
           first = rw word at (isHops .word by known .hop (λ z. some (sym word ∙ z)));
-          second = rw (← variable) at (isHops .word k l .hop (eqb-false m 0 (not-out (eqb m 0) p)));
+          second = rw (← variable) at (isHops .word k l .hop (eqb-false m 0 (not-true (eqb m 0) p)));
           way = way d refl (or-out _ _ w);
         }
       where
@@ -87,7 +77,7 @@ module _ (b : Board) (effects : List ℕ) (spot : Centre) (T : List ℕ) (u : �
             let (p, q) = and-out (not (eqb d 0)) _ e in
             let g = (h - 1) / 16 * 16 + (getD hops k 0 - 1) % 16 in
             let inside : g < 8192 = omega (arith, isHops .word by known .few, word) in
-            let some-way : d ≡ 0 → ⊥ = eqb-false d 0 (not-out (eqb d 0) p) in
+            let some-way : d ≡ 0 → ⊥ = eqb-false d 0 (not-true (eqb d 0) p) in
             let (l, f) = isWays .way g inside (λ z. some-way (sym isWay ∙ z)) in
             let isWord : getD hops (d - 1) 0 ≡ g + 1 = rw isWay at f in
             let (one, two, three) = way-parts h (getD hops k 0) (getD hops (d - 1) 0) isWord in
