@@ -1,4 +1,6 @@
-// Whether the node of a row dominates another: the same centre state, no higher centre cost and no higher price anywhere.
+// Whether the node of a row dominates another: the same centre state, no higher centre cost and no higher price anywhere. Where there are many states, those
+// that the other reaches are listed first.
+use leaf::MARK;
 use rows::pack;
 use task::Centre;
 ghost use mathlib.Core.Path.{_≡_};
@@ -7,10 +9,68 @@ ghost use lib.Dec.{eqb};
 ghost use lib.ListN.{length, take};
 ghost use Rattle.loops.specs.Count.{all};
 ghost use Rattle.task.specs.Centre.{valueIn};
-ghost use Rattle.rows.specs.Reach.{Reaches, AboveInList};
+ghost use Rattle.rows.specs.Reach.{Reaches, ReachesIn, AboveInList};
 ghost use Rattle.rows.specs.Row.{spotOf, nodeOf, nodeWith, Packed, NotAbove, Above, Tested};
 ghost use Rattle.rows.specs.Sign.{signOf};
 ghost use Rattle.rows.specs.Sign.Bits.{AboveInBits};
+
+// ---- the states that are reached
+
+// The states from `from` to `to` behind the `many` that are listed, those of them that the prices reach; how many there are then. Each is written, and
+// the count grows by a condition, so that nothing branches.
+fn list_from(prices: &[u64], list: &mut [u16], from: usize, to: usize, many: usize) -> usize
+    requires { ⌜ (1024 ≤ length (now list)) × (from ≤ to) × (to ≤ 1024) × (to ≤ length (now prices)) × ReachesIn from (now prices) (now list) many ⌝ }
+    ensures { λ r. ⌜ ReachesIn to (now (prices .entry)) (now (list .exit)) r ⌝ }
+{
+    let mut n = many;
+    for x in from..to {
+        list[n] = x as u16;
+        if prices[x] < MARK {
+            n += 1;
+        }
+    }
+    n
+}
+
+// The same of four states. Mostly none is reached: their prices are all the mark then, and so are the bits that they share.
+fn list_four(prices: &[u64], list: &mut [u16], from: usize, many: usize) -> usize
+    requires { ⌜ (1024 ≤ length (now list)) × (from + 4 ≤ 1024) × (from + 4 ≤ length (now prices)) × ReachesIn from (now prices) (now list) many ⌝ }
+    ensures { λ r. ⌜ ReachesIn (from + 4) (now (prices .entry)) (now (list .exit)) r ⌝ }
+{
+    let low = prices[from] & prices[from + 1];
+    let high = prices[from + 2] & prices[from + 3];
+    if low & high == MARK {
+        return many;
+    }
+    list_from(prices, list, from, from + 4, many)
+}
+
+// The same of all states, four at a time.
+fn list_all(states: usize, prices: &[u64], list: &mut [u16]) -> usize
+    requires { ⌜ (1024 ≤ length (now list)) × (states ≤ 1024) × (states ≤ length (now prices)) ⌝ }
+    ensures { λ r. ⌜ ReachesIn states (now (prices .entry)) (now (list .exit)) r ⌝ }
+{
+    let mut many = 0;
+    let mut x = 0;
+    while x + 4 <= states {
+        many = list_four(prices, list, x, many);
+        x += 4;
+    }
+    list_from(prices, list, x, states, many)
+}
+
+// Lists the states that the prices reach where there are 128 or more, and answers how many are listed. Fewer are told apart by the signature.
+pub fn list_reached(states: usize, prices: &[u64], list: &mut [u16]) -> usize
+    requires { ⌜ (1024 ≤ length (now list)) × (states ≤ 1024) × (states ≤ length (now prices)) ⌝ }
+    ensures { λ r. ⌜ (r ≤ 1024) × (128 ≤ states → ReachesIn states (now (prices .entry)) (now (list .exit)) r) ⌝ }
+{
+    if states >= 128 {
+        return list_all(states, prices, list);
+    }
+    0
+}
+
+// ---- dominance
 
 // Whether the row's node has this centre state: the same packs are the same values.
 fn same_spot(row: &[u64], spot: Centre) -> bool
@@ -79,7 +139,7 @@ fn place_by_sign(row: &[u64], states: usize, prices: &[u64], sign: u64) -> usize
 }
 
 // A place where the row's price is higher among the states of a list, the number of states if there is none.
-fn place_in_list(row: &[u64], states: usize, prices: &[u64], list: &[u64]) -> usize
+fn place_in_list(row: &[u64], states: usize, prices: &[u64], list: &[u16]) -> usize
     requires { ⌜ (length (now row) ≡ 40 + states) × (states ≤ length (now prices)) × Reaches states (now prices) (now list) ⌝ }
     ensures { λ r. ⌜ AboveInList states (now (row .entry)) (now (prices .entry)) (now (list .entry)) r ⌝ }
 {
@@ -94,7 +154,7 @@ fn place_in_list(row: &[u64], states: usize, prices: &[u64], list: &[u64]) -> us
 
 // A place where the row's price is higher, the number of states if there is none: along the list of the states that are reached, as what cannot be
 // reached has no lower price.
-fn place_listed(row: &[u64], states: usize, prices: &[u64], list: &[u64]) -> usize
+fn place_listed(row: &[u64], states: usize, prices: &[u64], list: &[u16]) -> usize
     requires { ⌜ (length (now row) ≡ 40 + states) × (states ≤ length (now prices)) × Reaches states (now prices) (now list) ⌝ }
     ensures { λ r. ⌜ Above states (now (row .entry)) (now (prices .entry)) r ⌝ }
 {
@@ -108,7 +168,7 @@ fn place_above(
     states: usize,
     prices: &[u64],
     sign: u64,
-    list: &[u64],
+    list: &[u16],
     hint: usize,
 ) -> usize
     requires { ⌜ (length (now row) ≡ 40 + states) × (states ≤ length (now prices)) × (sign ≡ signOf (take states (now prices)))
@@ -136,7 +196,7 @@ pub fn test_row(
     paid: u64,
     prices: &[u64],
     sign: u64,
-    list: &[u64],
+    list: &[u16],
     hint: usize,
 ) -> usize
     requires { ⌜ (states ≤ 1024) × (length (now row) ≡ 40 + states) × (states ≤ length (now prices)) × (hint ≤ states) × Packed (now row)

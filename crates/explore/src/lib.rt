@@ -3,6 +3,7 @@ use begins::begin_of;
 use begins::is_stuck;
 use begins::still_actions;
 use begins::still_leaves;
+use dominance::list_reached;
 use hops::drop_detours;
 use hops::hop_behind;
 use hops::list_hops;
@@ -40,6 +41,7 @@ ghost use Rattle.mets.specs.Known.{Known};
 ghost use Rattle.edges.specs.Edges.{Edges};
 ghost use Rattle.tables.specs.Tables.{Tabled, Goals};
 ghost use Rattle.search.specs.Explore.{start, explored};
+ghost use Rattle.rows.specs.Reach.{Reaches};
 ghost use Rattle.rows.specs.Row.{nodeIn};
 ghost use Rattle.rows.specs.Sign.{signOf};
 ghost use Rattle.nodes.specs.Chain.{Chained};
@@ -67,8 +69,8 @@ pub enum Round {
     Goes(Run),
 }
 
-// Action a, whose centre conditions hold, at node u, whose parts, key and signature are given: a centre action has its layer's begin offered. No leaf's
-// least price falls over it, so nothing is made where the key and the action's cost are not below best, nor where it does not apply.
+// Action a, whose centre conditions hold, at node u, whose parts, key, signature and list of reached states are given: a centre action has its layer's begin
+// offered. No leaf's least price falls over it, so nothing is made where the key and the action's cost are not below best, nor where it does not apply.
 fn turn(
     leaves: usize,
     actions: usize,
@@ -98,6 +100,8 @@ fn turn(
     table: &mut [u64],
     scan: &mut [u64],
     known: &mut [u8],
+    list: &[u16],
+    room: &mut [u16],
     run: Run,
 ) -> Turned
     requires { ⌜ Sound (boardOf leaves actions (now bases) (now moves) (now costs) (now kinds) factors (now conditions)) ⌝ }
@@ -107,7 +111,8 @@ fn turn(
         × Known (boardOf leaves actions (now bases) (now moves) (now costs) (now kinds) factors (now conditions)) (now known)
         × (metOn (boardOf leaves actions (now bases) (now moves) (now costs) (now kinds) factors (now conditions)) spot a ≡ true)
         × Stills leaves actions (now bases) (now moves) (now stills) ⌝ }
-    requires { ⌜ (length (now effects) ≡ 8192) × (length (now goals) ≡ 1024) × (length (now old) ≡ 1024) × (length (now next) ≡ 1024) × (u < run .count) × (a < actions) ⌝ }
+    requires { ⌜ (length (now effects) ≡ 8192) × (length (now goals) ≡ 1024) × (length (now old) ≡ 1024) × (length (now next) ≡ 1024) × (u < run .count) × (a < actions)
+        × (128 ≤ getD (now bases) leaves 0 → Reaches (getD (now bases) leaves 0) (now old) (now list)) × (1024 ≤ length (now room)) ⌝ }
     requires { ⌜ sign ≡ signOf (take (getD (now bases) leaves 0) (now old)) ⌝ }
     requires { ⌜ Room (getD (now bases) leaves 0) nodes (now table) (now scan) run ⌝ }
     ensures moved { λ r. ⌜ Moved (boardOf leaves actions (now (bases .entry)) (now (moves .entry)) (now (costs .entry)) (now (kinds .entry)) factors
@@ -187,11 +192,13 @@ fn turn(
         table,
         scan,
         known,
+        list,
+        room,
         run,
     )
 }
 
-// All actions of node u that need a turn, which `mets` lists by rising number; the node's parts, key and signature are given.
+// All actions of node u that need a turn, which `mets` lists by rising number; the node's parts, key, signature and list of reached states are given.
 fn turns(
     leaves: usize,
     actions: usize,
@@ -221,6 +228,8 @@ fn turns(
     table: &mut [u64],
     scan: &mut [u64],
     known: &mut [u8],
+    list: &[u16],
+    room: &mut [u16],
     run: Run,
 ) -> Turned
     requires { ⌜ Sound (boardOf leaves actions (now bases) (now moves) (now costs) (now kinds) factors (now conditions)) ⌝ }
@@ -231,7 +240,8 @@ fn turns(
         × Useful (boardOf leaves actions (now bases) (now moves) (now costs) (now kinds) factors (now conditions)) (now effects) spot (now table) u (now old)
         (length (now mets)) (λ j. getD (now mets) j 0)
         × Stills leaves actions (now bases) (now moves) (now stills) ⌝ }
-    requires { ⌜ (length (now effects) ≡ 8192) × (length (now goals) ≡ 1024) × (length (now old) ≡ 1024) × (length (now next) ≡ 1024) × (u < run .count) ⌝ }
+    requires { ⌜ (length (now effects) ≡ 8192) × (length (now goals) ≡ 1024) × (length (now old) ≡ 1024) × (length (now next) ≡ 1024) × (u < run .count)
+        × (128 ≤ getD (now bases) leaves 0 → Reaches (getD (now bases) leaves 0) (now old) (now list)) × (1024 ≤ length (now room)) ⌝ }
     requires { ⌜ (sign ≡ signOf (take (getD (now bases) leaves 0) (now old)))
         × Has (nodeIn (getD (now bases) leaves 0) (now table) u) spot paid (take (getD (now bases) leaves 0) (now old)) ⌝ }
     requires { ⌜ Room (getD (now bases) leaves 0) nodes (now table) (now scan) run ⌝ }
@@ -275,6 +285,8 @@ fn turns(
             table,
             scan,
             known,
+            list,
+            room,
             going,
         );
         if r.full {
@@ -342,7 +354,7 @@ fn list_turns(
     drop_detours(hops, ways, costs, word, costs[made_by], mets, many)
 }
 
-// All actions of node u, whose key is given, by rising number; `old`, `next` and `mets` are room to work in.
+// All actions of node u, whose key is given, by rising number; `mets`, `old`, `next`, `list` and `room` are lent to work in.
 fn expand(
     leaves: usize,
     actions: usize,
@@ -371,6 +383,8 @@ fn expand(
     mets: &mut [u8],
     old: &mut [u64],
     next: &mut [u64],
+    list: &mut [u16],
+    room: &mut [u16],
     run: Run,
 ) -> Turned
     requires { ⌜ Sound (boardOf leaves actions (now bases) (now moves) (now costs) (now kinds) factors (now conditions)) ⌝ }
@@ -383,7 +397,7 @@ fn expand(
         × Ways actions (now hops) (now ways) ⌝ }
     requires { ⌜ (length (now effects) ≡ 8192) × (length (now goals) ≡ 1024) × (u < run .count) ⌝ }
     requires { ⌜ Room (getD (now bases) leaves 0) nodes (now table) (now scan) run ⌝ }
-    requires { ⌜ (length (now old) ≡ 1024) × (length (now next) ≡ 1024) ⌝ }
+    requires { ⌜ (length (now old) ≡ 1024) × (length (now next) ≡ 1024) × (1024 ≤ length (now list)) × (1024 ≤ length (now room)) ⌝ }
     ensures grown { λ r. ⌜ Grown (boardOf leaves actions (now (bases .entry)) (now (moves .entry)) (now (costs .entry)) (now (kinds .entry)) factors
         (now (conditions .entry))) nodes run (now (table .exit)) (now (scan .exit)) r ⌝ }
     ensures expanded { λ r. ⌜ Done (boardOf leaves actions (now (bases .entry)) (now (moves .entry)) (now (costs .entry)) (now (kinds .entry)) factors
@@ -420,6 +434,7 @@ fn expand(
         known,
         mets,
     );
+    let reached = list_reached(states, &old[..], list);
     turns(
         leaves,
         actions,
@@ -449,6 +464,8 @@ fn expand(
         table,
         scan,
         known,
+        &list[..reached],
+        room,
         run,
     )
 }
@@ -467,7 +484,7 @@ fn start(
 ) -> Run
     requires { ⌜ Valid task ⌝ }
     requires { ⌜ Tabled task (now bases) (now moves) (now costs) (now kinds) (now starts) × Goals task (now goals) ⌝ }
-    requires { ⌜ (40 + allStates task ≤ length (now table)) × (length (now scan) ≡ 26912)
+    requires { ⌜ (40 + allStates task ≤ length (now table)) × (length (now scan) ≡ 25888)
         × ((h : ℕ) → h < 1025 → getD (now scan) (10240 + h) 0 ≡ 0) ⌝ }
     ensures { λ r. ⌜ (searchOf (allStates task) (now (table .exit)) (now (scan .exit)) r ≡ start task)
         × Cached task (allStates task) (now (table .exit)) (now (scan .exit)) r
@@ -523,7 +540,7 @@ fn start(
     )
 }
 
-// One round: the least key is chosen, and where the budget is not used up its node is expanded, with `old` and `next` as room to work in.
+// One round: the least key is chosen, and where the budget is not used up its node is expanded, with `mets`, `old`, `next`, `list` and `room` to work in.
 fn next_round(
     leaves: usize,
     actions: usize,
@@ -551,6 +568,8 @@ fn next_round(
     mets: &mut [u8],
     old: &mut [u64],
     next: &mut [u64],
+    list: &mut [u16],
+    room: &mut [u16],
     run: Run,
 ) -> Round
     requires { ⌜ Sound (boardOf leaves actions (now bases) (now moves) (now costs) (now kinds) factors (now conditions)) ⌝ }
@@ -563,7 +582,7 @@ fn next_round(
         × Ways actions (now hops) (now ways) ⌝ }
     requires { ⌜ (length (now effects) ≡ 8192) × (length (now goals) ≡ 1024) × (run .begun ≤ 4096) ⌝ }
     requires { ⌜ Room (getD (now bases) leaves 0) nodes (now table) (now scan) run ⌝ }
-    requires { ⌜ (length (now old) ≡ 1024) × (length (now next) ≡ 1024) ⌝ }
+    requires { ⌜ (length (now old) ≡ 1024) × (length (now next) ≡ 1024) × (1024 ≤ length (now list)) × (1024 ≤ length (now room)) ⌝ }
     ensures rounded { λ r. ⌜ ((t : Task) → Suits t (boardOf leaves actions (now (bases .entry)) (now (moves .entry)) (now (costs .entry)) (now (kinds .entry)) factors
         (now (conditions .entry))) (now (effects .entry)) (now (goals .entry)) goal
         → Ahead t nodes budget (allStates t) (now (table .entry)) (now (scan .entry)) run
@@ -621,6 +640,8 @@ fn next_round(
         mets,
         old,
         next,
+        list,
+        room,
         begun,
     );
     let after = r.run;
@@ -653,7 +674,7 @@ pub fn explore(
     requires { ⌜ Tabled task (now bases) (now moves) (now costs) (now kinds) (now starts) × Goals task (now goals) ⌝ }
     requires { ⌜ Edges (boardOf (task .leaves) (task .actions) (now bases) (now moves) (now costs) (now kinds) (task .factors) (task .conditions))
         (now edges) (now ends) ⌝ }
-    requires { ⌜ (1 ≤ nodes) × (nodes ≤ 4096) × ((nodes + 1) * (40 + allStates task) ≤ length (now table)) × (length (now scan) ≡ 26912)
+    requires { ⌜ (1 ≤ nodes) × (nodes ≤ 4096) × ((nodes + 1) * (40 + allStates task) ≤ length (now table)) × (length (now scan) ≡ 25888)
         × ((h : ℕ) → h < 1025 → getD (now scan) (10240 + h) 0 ≡ 0) ⌝ }
     ensures { λ r. ⌜ (stoppedOf (allStates task) (now (table .exit)) (now (scan .exit)) r ≡ explored task nodes budget)
         × Cached task (allStates task) (now (table .exit)) (now (scan .exit)) (r .run) ⌝ }
@@ -686,6 +707,8 @@ pub fn explore(
     let mut mets = [0u8; 256];
     let mut old = [MARK; 1024];
     let mut next = [MARK; 1024];
+    let mut list = [0u16; 1024];
+    let mut room = [0u16; 1024];
     loop {
         let round = next_round(
             leaves,
@@ -714,6 +737,8 @@ pub fn explore(
             &mut mets,
             &mut old,
             &mut next,
+            &mut list,
+            &mut room,
             run,
         );
         match round {

@@ -1,6 +1,6 @@
--- The scan words: 26,912 words. Open keys stand at u, signatures at 4096 + u, the words of groups at 8192 + g, heads at 10240 + h, the number of groups
+-- The scan words: 25,888 words. Open keys stand at u, signatures at 4096 + u, the words of groups at 8192 + g, heads at 10240 + h, the number of groups
 -- at 11264, block words at 11280 + b, upper words at 11536 + b, the signatures of entries at 11552 + 4 * g + k, the nodes of entries, four in a word, at
--- 19744 + g, recent words at 21792 + k, the list of the states that a new node reaches at 25888 + j. The words 11265 to 11279 are not used.
+-- 19744 + g, recent words at 21792 + k. The words 11265 to 11279 are not used.
 -- Nodes are chained by the class of their centre state, in groups: a group has up to four entries, each a node with its signature, so that a walk sees
 -- four signatures side by side. A link or a head is one more than a group's number, 0 for none: the link of a group is the last group before it of the
 -- same class, the head of a class is the last group of that class, to which the next node of the class goes while it has room.
@@ -8,7 +8,6 @@
 -- groups, and there is room for 2,048.
 -- The word of a group is its link and 65,536 times the sum of 8 times its class and the number of its entries: a walk reads the link as the low 16 bits.
 -- A recent word is one more than the number of a node that dominated or was kept, to be tried first. It may be any number: nothing else goes by it.
--- Nor does anything go by the list of states once it was used: it is made again for each new node of 128 states or more.
 pub mod Groups
 pub mod Laws
 pub mod Room
@@ -157,14 +156,14 @@ pub record Grouped (S : ℕ) (T C : List ℕ) (n : ℕ) : Type 0 where
 -- the first n nodes of table T have their signatures in C and are chained, no group is without entries, the block words are those of the nodes' open keys,
 -- and their rows have their packs
 pub record Chained (S : ℕ) (T C : List ℕ) (n : ℕ) : Type 0 where
-  pub long : length C ≡ 26912
+  pub long : length C ≡ 25888
   pub signs : (u : ℕ) → u < n → signAt C u ≡ signOf (nodeIn S T u .prices)
   pub grouped : Grouped S T C n
   pub started : (g : ℕ) → g < groupsIn C → 0 < fillAt C g
   pub blocks : Blocked C n
   pub packed : (u : ℕ) → u < n → Packed (rowIn S T u)
 
--- the scan words D are those of C but for recent words and the list of states
+-- the scan words D are those of C but for recent words
 pub record Recalled (C D : List ℕ) : Type 0 where
   pub long : length D ≡ length C
   pub same : (i : ℕ) → i < 21792 → getD D i 0 ≡ getD C i 0

@@ -9,7 +9,7 @@ ghost use lib.ListN.{length, take, drop};
 ghost use Rattle.loops.specs.Count.{any};
 ghost use Rattle.leaf.specs.Price.{mark};
 ghost use Rattle.search.specs.Node.{dominates};
-ghost use Rattle.rows.specs.Reach.{Reaches, ReachesAt};
+ghost use Rattle.rows.specs.Reach.{Reaches};
 ghost use Rattle.rows.specs.Row.{rowIn, nodeIn, nodeWith, Packed, Tested};
 ghost use Rattle.rows.specs.Sign.{classOf, signOf};
 ghost use Rattle.nodes.specs.Choice.{chooseBy};
@@ -29,7 +29,7 @@ fn lower(scan: &mut [u64], at: usize, key: u64)
 
 // Whether the group that a head stands for has room for one entry more.
 fn has_room(scan: &[u64], head: u64) -> bool
-    requires { ⌜ length (now scan) ≡ 26912 ⌝ }
+    requires { ⌜ length (now scan) ≡ 25888 ⌝ }
     ensures { λ r. ⌜ r ≡ hasRoom (now (scan .entry)) head ⌝ }
 {
     if head == 0 {
@@ -40,7 +40,7 @@ fn has_room(scan: &[u64], head: u64) -> bool
 
 // A group without entries becomes the last of its class.
 fn add_group(scan: &mut [u64], class: usize, group: usize)
-    requires { ⌜ (length (now scan) ≡ 26912) × (class < 1024) × (group < 2048) ⌝ }
+    requires { ⌜ (length (now scan) ≡ 25888) × (class < 1024) × (group < 2048) ⌝ }
     ensures { λ _. ⌜ now (scan .exit) ≡ withGroup (now (scan .entry)) class group ⌝ }
 {
     let head = scan[10240 + class] % 65536;
@@ -51,7 +51,7 @@ fn add_group(scan: &mut [u64], class: usize, group: usize)
 
 // The group that the next node of a class goes to: the last of the class where that has room, else a new one.
 fn group_for(scan: &mut [u64], class: usize) -> usize
-    requires { ⌜ (length (now scan) ≡ 26912) × (class < 1024) ⌝ }
+    requires { ⌜ (length (now scan) ≡ 25888) × (class < 1024) ⌝ }
     ensures { λ r. ⌜ (r ≡ groupFor (now (scan .entry)) class) × (now (scan .exit) ≡ openedTo (now (scan .entry)) class) ⌝ }
 {
     let head = scan[10240 + class];
@@ -82,7 +82,7 @@ fn with_entry(nodes: u64, k: usize, node: usize) -> u64
 
 // A node with its signature as the next entry of a group.
 fn join(scan: &mut [u64], group: usize, node: usize, sign: u64)
-    requires { ⌜ (length (now scan) ≡ 26912) × (group < 2048) × (node < 4096) ⌝ }
+    requires { ⌜ (length (now scan) ≡ 25888) × (group < 2048) × (node < 4096) ⌝ }
     ensures { λ _. ⌜ now (scan .exit) ≡ joinedTo (now (scan .entry)) group node sign ⌝ }
 {
     let word = scan[8192 + group];
@@ -96,7 +96,7 @@ fn join(scan: &mut [u64], group: usize, node: usize, sign: u64)
 // A node into the scan words: its key and its signature, its block's word and the upper word no higher than its key, and the node as an entry of the last
 // group of its class.
 pub fn link(scan: &mut [u64], node: usize, key: u64, sign: u64, class: usize)
-    requires { ⌜ (length (now scan) ≡ 26912) × (node < 4096) × (class < 1024) ⌝ }
+    requires { ⌜ (length (now scan) ≡ 25888) × (node < 4096) × (class < 1024) ⌝ }
     ensures { λ _. ⌜ now (scan .exit) ≡ linkedTo (now (scan .entry)) node key sign class ⌝ }
 {
     scan[node] = key;
@@ -111,7 +111,7 @@ pub fn link(scan: &mut [u64], node: usize, key: u64, sign: u64, class: usize)
 
 // The words of all blocks to the mark, and the upper words, which stand behind them.
 pub fn fresh(scan: &mut [u64])
-    requires { ⌜ length (now scan) ≡ 26912 ⌝ }
+    requires { ⌜ length (now scan) ≡ 25888 ⌝ }
     ensures { λ _. ⌜ now (scan .exit) ≡ freshTo (now (scan .entry)) 272 ⌝ }
 {
     for b in 0..272 {
@@ -188,7 +188,7 @@ fn block_size(block: usize, count: usize) -> usize
 
 // A block's word again the least of its keys: the words begin at `at`, the keys at `from`.
 fn raise(scan: &mut [u64], from: usize, at: usize, block: usize, count: usize)
-    requires { ⌜ (length (now scan) ≡ 26912) × (from ≤ 11280) × (at ≤ 11536) × (block * 16 ≤ count) × (count ≤ 4096) ⌝ }
+    requires { ⌜ (length (now scan) ≡ 25888) × (from ≤ 11280) × (at ≤ 11536) × (block * 16 ≤ count) × (count ≤ 4096) ⌝ }
     ensures { λ _. ⌜ now (scan .exit) ≡ raisedTo (now (scan .entry)) from at count block ⌝ }
 {
     let low = least_key(scan, from + block * 16, block_size(block, count));
@@ -197,68 +197,12 @@ fn raise(scan: &mut [u64], from: usize, at: usize, block: usize, count: usize)
 
 // The mark as the open key of a node, its block's word again the least of the block, and the upper word the least of its block words.
 pub fn retire(scan: &mut [u64], node: usize, count: usize)
-    requires { ⌜ (length (now scan) ≡ 26912) × (count ≤ 4096) × (node < count) ⌝ }
+    requires { ⌜ (length (now scan) ≡ 25888) × (count ≤ 4096) × (node < count) ⌝ }
     ensures { λ _. ⌜ now (scan .exit) ≡ retiredTo (now (scan .entry)) node count ⌝ }
 {
     scan[node] = MARK;
     raise(scan, 0, 11280, node / 16, count);
     raise(scan, 11280, 11536, node / 16 / 16, 256);
-}
-
-// ---- the states that are reached
-
-// The states from `from` to `to` behind the `many` that are listed, those of them that the prices reach; how many there are then. Each is written, and
-// the count grows by a condition, so that nothing branches.
-fn list_from(prices: &[u64], scan: &mut [u64], from: usize, to: usize, many: usize) -> usize
-    requires { ⌜ (length (now scan) ≡ 26912) × (from ≤ to) × (to ≤ 1024) × (to ≤ length (now prices)) × ReachesAt from (now prices) (now scan) 25888 many ⌝ }
-    ensures { λ r. ⌜ Recalled (now (scan .entry)) (now (scan .exit)) × ReachesAt to (now (prices .entry)) (now (scan .exit)) 25888 r ⌝ }
-{
-    let mut n = many;
-    for x in from..to {
-        scan[25888 + n] = x as u64;
-        if prices[x] < MARK {
-            n += 1;
-        }
-    }
-    n
-}
-
-// The same of four states. Mostly none is reached: their prices are all the mark then, and so are the bits that they share.
-fn list_four(prices: &[u64], scan: &mut [u64], from: usize, many: usize) -> usize
-    requires { ⌜ (length (now scan) ≡ 26912) × (from + 4 ≤ 1024) × (from + 4 ≤ length (now prices)) × ReachesAt from (now prices) (now scan) 25888 many ⌝ }
-    ensures { λ r. ⌜ Recalled (now (scan .entry)) (now (scan .exit)) × ReachesAt (from + 4) (now (prices .entry)) (now (scan .exit)) 25888 r ⌝ }
-{
-    let low = prices[from] & prices[from + 1];
-    let high = prices[from + 2] & prices[from + 3];
-    if low & high == MARK {
-        return many;
-    }
-    list_from(prices, scan, from, from + 4, many)
-}
-
-// The same of all states, four at a time.
-fn list_all(states: usize, prices: &[u64], scan: &mut [u64]) -> usize
-    requires { ⌜ (length (now scan) ≡ 26912) × (states ≤ 1024) × (states ≤ length (now prices)) ⌝ }
-    ensures { λ r. ⌜ Recalled (now (scan .entry)) (now (scan .exit)) × ReachesAt states (now (prices .entry)) (now (scan .exit)) 25888 r ⌝ }
-{
-    let mut many = 0;
-    let mut x = 0;
-    while x + 4 <= states {
-        many = list_four(prices, scan, x, many);
-        x += 4;
-    }
-    list_from(prices, scan, x, states, many)
-}
-
-// Lists the states that the prices reach where there are 128 or more, and answers how many are listed. Fewer are told apart by the signature.
-fn list_reached(states: usize, prices: &[u64], scan: &mut [u64]) -> usize
-    requires { ⌜ (length (now scan) ≡ 26912) × (states ≤ 1024) × (states ≤ length (now prices)) ⌝ }
-    ensures { λ r. ⌜ Recalled (now (scan .entry)) (now (scan .exit)) × (r ≤ 1024) × (128 ≤ states → ReachesAt states (now (prices .entry)) (now (scan .exit)) 25888 r) ⌝ }
-{
-    if states < 128 {
-        return 0;
-    }
-    list_all(states, prices, scan)
 }
 
 // ---- dominance
@@ -273,7 +217,7 @@ fn test_at(
     paid: u64,
     prices: &[u64],
     sign: u64,
-    list: &[u64],
+    list: &[u16],
     hint: usize,
 ) -> usize
     requires { ⌜ (states ≤ 1024) × (u * (40 + states) + (40 + states) ≤ length (now table)) × (states ≤ length (now prices)) × (hint ≤ states) × Packed (rowIn states (now table) u)
@@ -305,7 +249,7 @@ fn test_node(
     spot: Centre,
     paid: u64,
     prices: &[u64],
-    list: &[u64],
+    list: &[u16],
     hint: usize,
 ) -> usize
     requires { ⌜ (states ≤ 1024) × (u * (40 + states) + (40 + states) ≤ length (now table)) × (states ≤ length (now prices)) × (hint ≤ states) × Packed (rowIn states (now table) u) ⌝ }
@@ -327,7 +271,7 @@ fn lacks(sign: u64, theirs: u64) -> bool
 
 // Whether the signatures of all entries of a group lack a bit of the signature. The four words stand side by side, and nothing branches between them.
 fn all_lack(scan: &[u64], group: usize, sign: u64) -> bool
-    requires { ⌜ (length (now scan) ≡ 26912) × (group < 2048) ⌝ }
+    requires { ⌜ (length (now scan) ≡ 25888) × (group < 2048) ⌝ }
     ensures { λ r. ⌜ r ≡ allLack (now (scan .entry)) group sign ⌝ }
 {
     let from = 11552 + 4 * group;
@@ -349,7 +293,7 @@ fn try_group(
     spot: Centre,
     paid: u64,
     prices: &[u64],
-    list: &[u64],
+    list: &[u16],
 ) -> usize
     requires { ⌜ (states ≤ 1024) × (count ≤ 4096) × (count * (40 + states) ≤ length (now table)) × (states ≤ length (now prices)) × Chained states (now table) (now scan) count ⌝ }
     requires { ⌜ (group < groupsIn (now scan)) × (sign ≡ signOf (take states (now prices))) × (128 ≤ states → Reaches states (now prices) (now list)) ⌝ }
@@ -392,7 +336,7 @@ fn walk(
     spot: Centre,
     paid: u64,
     prices: &[u64],
-    list: &[u64],
+    list: &[u16],
 ) -> usize
     requires { ⌜ (states ≤ 1024) × (count ≤ 4096) × (count * (40 + states) ≤ length (now table)) × (states ≤ length (now prices)) × Chained states (now table) (now scan) count ⌝ }
     requires { ⌜ (class ≡ classOf spot) × (sign ≡ signOf (take states (now prices))) × (128 ≤ states → Reaches states (now prices) (now list)) ⌝ }
@@ -432,7 +376,7 @@ fn slot_of(class: usize, sign: u64) -> usize
     (class * 5 + (sign % 4093) as usize) % 4096
 }
 
-// The same as `walk`, but the node of the recent word is tried before. `many` is how many states are listed behind the recent words.
+// The same as `walk`, but the node of the recent word is tried before.
 fn dominator(
     table: &[u64],
     states: usize,
@@ -443,27 +387,16 @@ fn dominator(
     spot: Centre,
     paid: u64,
     prices: &[u64],
-    many: usize,
+    list: &[u16],
 ) -> usize
     requires { ⌜ (states ≤ 1024) × (count ≤ 4096) × (count * (40 + states) ≤ length (now table)) × (states ≤ length (now prices)) × Chained states (now table) (now scan) count ⌝ }
-    requires { ⌜ (class ≡ classOf spot) × (sign ≡ signOf (take states (now prices))) × (many ≤ 1024) × (128 ≤ states → ReachesAt states (now prices) (now scan) 25888 many) ⌝ }
+    requires { ⌜ (class ≡ classOf spot) × (sign ≡ signOf (take states (now prices))) × (128 ≤ states → Reaches states (now prices) (now list)) ⌝ }
     ensures { λ r. ⌜ Dominator states (now (table .entry)) count (nodeWith spot paid (take states (now (prices .entry))) 0 0) r ⌝ }
 {
-    let end = 25888 + many;
     let recent = scan[21792 + slot_of(class, sign)] as usize;
     if recent > 0 {
         if recent <= count {
-            let tried = test_at(
-                table,
-                states,
-                recent - 1,
-                spot,
-                paid,
-                prices,
-                sign,
-                &scan[25888..end],
-                0,
-            );
+            let tried = test_at(table, states, recent - 1, spot, paid, prices, sign, list, 0);
             if tried > states {
                 return recent;
             }
@@ -479,7 +412,7 @@ fn dominator(
         spot,
         paid,
         prices,
-        &scan[25888..end],
+        list,
     )
 }
 
@@ -493,8 +426,8 @@ fn recent_word(found: usize, count: usize) -> u64
     found as u64
 }
 
-// Whether one of the first `count` nodes dominates the node with these parts. The one that is found becomes the recent word of the class and the
-// signature; where none is, the node itself, which is kept next if it is kept.
+// Whether one of the first `count` nodes dominates the node with these parts; `list` has the states that its prices reach where there are 128 or more.
+// The one that is found becomes the recent word of the class and the signature; where none is, the node itself, which is kept next if it is kept.
 pub fn is_dominated(
     table: &[u64],
     states: usize,
@@ -505,12 +438,12 @@ pub fn is_dominated(
     spot: Centre,
     paid: u64,
     prices: &[u64],
+    list: &[u16],
 ) -> bool
     requires { ⌜ (states ≤ 1024) × (count ≤ 4096) × (count * (40 + states) ≤ length (now table)) × (states ≤ length (now prices)) × Chained states (now table) (now scan) count ⌝ }
-    requires { ⌜ (class ≡ classOf spot) × (sign ≡ signOf (take states (now prices))) ⌝ }
+    requires { ⌜ (class ≡ classOf spot) × (sign ≡ signOf (take states (now prices))) × (128 ≤ states → Reaches states (now prices) (now list)) ⌝ }
     ensures { λ r. ⌜ (r ≡ any count (λ u. dominates (nodeIn states (now (table .entry)) u) (nodeWith spot paid (take states (now (prices .entry))) 0 0))) × Recalled (now (scan .entry)) (now (scan .exit)) ⌝ }
 {
-    let many = list_reached(states, prices, scan);
     let found = dominator(
         table,
         states,
@@ -521,7 +454,7 @@ pub fn is_dominated(
         spot,
         paid,
         prices,
-        many,
+        list,
     );
     let place = 21792 + slot_of(class, sign);
     scan[place] = recent_word(found, count);
@@ -550,7 +483,7 @@ fn find(scan: &[u64], from: usize, count: usize, word: u64) -> usize
 // One more than the node with the least key below the bound, the lowest on ties; 0 for none. An upper word is picked, of those that the first `count`
 // nodes have, and it is that key. So the block is the first of its 16 blocks whose word is the same, and the node the first in the block with that key.
 pub fn choose(scan: &[u64], count: usize, bound: u64) -> usize
-    requires { ⌜ (length (now scan) ≡ 26912) × (count ≤ 4096) × (bound ≤ mark) × Blocked (now scan) count ⌝ }
+    requires { ⌜ (length (now scan) ≡ 25888) × (count ≤ 4096) × (bound ≤ mark) × Blocked (now scan) count ⌝ }
     ensures { λ r. ⌜ r ≡ chooseBy bound (now (scan .entry)) count ⌝ }
 {
     let picked = pick(scan, 11536, (count + 255) / 256, bound);

@@ -1,4 +1,5 @@
 // A successor is offered to the search that the lent table holds: dropped, refused for a full table, or settled and kept.
+use dominance::list_reached;
 use mets::slot_for;
 use nodes::is_dominated;
 use nodes::link;
@@ -20,6 +21,7 @@ ghost use Rattle.layer.specs.Lent.{boardOf};
 ghost use Rattle.mets.specs.Known.{Known};
 ghost use Rattle.edges.specs.Edges.{Edges};
 ghost use Rattle.rows.specs.Begun.{readFrom, begunWords};
+ghost use Rattle.rows.specs.Reach.{Reaches, ReachesIn};
 ghost use Rattle.rows.specs.Row.{nodeWith};
 ghost use Rattle.rows.specs.Scan.{Cut, goalCostBy};
 ghost use Rattle.rows.specs.Sign.{classOf, signOf};
@@ -73,7 +75,7 @@ pub fn keep(
 ) -> Run
     requires { ⌜ Cut leaves (now bases) (length (now prices)) × Cut leaves (now bases) (length (now goals)) ⌝ }
     requires { ⌜ (getD (now bases) leaves 0 ≤ 1024) × (run .count < 4096) × ((run .count + 1) * (40 + getD (now bases) leaves 0) ≤ length (now table))
-        × (length (now scan) ≡ 26912) ⌝ }
+        × (length (now scan) ≡ 25888) ⌝ }
     requires { ⌜ (swept ≡ false → sign ≡ signOf (take (getD (now bases) leaves 0) (now prices))) × (class ≡ classOf spot) ⌝ }
     ensures { λ r. ⌜ Kept (getD (now (bases .entry)) leaves 0) (now (table .entry)) (now (scan .entry)) run
         (nodeWith spot paid (take (getD (now (bases .entry)) leaves 0) (now (prices .entry))) parent action) key
@@ -171,6 +173,27 @@ fn read_from<'a>(old: &'a [u64], begin: &'a [u64], still: u8) -> &'a [u64]
     old
 }
 
+// Where the action is not still, lists the states that a layer's begin reaches, if there are many; how many are listed.
+fn list_begin(states: usize, begin: &[u64], room: &mut [u16], still: u8) -> usize
+    requires { ⌜ (1024 ≤ length (now room)) × (states ≤ 1024) × (states ≤ length (now begin)) ⌝ }
+    ensures { λ r. ⌜ (r ≤ 1024) × (still ≡ 0 → 128 ≤ states → ReachesIn states (now (begin .entry)) (now (room .exit)) r) ⌝ }
+{
+    if still != 0 {
+        return 0;
+    }
+    list_reached(states, begin, room)
+}
+
+// Which list has the states that a layer's begin reaches: that of the layer before, where the action is still, else the one that was made.
+fn list_of<'a>(old: &'a [u16], made: &'a [u16], still: u8) -> &'a [u16]
+    ensures { λ r. ⌜ now r ≡ readFrom still (now (old .entry)) (now (made .entry)) ⌝ }
+{
+    if still == 0 {
+        return made;
+    }
+    old
+}
+
 // The prices of a layer's begin, at the front of `begin`.
 fn fill_begin(old: &[u64], begin: &mut [u64], still: u8, states: usize)
     requires { ⌜ (states ≤ length (now old)) × (states ≤ length (now begin)) ⌝ }
@@ -183,7 +206,7 @@ fn fill_begin(old: &[u64], begin: &mut [u64], still: u8, states: usize)
 }
 
 // A successor of node `parent` by `action`, from its layer's begin, which is `old` where `still` is not 0: dropped, refused for a full table, or settled
-// and kept under the next number.
+// and kept under the next number. `list` has the states that `old` reaches where there are 128 or more, and `room` is for another such list.
 pub fn offer(
     leaves: usize,
     actions: usize,
@@ -211,6 +234,8 @@ pub fn offer(
     table: &mut [u64],
     scan: &mut [u64],
     known: &mut [u8],
+    list: &[u16],
+    room: &mut [u16],
     run: Run,
 ) -> Turned
     requires { ⌜ Sound (boardOf leaves actions (now bases) (now moves) (now costs) (now kinds) factors (now conditions)) ⌝ }
@@ -219,7 +244,8 @@ pub fn offer(
         × Known (boardOf leaves actions (now bases) (now moves) (now costs) (now kinds) factors (now conditions)) (now known) ⌝ }
     requires { ⌜ Cut leaves (now bases) (length (now begin)) × Cut leaves (now bases) (length (now goals)) ⌝ }
     requires { ⌜ (sign ≡ signOf (take (getD (now bases) leaves 0) (begunWords still (getD (now bases) leaves 0) (now old) (now begin))))
-        × (getD (now bases) leaves 0 ≤ length (now old)) ⌝ }
+        × (getD (now bases) leaves 0 ≤ length (now old))
+        × (128 ≤ getD (now bases) leaves 0 → Reaches (getD (now bases) leaves 0) (now old) (now list)) × (1024 ≤ length (now room)) ⌝ }
     requires { ⌜ Room (getD (now bases) leaves 0) nodes (now table) (now scan) run ⌝ }
     ensures offered { λ r. ⌜ Offered (boardOf leaves actions (now (bases .entry)) (now (moves .entry)) (now (costs .entry)) (now (kinds .entry)) factors
         (now (conditions .entry))) (now (goals .entry)) goal nodes (now (table .entry)) (now (scan .entry)) run spot paid
@@ -234,6 +260,7 @@ pub fn offer(
         return Turned { full: false, run };
     }
     let class = class_of(spot);
+    let many = list_begin(states, &begin[..], room, still);
     if is_dominated(
         table,
         states,
@@ -244,6 +271,7 @@ pub fn offer(
         spot,
         paid,
         read_from(old, &begin[..], still),
+        list_of(list, &room[..many], still),
     ) {
         return Turned { full: false, run };
     }

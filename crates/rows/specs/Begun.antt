@@ -5,6 +5,7 @@ use mathlib.Core.List.{List, _++_}
 use Prim.Native.Nat.{ℕ, zero, suc, _≤_}
 use lib.ListN.{length, take, drop}
 use lib.Seq.{take-at, length-take-le}
+use Rattle.rows.specs.Reach.{Reaches}
 
 -- the list to read from, where `still` is not 0 the old one
 unfoldable pub readFrom : ℕ → List ℕ → List ℕ → List ℕ
@@ -46,3 +47,10 @@ pub read-long : (still S : ℕ) (old new : List ℕ) → S ≤ length old → S 
 unfolding readFrom
 read-long zero S old new l h = h
 read-long (suc f) S old new l h = l
+
+-- where each list has the states that its prices reach, so has the list read for the prices read
+pub read-reaches : (still S : ℕ) (old new L M : List ℕ) → (128 ≤ S → Reaches S old L) → (still ≡ 0 → 128 ≤ S → Reaches S new M) → 128 ≤ S
+    → Reaches S (readFrom still old new) (readFrom still L M)
+unfolding readFrom
+read-reaches zero S old new L M h k l = k refl l
+read-reaches (suc f) S old new L M h k l = h l

@@ -8,8 +8,8 @@ use native.Mathlib.Nat.{not-suc-le-zero}
 use native.Mathlib.Decide.{decLt, ℕ-discrete}
 use native.Mathlib.Omega.{arith}
 use lib.Bits.{bitAnd, and-le-l, and-le-r}
-use lib.ListN.{length, getD, set, take, drop, length-drop}
-use lib.Seq.{length-take-le, getD-take, getD-drop, getD-set-same, getD-set-other}
+use lib.ListN.{length, getD, set, take}
+use lib.Seq.{length-take-le, getD-take, getD-set-same, getD-set-other}
 use Rattle.loops.specs.Count.Laws.{below-cases}
 use Rattle.leaf.specs.Price.{mark}
 use Rattle.rows.specs.Row.{NotAbove, Above}
@@ -39,34 +39,34 @@ list-above S row P L k capped h r = record { inside = r .inside; higher = r .hig
     go e i l (yes low) = let x = h .all i l low in rw (x .is) at (r .none e (x .place) (x .inside))
     go e i l (no far) = omega (arith, capped (40 + i))
 
--- ---- a list among other words
+-- ---- the front of a list
 
--- x is one of the n words of C that begin at a
-pub record ListedAt (C : List ℕ) (a n x : ℕ) : Type 0 where
+-- x is one of the first n words of L
+pub record ListedIn (L : List ℕ) (n x : ℕ) : Type 0 where
   pub place : ℕ
   pub inside : place < n
-  pub is : getD C (a + place) 0 ≡ x
+  pub is : getD L place 0 ≡ x
 
--- the n words of C that begin at a are states below S, and each state below S that P reaches is one of them
-pub record ReachesAt (S : ℕ) (P C : List ℕ) (a n : ℕ) : Type 0 where
+-- the first n words of L are states below S, and each state below S that P reaches is one of them
+pub record ReachesIn (S : ℕ) (P L : List ℕ) (n : ℕ) : Type 0 where
   pub few : n ≤ S
-  pub inside : (j : ℕ) → j < n → getD C (a + j) 0 < S
-  pub all : (x : ℕ) → x < S → getD P x 0 < mark → ListedAt C a n x
+  pub inside : (j : ℕ) → j < n → getD L j 0 < S
+  pub all : (x : ℕ) → x < S → getD P x 0 < mark → ListedIn L n x
 
 -- these words as a list
-pub reaches-part : (S : ℕ) (P C : List ℕ) (a n : ℕ) → a + n ≤ length C → ReachesAt S P C a n → Reaches S P (take n (drop a C))
-reaches-part S P C a n room r = record {
+pub reaches-front : (S : ℕ) (P L : List ℕ) (n : ℕ) → n ≤ length L → ReachesIn S P L n → Reaches S P (take n L)
+reaches-front S P L n room r = record {
   inside = λ j l. omega (arith, word j (omega (arith, long)), r .inside j (omega (arith, long)));
   all = λ x l low.
       let k = r .all x l low in
       record { place = k .place; inside = omega (arith, long, k .inside); is = word (k .place) (k .inside) ∙ k .is };
 }
   where
-    long : length (take n (drop a C)) ≡ n
-    long = length-take-le n (drop a C) (omega (arith, length-drop a C))
+    long : length (take n L) ≡ n
+    long = length-take-le n L room
 
-    word : (j : ℕ) → j < n → getD (take n (drop a C)) j 0 ≡ getD C (a + j) 0
-    word j l = getD-take n (drop a C) j 0 l ∙ getD-drop a C j 0
+    word : (j : ℕ) → j < n → getD (take n L) j 0 ≡ getD L j 0
+    word j l = getD-take n L j 0 l
 
 -- four words that share all bits of the mark are at least that
 all-marks : {p q r s : ℕ} → bitAnd (bitAnd p q) (bitAnd r s) ≡ mark → (mark ≤ p) × (mark ≤ q) × (mark ≤ r) × (mark ≤ s)
@@ -75,68 +75,68 @@ all-marks {p} {q} {r} {s} h =
     let m = and-le-r (bitAnd p q) (bitAnd r s) in
     (omega (arith, h, l, and-le-l p q), omega (arith, h, l, and-le-r p q), omega (arith, h, m, and-le-l r s), omega (arith, h, m, and-le-r r s))
 
-module _ (P C : List ℕ) (a : ℕ) where
+module _ (P L : List ℕ) where
   -- no state
-  pub reaches-none : ReachesAt 0 P C a 0
+  pub reaches-none : ReachesIn 0 P L 0
   reaches-none = record { few = omega arith; inside = λ j l. absurd (not-suc-le-zero l); all = λ x l. absurd (not-suc-le-zero l) }
 
-  module _ (S n : ℕ) (r : ReachesAt S P C a n) where
+  module _ (S n : ℕ) (r : ReachesIn S P L n) where
     -- states that are not reached need no word
-    pub reaches-past : (T : ℕ) → S ≤ T → ((x : ℕ) → S ≤ x → x < T → mark ≤ getD P x 0) → ReachesAt T P C a n
+    pub reaches-past : (T : ℕ) → S ≤ T → ((x : ℕ) → S ≤ x → x < T → mark ≤ getD P x 0) → ReachesIn T P L n
     reaches-past T l far = record {
       few = omega (arith, r .few);
       inside = λ j b. omega (arith, r .inside j b);
       all = λ x b low. go x b low (decLt x S);
     }
       where
-        go : (x : ℕ) → x < T → getD P x 0 < mark → Dec (x < S) → ListedAt C a n x
+        go : (x : ℕ) → x < T → getD P x 0 < mark → Dec (x < S) → ListedIn L n x
         go x b low (yes h) = r .all x h low
         go x b low (no h) = absurd (omega (arith, far x (omega arith) b))
 
     -- another word behind them
-    pub reaches-set : (v : ℕ) → ReachesAt S P (set C (a + n) v) a n
+    pub reaches-set : (v : ℕ) → ReachesIn S P (set L n v) n
     reaches-set v = record {
       few = r .few;
       inside = λ j l. omega (arith, same j l, r .inside j l);
       all = λ x l low. let k = r .all x l low in record { place = k .place; inside = k .inside; is = same (k .place) (k .inside) ∙ k .is };
     }
       where
-        same : (j : ℕ) → j < n → getD (set C (a + n) v) (a + j) 0 ≡ getD C (a + j) 0
-        same j l = getD-set-other C (a + n) (a + j) v 0 (λ e. omega arith)
+        same : (j : ℕ) → j < n → getD (set L n v) j 0 ≡ getD L j 0
+        same j l = getD-set-other L n j v 0 (λ e. omega arith)
 
     -- the word behind them is the next state, and it is counted
-    pub reaches-more : a + n < length C → ReachesAt (S + 1) P (set C (a + n) S) a (n + 1)
+    pub reaches-more : n < length L → ReachesIn (S + 1) P (set L n S) (n + 1)
     reaches-more room = record {
       few = omega (arith, r .few);
       inside = λ j l. below j (below-cases (omega arith));
       all = λ x l low. go x low (below-cases (omega arith));
     }
       where
-        own : getD (set C (a + n) S) (a + n) 0 ≡ S
-        own = getD-set-same C (a + n) S 0 room
+        own : getD (set L n S) n 0 ≡ S
+        own = getD-set-same L n S 0 room
 
-        below : (j : ℕ) → (j < n) ⊎ (j ≡ n) → getD (set C (a + n) S) (a + j) 0 < S + 1
+        below : (j : ℕ) → (j < n) ⊎ (j ≡ n) → getD (set L n S) j 0 < S + 1
         below j (inl l) = omega (arith, reaches-set S .inside j l)
         below j (inr e) = rw e (omega (arith, own))
 
-        go : (x : ℕ) → getD P x 0 < mark → (x < S) ⊎ (x ≡ S) → ListedAt (set C (a + n) S) a (n + 1) x
+        go : (x : ℕ) → getD P x 0 < mark → (x < S) ⊎ (x ≡ S) → ListedIn (set L n S) (n + 1) x
         go x low (inl l) = let k = reaches-set S .all x l low in record { place = k .place; inside = omega (arith, k .inside); is = k .is }
         go x low (inr e) = record { place = n; inside = omega arith; is = own ∙ sym e }
 
     -- it is not counted where it is not reached
-    pub reaches-skip : (v : ℕ) → mark ≤ getD P S 0 → ReachesAt (S + 1) P (set C (a + n) v) a n
+    pub reaches-skip : (v : ℕ) → mark ≤ getD P S 0 → ReachesIn (S + 1) P (set L n v) n
     reaches-skip v far = record {
       few = omega (arith, r .few);
       inside = λ j l. omega (arith, reaches-set v .inside j l);
       all = λ x l low. go x low (below-cases (omega arith));
     }
       where
-        go : (x : ℕ) → getD P x 0 < mark → (x < S) ⊎ (x ≡ S) → ListedAt (set C (a + n) v) a n x
+        go : (x : ℕ) → getD P x 0 < mark → (x < S) ⊎ (x ≡ S) → ListedIn (set L n v) n x
         go x low (inl l) = reaches-set v .all x l low
         go x low (inr e) = absurd (omega (arith, rw e at low))
 
     -- four states are not reached where the bits that their prices share are those of the mark
-    pub reaches-four : bitAnd (bitAnd (getD P S 0) (getD P (S + 1) 0)) (bitAnd (getD P (S + 2) 0) (getD P (S + 3) 0)) ≡ mark → ReachesAt (S + 4) P C a n
+    pub reaches-four : bitAnd (bitAnd (getD P S 0) (getD P (S + 1) 0)) (bitAnd (getD P (S + 2) 0) (getD P (S + 3) 0)) ≡ mark → ReachesIn (S + 4) P L n
     reaches-four e = reaches-past (S + 4) (omega arith) (λ x l b. go x l b (all-marks e) (ℕ-discrete x S) (ℕ-discrete x (S + 1)) (ℕ-discrete x (S + 2)))
       where
         go : (x : ℕ) → S ≤ x → x < S + 4 → (mark ≤ getD P S 0) × (mark ≤ getD P (S + 1) 0) × (mark ≤ getD P (S + 2) 0) × (mark ≤ getD P (S + 3) 0)

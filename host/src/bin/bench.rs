@@ -89,7 +89,7 @@ fn one(name: &str, draft: &Draft) {
         black_box(&mut table).fill(0);
     });
     let zeroing = times([&mut || black_box(&mut table).fill(0)])[0];
-    let ratio = shown(proved_time.map(|p| p / plain_time));
+    let ratio = proved_time.map_or("-".into(), |p| format!("{:.2}", p / plain_time));
     let task = read(&record).expect("a benchmark's task is accepted");
     let mut uniform = String::from("-");
     if draft.whole_states().is_some_and(|n| n < WHOLE) {

@@ -29,6 +29,9 @@ mul-x c = search needs
 shared-slice-read-x : tie.Need-shared-slice-read-x Inv-loop μ-loop
 shared-slice-read-x c = search needs
 
+cast-x : tie.Need-cast-x Inv-loop μ-loop
+cast-x c = omega (arith, state (c .before))
+
 add-if1 : tie.Need-add-if1 Inv-loop μ-loop
 add-if1 c = omega (arith, state (c .before))
 
@@ -72,6 +75,7 @@ place-in-list-spec =
     loop-holds
     mul-x
     shared-slice-read-x
+    cast-x
     add-if1
     mul-if1
     shared-slice-read-if1

@@ -8,6 +8,7 @@ use lib.Seq.{length-take-le}
 use Rattle.layer.specs.Board.{Board, rowOn}
 use Rattle.layer.specs.Lent.{boardOf}
 use Rattle.explore.specs.Held.Lists.{useful-front}
+use Rattle.rows.specs.Reach.{reaches-front}
 use Rattle.rows.specs.Row.Laws.{row-in}
 use Rattle.rows.specs.Sign.{signOf}
 use Rattle.offers.specs.Held.Laws.{row-has}
@@ -41,13 +42,13 @@ add-wide : tie.Need-add-wide
 add-wide c = search needs
 
 mul-at : tie.Need-mul-at
-mul-at c = omega (arith, c .before .before .before .before .before .before .before .before .before .before .before .before .before .before .before .before .before .before .before .before .before .good, row-fits (c .before .before .before .before .before .before .before .before .before .before .before .before .before .before .before .before .before .before .before .before .before))
+mul-at c = omega (arith, c .before .before .before .before .before .before .before .before .before .before .before .before .before .before .before .before .before .before .before .before .before .before .before .good, row-fits (c .before .before .before .before .before .before .before .before .before .before .before .before .before .before .before .before .before .before .before .before .before .before .before))
 
 add-end : tie.Need-add-end
-add-end c = omega (arith, c .before .before .before .before .before .before .before .before .before .before .before .before .before .before .before .before .before .before .before .before .before .good, row-fits (c .before .before .before .before .before .before .before .before .before .before .before .before .before .before .before .before .before .before .before .before .before))
+add-end c = omega (arith, c .before .before .before .before .before .before .before .before .before .before .before .before .before .before .before .before .before .before .before .before .before .before .before .good, row-fits (c .before .before .before .before .before .before .before .before .before .before .before .before .before .before .before .before .before .before .before .before .before .before .before))
 
 mul-read-spot : tie.Need-mul-read-spot
-mul-read-spot c = omega (arith, c .before .before .before .before .before .before .before .before .before .before .before .before .before .before .before .before .before .before .before .before .before .good, row-fits (c .before .before .before .before .before .before .before .before .before .before .before .before .before .before .before .before .before .before .before .before .before))
+mul-read-spot c = omega (arith, c .before .before .before .before .before .before .before .before .before .before .before .before .before .before .before .before .before .before .before .before .before .before .before .good, row-fits (c .before .before .before .before .before .before .before .before .before .before .before .before .before .before .before .before .before .before .before .before .before .before .before))
 
 sub-read-spot : tie.Need-sub-read-spot
 sub-read-spot c = search needs
@@ -56,25 +57,25 @@ part-read-spot-start : tie.Need-part-read-spot-start
 part-read-spot-start c = search needs
 
 part-read-spot-end : tie.Need-part-read-spot-end
-part-read-spot-end c = omega (arith, c .before .before .before .before .before .before .before .before .before .before .before .before .before .before .before .before .before .before .before .before .before .before .good, row-fits (c .before .before .before .before .before .before .before .before .before .before .before .before .before .before .before .before .before .before .before .before .before .before))
+part-read-spot-end c = omega (arith, c .before .before .before .before .before .before .before .before .before .before .before .before .before .before .before .before .before .before .before .before .before .before .before .before .good, row-fits (c .before .before .before .before .before .before .before .before .before .before .before .before .before .before .before .before .before .before .before .before .before .before .before .before))
 
 read-spot-requires : tie.Need-read-spot-requires
 read-spot-requires c κs = search needs
 
 add-paid : tie.Need-add-paid
-add-paid c = omega (arith, c .before .before .before .before .before .before .before .before .before .before .before .before .before .before .before .before .before .before .before .before .before .before .before .before .good, row-fits (c .before .before .before .before .before .before .before .before .before .before .before .before .before .before .before .before .before .before .before .before .before .before .before .before))
+add-paid c = omega (arith, c .before .before .before .before .before .before .before .before .before .before .before .before .before .before .before .before .before .before .before .before .before .before .before .before .before .before .good, row-fits (c .before .before .before .before .before .before .before .before .before .before .before .before .before .before .before .before .before .before .before .before .before .before .before .before .before .before))
 
 mul-paid : tie.Need-mul-paid
-mul-paid c = omega (arith, c .before .before .before .before .before .before .before .before .before .before .before .before .before .before .before .before .before .before .before .before .before .before .before .before .good, row-fits (c .before .before .before .before .before .before .before .before .before .before .before .before .before .before .before .before .before .before .before .before .before .before .before .before))
+mul-paid c = omega (arith, c .before .before .before .before .before .before .before .before .before .before .before .before .before .before .before .before .before .before .before .before .before .before .before .before .before .before .good, row-fits (c .before .before .before .before .before .before .before .before .before .before .before .before .before .before .before .before .before .before .before .before .before .before .before .before .before .before))
 
 slice-read-paid : tie.Need-slice-read-paid
-slice-read-paid c = omega (arith, c .before .before .before .before .before .before .before .before .before .before .before .before .before .before .before .before .before .before .before .before .before .before .before .before .before .good, row-fits (c .before .before .before .before .before .before .before .before .before .before .before .before .before .before .before .before .before .before .before .before .before .before .before .before .before))
+slice-read-paid c = omega (arith, c .before .before .before .before .before .before .before .before .before .before .before .before .before .before .before .before .before .before .before .before .before .before .before .before .before .before .before .good, row-fits (c .before .before .before .before .before .before .before .before .before .before .before .before .before .before .before .before .before .before .before .before .before .before .before .before .before .before .before))
 
 add-copy-words : tie.Need-add-copy-words
-add-copy-words c = omega (arith, c .before .before .before .before .before .before .before .before .before .before .before .before .before .before .before .before .before .before .before .before .before .before .before .before .before .good, row-fits (c .before .before .before .before .before .before .before .before .before .before .before .before .before .before .before .before .before .before .before .before .before .before .before .before .before))
+add-copy-words c = omega (arith, c .before .before .before .before .before .before .before .before .before .before .before .before .before .before .before .before .before .before .before .before .before .before .before .before .before .before .before .good, row-fits (c .before .before .before .before .before .before .before .before .before .before .before .before .before .before .before .before .before .before .before .before .before .before .before .before .before .before .before))
 
 mul-copy-words : tie.Need-mul-copy-words
-mul-copy-words c = omega (arith, c .before .before .before .before .before .before .before .before .before .before .before .before .before .before .before .before .before .before .before .before .before .before .before .before .before .good, row-fits (c .before .before .before .before .before .before .before .before .before .before .before .before .before .before .before .before .before .before .before .before .before .before .before .before .before))
+mul-copy-words c = omega (arith, c .before .before .before .before .before .before .before .before .before .before .before .before .before .before .before .before .before .before .before .before .before .before .before .before .before .before .before .good, row-fits (c .before .before .before .before .before .before .before .before .before .before .before .before .before .before .before .before .before .before .before .before .before .before .before .before .before .before .before))
 
 sub-copy-words : tie.Need-sub-copy-words
 sub-copy-words c = search needs
@@ -83,25 +84,25 @@ part-copy-words-start : tie.Need-part-copy-words-start
 part-copy-words-start c = search needs
 
 part-copy-words-end : tie.Need-part-copy-words-end
-part-copy-words-end c = omega (arith, c .before .before .before .before .before .before .before .before .before .before .before .before .before .before .before .before .before .before .before .before .before .before .before .before .before .before .good, row-fits (c .before .before .before .before .before .before .before .before .before .before .before .before .before .before .before .before .before .before .before .before .before .before .before .before .before .before))
+part-copy-words-end c = omega (arith, c .before .before .before .before .before .before .before .before .before .before .before .before .before .before .before .before .before .before .before .before .before .before .before .before .before .before .before .before .good, row-fits (c .before .before .before .before .before .before .before .before .before .before .before .before .before .before .before .before .before .before .before .before .before .before .before .before .before .before .before .before))
 
 copy-words-requires : tie.Need-copy-words-requires
 copy-words-requires c κs =
-    let s = c .before .before .before .before .before .before .before .before .before .before .before .before .before .before .before .before .before .before .before .before .before .before .before .before .before .before .before .before in
+    let s = c .before .before .before .before .before .before .before .before .before .before .before .before .before .before .before .before .before .before .before .before .before .before .before .before .before .before .before .before .before .before in
     (simp (length-take, length-drop) (omega (arith, row-fits s)), omega (arith, s .pre .1 .1 .1 .1 .0, s .pre .0 .few-all))
 
 add-sign : tie.Need-add-sign
-add-sign c = omega (arith, inside-scan (c .before .before .before .before .before .before .before .before .before .before .before .before .before .before .before .before .before .before .before .before .before .before .before .before .before .before .before .before .before .before .before))
+add-sign c = omega (arith, inside-scan (c .before .before .before .before .before .before .before .before .before .before .before .before .before .before .before .before .before .before .before .before .before .before .before .before .before .before .before .before .before .before .before .before .before))
 
 mul-sign : tie.Need-mul-sign
-mul-sign c = omega (arith, inside-scan (c .before .before .before .before .before .before .before .before .before .before .before .before .before .before .before .before .before .before .before .before .before .before .before .before .before .before .before .before .before .before .before))
+mul-sign c = omega (arith, inside-scan (c .before .before .before .before .before .before .before .before .before .before .before .before .before .before .before .before .before .before .before .before .before .before .before .before .before .before .before .before .before .before .before .before .before))
 
 slice-read-sign : tie.Need-slice-read-sign
-slice-read-sign c = omega (arith, inside-scan (c .before .before .before .before .before .before .before .before .before .before .before .before .before .before .before .before .before .before .before .before .before .before .before .before .before .before .before .before .before .before .before .before), c .before .before .before .before .before .before .before .before .before .before .before .before .before .before .before .before .before .before .before .before .before .before .before .before .before .before .before .before .before .before .before .before .pre .1 .1 .1 .0 .scan-long)
+slice-read-sign c = omega (arith, inside-scan (c .before .before .before .before .before .before .before .before .before .before .before .before .before .before .before .before .before .before .before .before .before .before .before .before .before .before .before .before .before .before .before .before .before .before), c .before .before .before .before .before .before .before .before .before .before .before .before .before .before .before .before .before .before .before .before .before .before .before .before .before .before .before .before .before .before .before .before .before .before .pre .1 .1 .1 .0 .scan-long)
 
 list-turns-requires : tie.Need-list-turns-requires
 list-turns-requires c κs =
-    let s = c .before .before .before .before .before .before .before .before .before .before .before .before .before .before .before .before .before .before .before .before .before .before .before .before .before .before .before .before .before .before .before .before .before .before .before .before in
+    let s = c .before .before .before .before .before .before .before .before .before .before .before .before .before .before .before .before .before .before .before .before .before .before .before .before .before .before .before .before .before .before .before .before .before .before .before .before .before .before in
     let w = c .before .before .before .before .before .before .before .copy-words in
     let long : length (w .last .1 .0) ≡ 1024 = w .kept .1 .0 ∙ s .pre .1 .1 .1 .1 .0 in
     (s .pre .0, ((s .pre .1 .0 .1, s .pre .1 .0 .3, s .pre .1 .0 .6, s .pre .1 .0 .7), (s .pre .1 .0 .4, long, inside-scan s, row-fits s)))
@@ -110,31 +111,60 @@ list-turns-requires c κs =
 listed-in : (c : tie.After-list-turns) → c .list-turns .result ≤ length (c .list-turns .last .1 .1 .1 .1 .1 .1 .1 .1 .1 .1 .1 .1 .1 .1 .1 .1 .1 .0)
 listed-in c =
     let m = c .list-turns in
-    let s = c .before .before .before .before .before .before .before .before .before .before .before .before .before .before .before .before .before .before .before .before .before .before .before .before .before .before .before .before .before .before .before .before .before .before .before .before .before in
+    let s = c .before .before .before .before .before .before .before .before .before .before .before .before .before .before .before .before .before .before .before .before .before .before .before .before .before .before .before .before .before .before .before .before .before .before .before .before .before .before .before in
     let kept : length (m .last .1 .1 .1 .1 .1 .1 .1 .1 .1 .1 .1 .1 .1 .1 .1 .1 .1 .0) ≡ length (now (s .args .mets)) = m .kept .1 .1 .1 .1 .1 .1 .1 .1 .1 .1 .1 .1 .1 .1 .1 .1 .1 .0 in
     omega (arith, s .pre .1 .0 .4, m .ensures .1)
 
+list-reached-requires : tie.Need-list-reached-requires
+list-reached-requires c κs =
+    let s = c .before .before .before .before .before .before .before .before .before .before .before .before .before .before .before .before .before .before .before .before .before .before .before .before .before .before .before .before .before .before .before .before .before .before .before .before .before .before .before .before .before .before .before .before .before in
+    let w = c .before .before .before .before .before .before .before .before .before .before .before .before .before .before .copy-words in
+    let long : length (w .last .1 .0) ≡ 1024 = w .kept .1 .0 ∙ s .pre .1 .1 .1 .1 .0 in
+    (s .pre .1 .1 .1 .1 .2, s .pre .0 .few-all, omega (arith, s .pre .0 .few-all))
+
+-- the list of the states that the node reaches lies within the room for it
+reached-in : (c : tie.After-list-reached) → c .list-reached .result ≤ length (c .list-reached .last .1 .1 .0)
+reached-in c =
+    let s = c .before .before .before .before .before .before .before .before .before .before .before .before .before .before .before .before .before .before .before .before .before .before .before .before .before .before .before .before .before .before .before .before .before .before .before .before .before .before .before .before .before .before .before .before .before .before in
+    let kept : length (c .list-reached .last .1 .1 .0) ≡ length (now (s .args .list)) = c .list-reached .kept .1 .1 .0 in
+    omega (arith, s .pre .1 .1 .1 .1 .2, c .list-reached .ensures .0)
+
 slice-reshare-prefix-turns : tie.Need-slice-reshare-prefix-turns
-slice-reshare-prefix-turns c = listed-in (c .before .before .before .before)
+slice-reshare-prefix-turns c = listed-in (c .before .before .before .before .before .before .before .before .before)
 
 slice-aggregate-turns : tie.Need-slice-aggregate-turns
-slice-aggregate-turns c = let t = c .before .before .before .before .before in sym (length-take-le (t .list-turns .result) (t .list-turns .last .1 .1 .1 .1 .1 .1 .1 .1 .1 .1 .1 .1 .1 .1 .1 .1 .1 .0) (listed-in t))
+slice-aggregate-turns c = let t = c .before .before .before .before .before .before .before .before .before .before in sym (length-take-le (t .list-turns .result) (t .list-turns .last .1 .1 .1 .1 .1 .1 .1 .1 .1 .1 .1 .1 .1 .1 .1 .1 .1 .0) (listed-in t))
+
+slice-reshare-prefix-turns-2 : tie.Need-slice-reshare-prefix-turns-2
+slice-reshare-prefix-turns-2 c = reached-in (c .before .before .before .before .before .before .before .before)
+
+slice-aggregate-turns-2 : tie.Need-slice-aggregate-turns-2
+slice-aggregate-turns-2 c = let t = c .before .before .before .before .before .before .before .before .before in sym (length-take-le (t .list-reached .result) (t .list-reached .last .1 .1 .0) (reached-in t))
 
 turns-requires : tie.Need-turns-requires
 turns-requires c κs =
-    let s = c .before .before .before .before .before .before .before .before .before .before .before .before .before .before .before .before .before .before .before .before .before .before .before .before .before .before .before .before .before .before .before .before .before .before .before .before .before .before .before .before .before .before .before .before .before .before .before in
-    let r = c .before .before .before .before .before .before .before .before .before .before .before .before .before .before .before .before .before .before .before .before .before .before .before .read-spot in
-    let w = c .before .before .before .before .before .before .before .before .before .before .before .before .before .before .before .before .before .before .copy-words in
-    let m = c .before .before .before .before .before .before .before .before .before .before .list-turns in
-    let useful = useful-front _ _ _ _ _ _ (m .result) (m .last .1 .1 .1 .1 .1 .1 .1 .1 .1 .1 .1 .1 .1 .1 .1 .1 .1 .0) (listed-in (c .before .before .before .before .before .before .before .before .before .before)) (m .ensures .2) in
+    let s = c .before .before .before .before .before .before .before .before .before .before .before .before .before .before .before .before .before .before .before .before .before .before .before .before .before .before .before .before .before .before .before .before .before .before .before .before .before .before .before .before .before .before .before .before .before .before .before .before .before .before .before .before .before .before .before .before in
+    let r = c .before .before .before .before .before .before .before .before .before .before .before .before .before .before .before .before .before .before .before .before .before .before .before .before .before .before .before .before .before .before .read-spot in
+    let w = c .before .before .before .before .before .before .before .before .before .before .before .before .before .before .before .before .before .before .before .before .before .before .before .before .before .copy-words in
+    let m = c .before .before .before .before .before .before .before .before .before .before .before .before .before .before .before .before .before .list-turns in
+    let useful = useful-front _ _ _ _ _ _ (m .result) (m .last .1 .1 .1 .1 .1 .1 .1 .1 .1 .1 .1 .1 .1 .1 .1 .1 .1 .0) (listed-in (c .before .before .before .before .before .before .before .before .before .before .before .before .before .before .before .before .before)) (m .ensures .2) in
     let long : length (w .last .1 .0) ≡ 1024 = w .kept .1 .0 ∙ s .pre .1 .1 .1 .1 .0 in
     let has = row-has (rowOn (board s)) (s .args .u) (now (s .args .table)) (r .result) (w .last .1 .0) _ (row-fits s) (r .ensures) (w .ensures) in
+    let g = c .before .before .before .before .before .before .before .before .before .before in
     let sign = s .pre .1 .1 .1 .0 .chained .signs (s .args .u) (s .pre .1 .1 .0 .2) ∙ ap signOf (has .prices-is) in (
       s .pre .0,
       (
         (s .pre .1 .0 .0, s .pre .1 .0 .1, s .pre .1 .0 .2, m .ensures .0, useful, s .pre .1 .0 .5),
         (
-          (s .pre .1 .1 .0 .0, s .pre .1 .1 .0 .1, long, s .pre .1 .1 .1 .1 .1, s .pre .1 .1 .0 .2),
+          (
+            s .pre .1 .1 .0 .0,
+            s .pre .1 .1 .0 .1,
+            long,
+            s .pre .1 .1 .1 .1 .1,
+            s .pre .1 .1 .0 .2,
+            λ l. reaches-front (rowOn (board s)) (w .last .1 .0) (g .list-reached .last .1 .1 .0) (g .list-reached .result) (reached-in g) (g .list-reached .ensures .1 l),
+            s .pre .1 .1 .1 .1 .3,
+          ),
           ((sign, has), s .pre .1 .1 .1 .0),
         ),
       ),
@@ -147,16 +177,22 @@ same-length-2 : tie.Need-same-length-2
 same-length-2 c = search needs
 
 same-length-3 : tie.Need-same-length-3
-same-length-3 c = search needs
+same-length-3 c = c .before .before .before .before .before .before .before .before .before .before .turns .kept .1 .1 .1 .1 .1 .1 .1 .1 .1 .1 .1 .1 .1 .1 .1 .1 .1 .1 .1 .1 .1 .1 .1 .1 .1 .1 .1 .0 ∙ c .before .before .before .before .before .before .before .before .before .before .before .before .before .before .before .before .before .before .before .before .before .before .before .before .before .before .before .before .list-turns .kept .1 .1 .1 .1 .1 .1 .1 .1 .1 .1 .1 .1 .1 .1 .1 .1 .0
 
 same-length-4 : tie.Need-same-length-4
-same-length-4 c = search needs
+same-length-4 c = c .before .before .before .before .before .before .before .before .before .before .before .before .before .before .before .before .before .before .before .before .before .before .before .before .before .before .before .before .list-turns .kept .1 .1 .1 .1 .1 .1 .1 .1 .1 .1 .1 .1 .1 .1 .1 .1 .1 .0
 
 same-length-5 : tie.Need-same-length-5
-same-length-5 c = c .before .before .before .before .before .before .before .before .before .before .before .before .before .before .before .before .before .before .before .before .before .before .before .before .before .before .before .copy-words .kept .1 .0
+same-length-5 c = c .before .before .before .before .before .before .before .before .before .before .before .before .before .before .before .before .before .before .before .before .before .before .before .before .before .before .before .before .before .before .before .before .before .before .before .before .copy-words .kept .1 .0
 
 same-length-6 : tie.Need-same-length-6
 same-length-6 c = search needs
+
+same-length-7 : tie.Need-same-length-7
+same-length-7 c = c .before .before .before .before .before .before .before .before .before .before .before .before .before .before .before .before .before .before .before .before .before .list-reached .kept .1 .1 .0
+
+same-length-8 : tie.Need-same-length-8
+same-length-8 c = c .before .before .before .before .before .before .before .before .before .before .turns .kept .1 .1 .1 .1 .1 .1 .1 .1 .1 .1 .1 .1 .1 .1 .1 .1 .1 .1 .1 .1 .1 .1 .1 .1 .1 .1 .1 .1 .1 .0
 
 returns : tie.Need-returns
 returns c = search needs
@@ -188,8 +224,11 @@ expand-spec =
     mul-sign
     slice-read-sign
     list-turns-requires
+    list-reached-requires
     slice-reshare-prefix-turns
     slice-aggregate-turns
+    slice-reshare-prefix-turns-2
+    slice-aggregate-turns-2
     turns-requires
     same-length
     same-length-2
@@ -197,4 +236,6 @@ expand-spec =
     same-length-4
     same-length-5
     same-length-6
+    same-length-7
+    same-length-8
     returns)

@@ -24,15 +24,16 @@ use Rattle.explore.proofs.explore.Statement.{statement}
 use Rattle.explore.proofs.explore.Tie as tie
 
 abbrev Inv-loop : tie.InvT-loop
-Inv-loop bases moves costs kinds starts goals nodes budget edges ends table₀ scan₀ leaves actions factors goal conditions effects stills still firsts hops ways run₀ known₀ mets₀ old₀ next₀ table scan run known mets old next =
-    (length table ≡ length table₀) × (length scan ≡ 26912)
+Inv-loop bases moves costs kinds starts goals nodes budget edges ends table₀ scan₀ leaves actions factors goal conditions effects stills still firsts hops ways run₀ known₀ mets₀ old₀ next₀ list₀ room₀ table scan run known mets old next list room =
+    (length table ≡ length table₀) × (length scan ≡ 25888)
     × AheadBy (boardOf leaves actions bases moves costs kinds factors conditions) effects goals goal nodes budget table₀ scan₀ run₀ table scan run
     × (length old ≡ 1024) × (length next ≡ 1024)
     × Known (boardOf leaves actions bases moves costs kinds factors conditions) known
     × (length mets ≡ 256)
+    × (length list ≡ 1024) × (length room ≡ 1024)
 
 abbrev μ-loop : tie.MeasureT-loop
-μ-loop bases moves costs kinds starts goals nodes budget edges ends table₀ scan₀ leaves actions factors goal conditions effects stills still firsts hops ways run₀ known₀ mets₀ old₀ next₀ table scan run known mets old next =
+μ-loop bases moves costs kinds starts goals nodes budget edges ends table₀ scan₀ leaves actions factors goal conditions effects stills still firsts hops ways run₀ known₀ mets₀ old₀ next₀ list₀ room₀ table scan run known mets old next list room =
     suc nodes - run .begun
 
 -- the Board of the task
@@ -170,7 +171,7 @@ loop-holds : tie.Need-loop-holds Inv-loop μ-loop
 loop-holds c =
     let s = c .before .before .before .before .before .before .before .before .before .before .before .before .before .before .before .before .before .before .before .before .before .before .before .before .before .before .before .before .before .before .before .before .before .before .before in
     let f = c .before .before .before .before .start in
-    (refl, f .kept .1 .1 .1 .1 .1 .1 .1 .1 .0 ∙ s .pre .1 .1 .1 .3, (λ t f a. a), search needs, search needs, known-none (board s), search needs)
+    (refl, f .kept .1 .1 .1 .1 .1 .1 .1 .1 .0 ∙ s .pre .1 .1 .1 .3, (λ t f a. a), search needs, search needs, known-none (board s), search needs, search needs, search needs)
 
 slice-aggregate-next-round : tie.Need-slice-aggregate-next-round Inv-loop μ-loop
 slice-aggregate-next-round c = sym (lists (first (c .before)) .1)
@@ -205,23 +206,29 @@ slice-aggregate-next-round-10 c = sym (c .before .before .before .before .before
 slice-aggregate-next-round-11 : tie.Need-slice-aggregate-next-round-11 Inv-loop μ-loop
 slice-aggregate-next-round-11 c = sym (c .before .before .before .before .before .before .before .before .before .before .before .before .before .loop .inv .4)
 
+slice-aggregate-next-round-12 : tie.Need-slice-aggregate-next-round-12 Inv-loop μ-loop
+slice-aggregate-next-round-12 c = sym (c .before .before .before .before .before .before .before .before .before .before .before .before .before .before .loop .inv .7)
+
+slice-aggregate-next-round-13 : tie.Need-slice-aggregate-next-round-13 Inv-loop μ-loop
+slice-aggregate-next-round-13 c = sym (c .before .before .before .before .before .before .before .before .before .before .before .before .before .before .before .loop .inv .8)
+
 next-round-requires : tie.Need-next-round-requires Inv-loop μ-loop
 next-round-requires c κs =
-    let l = c .before .before .before .before .before .before .before .before .before .before .before .before .before in
+    let l = c .before .before .before .before .before .before .before .before .before .before .before .before .before .before .before in
     let s = first l in (
       fit s .1,
       (
         (
-          stays (c .before .before .before .before .before .before .before .before .before .before .before .before .before .before .before .before .before .before .before .before .before .before .before .before .before .before .before .before .before .before),
-          asked (c .before .before .before .before .before .before .before .before .before .before .before .before .before .before .before .before .before .before .before .before .before .before .before .before .before .before .before .before),
+          stays (c .before .before .before .before .before .before .before .before .before .before .before .before .before .before .before .before .before .before .before .before .before .before .before .before .before .before .before .before .before .before .before .before),
+          asked (c .before .before .before .before .before .before .before .before .before .before .before .before .before .before .before .before .before .before .before .before .before .before .before .before .before .before .before .before .before .before),
           s .pre .1 .1 .0,
           l .loop .inv .5,
           l .loop .inv .6,
-          c .before .before .before .before .before .before .before .before .before .before .before .before .before .before .before .before .before .before .before .before .before .before .before .before .before .before .before .before .before .before .before .before .still-leaves .ensures,
-          c .before .before .before .before .before .before .before .before .before .before .before .before .before .before .before .before .before .before .before .before .before .before .before .list-hops .ensures,
-          c .before .before .before .before .before .before .before .before .before .before .before .before .before .before .before .before .before .before .before .before .before .list-ways .ensures,
+          c .before .before .before .before .before .before .before .before .before .before .before .before .before .before .before .before .before .before .before .before .before .before .before .before .before .before .before .before .before .before .before .before .before .before .still-leaves .ensures,
+          c .before .before .before .before .before .before .before .before .before .before .before .before .before .before .before .before .before .before .before .before .before .before .before .before .before .list-hops .ensures,
+          c .before .before .before .before .before .before .before .before .before .before .before .before .before .before .before .before .before .before .before .before .before .before .before .list-ways .ensures,
         ),
-        ((lists s .2, s .pre .1 .0 .1 .long, omega (arith, few l, s .pre .1 .1 .1 .1)), (room l, (l .loop .inv .3, l .loop .inv .4))),
+        ((lists s .2, s .pre .1 .0 .1 .long, omega (arith, few l, s .pre .1 .1 .1 .1)), (room l, (l .loop .inv .3, l .loop .inv .4, omega (arith, l .loop .inv .7), omega (arith, l .loop .inv .8)))),
       ),
     )
 
@@ -229,34 +236,34 @@ enum-known-round : tie.Need-enum-known-round Inv-loop μ-loop
 enum-known-round c = search needs
 
 same-length : tie.Need-same-length Inv-loop μ-loop
-same-length c = c .before .before .before .before .before .before .before .before .before .before .before .next-round .kept .1 .1 .1 .1 .1 .1 .1 .1 .1 .1 .1 .1 .1 .1 .1 .1 .1 .1 .1 .1 .0 ∙ long (c .before .before .before .before .before .before .before .before .before .before .before .before .before .before .before .before .before .before .before .before .before .before .before .before .before)
+same-length c = c .before .before .before .before .before .before .before .before .before .before .before .before .before .next-round .kept .1 .1 .1 .1 .1 .1 .1 .1 .1 .1 .1 .1 .1 .1 .1 .1 .1 .1 .1 .1 .0 ∙ long (c .before .before .before .before .before .before .before .before .before .before .before .before .before .before .before .before .before .before .before .before .before .before .before .before .before .before .before .before .before)
 
 same-length-2 : tie.Need-same-length-2 Inv-loop μ-loop
-same-length-2 c = c .before .before .before .before .before .before .before .before .before .before .before .next-round .kept .1 .1 .1 .1 .1 .1 .1 .1 .1 .1 .1 .1 .1 .1 .1 .1 .1 .1 .1 .1 .1 .0 ∙ c .before .before .before .before .before .before .before .before .before .before .before .before .before .before .before .before .before .before .before .before .before .before .before .before .before .loop .inv .1 ∙ sym (first (c .before .before .before .before .before .before .before .before .before .before .before .before .before .before .before .before .before .before .before .before .before .before .before .before .before) .pre .1 .1 .1 .3)
+same-length-2 c = c .before .before .before .before .before .before .before .before .before .before .before .before .before .next-round .kept .1 .1 .1 .1 .1 .1 .1 .1 .1 .1 .1 .1 .1 .1 .1 .1 .1 .1 .1 .1 .1 .0 ∙ c .before .before .before .before .before .before .before .before .before .before .before .before .before .before .before .before .before .before .before .before .before .before .before .before .before .before .before .before .before .loop .inv .1 ∙ sym (first (c .before .before .before .before .before .before .before .before .before .before .before .before .before .before .before .before .before .before .before .before .before .before .before .before .before .before .before .before .before) .pre .1 .1 .1 .3)
 
 returns : tie.Need-returns Inv-loop μ-loop
 returns c =
-    let l = c .before .before .before .before .before .before .before .before .before .before .before .before .before .before .before .before .before .before .before .before .before .before .before .before .before in
+    let l = c .before .before .before .before .before .before .before .before .before .before .before .before .before .before .before .before .before .before .before .before .before .before .before .before .before .before .before .before .before in
     let s = first l in
-    rw (c .before .round .given .1) at (c .before .before .before .before .before .before .before .before .before .before .before .next-round .ensures .0 (s .args .task) (fit s .0) (ahead l))
+    rw (c .before .round .given .1) at (c .before .before .before .before .before .before .before .before .before .before .before .before .before .next-round .ensures .0 (s .args .task) (fit s .0) (ahead l))
 
 enum-known-round-2 : tie.Need-enum-known-round-2 Inv-loop μ-loop
 enum-known-round-2 c = search needs
 
 loop-less : tie.Need-loop-less Inv-loop μ-loop
 loop-less c =
-    let l = c .before .before .before .before .before .before .before .before .before .before .before .before .before .before .before .before .before .before .before .before .before .before .before .before .before in
+    let l = c .before .before .before .before .before .before .before .before .before .before .before .before .before .before .before .before .before .before .before .before .before .before .before .before .before .before .before .before .before in
     let s = first l in
-    let n = c .before .before .before .before .before .before .before .before .before .before .before .next-round in
+    let n = c .before .before .before .before .before .before .before .before .before .before .before .before .before .next-round in
     let told : Rounded (s .args .task) (s .args .nodes) (s .args .budget) (l .loop .run .begun) (allStates (s .args .task)) (n .last .1 .1 .1 .1 .1 .1 .1 .1 .1 .1 .1 .1 .1 .1 .1 .1 .1 .1 .1 .1 .0) (n .last .1 .1 .1 .1 .1 .1 .1 .1 .1 .1 .1 .1 .1 .1 .1 .1 .1 .1 .1 .1 .1 .0) (Goes (c .before .round2 .given .0 .0)) =
     rw (c .before .round2 .given .1) at (n .ensures .0 (s .args .task) (fit s .0) (ahead l)) in
     omega (arith, told .1, few l)
 
 loop-again : tie.Need-loop-again Inv-loop μ-loop
 loop-again c =
-    let l = c .before .before .before .before .before .before .before .before .before .before .before .before .before .before .before .before .before .before .before .before .before .before .before .before .before .loop in
-    let n = c .before .before .before .before .before .before .before .before .before .before .before .next-round in
-    (n .kept .1 .1 .1 .1 .1 .1 .1 .1 .1 .1 .1 .1 .1 .1 .1 .1 .1 .1 .1 .1 .0 ∙ l .inv .0, n .kept .1 .1 .1 .1 .1 .1 .1 .1 .1 .1 .1 .1 .1 .1 .1 .1 .1 .1 .1 .1 .1 .0 ∙ l .inv .1, (λ t f a. (rw (c .before .round2 .given .1) at (n .ensures .0 t f (l .inv .2 t f a))) .0), n .kept .1 .1 .1 .1 .1 .1 .1 .1 .1 .1 .1 .1 .1 .1 .1 .1 .1 .1 .1 .1 .1 .1 .1 .1 .0 ∙ l .inv .3, n .kept .1 .1 .1 .1 .1 .1 .1 .1 .1 .1 .1 .1 .1 .1 .1 .1 .1 .1 .1 .1 .1 .1 .1 .1 .1 .0 ∙ l .inv .4, n .ensures .1, n .kept .1 .1 .1 .1 .1 .1 .1 .1 .1 .1 .1 .1 .1 .1 .1 .1 .1 .1 .1 .1 .1 .1 .1 .0 ∙ l .inv .6)
+    let l = c .before .before .before .before .before .before .before .before .before .before .before .before .before .before .before .before .before .before .before .before .before .before .before .before .before .before .before .before .before .loop in
+    let n = c .before .before .before .before .before .before .before .before .before .before .before .before .before .next-round in
+    (n .kept .1 .1 .1 .1 .1 .1 .1 .1 .1 .1 .1 .1 .1 .1 .1 .1 .1 .1 .1 .1 .0 ∙ l .inv .0, n .kept .1 .1 .1 .1 .1 .1 .1 .1 .1 .1 .1 .1 .1 .1 .1 .1 .1 .1 .1 .1 .1 .0 ∙ l .inv .1, (λ t f a. (rw (c .before .round2 .given .1) at (n .ensures .0 t f (l .inv .2 t f a))) .0), n .kept .1 .1 .1 .1 .1 .1 .1 .1 .1 .1 .1 .1 .1 .1 .1 .1 .1 .1 .1 .1 .1 .1 .1 .1 .0 ∙ l .inv .3, n .kept .1 .1 .1 .1 .1 .1 .1 .1 .1 .1 .1 .1 .1 .1 .1 .1 .1 .1 .1 .1 .1 .1 .1 .1 .1 .0 ∙ l .inv .4, n .ensures .1, n .kept .1 .1 .1 .1 .1 .1 .1 .1 .1 .1 .1 .1 .1 .1 .1 .1 .1 .1 .1 .1 .1 .1 .1 .0 ∙ l .inv .6, n .kept .1 .1 .1 .1 .1 .1 .1 .1 .1 .1 .1 .1 .1 .1 .1 .1 .1 .1 .1 .1 .1 .1 .1 .1 .1 .1 .0 ∙ l .inv .7, n .kept .1 .1 .1 .1 .1 .1 .1 .1 .1 .1 .1 .1 .1 .1 .1 .1 .1 .1 .1 .1 .1 .1 .1 .1 .1 .1 .1 .0 ∙ l .inv .8)
 
 pub explore-spec : {M : Type 1} → statement M
 explore-spec =
@@ -291,6 +298,8 @@ explore-spec =
     slice-aggregate-next-round-9
     slice-aggregate-next-round-10
     slice-aggregate-next-round-11
+    slice-aggregate-next-round-12
+    slice-aggregate-next-round-13
     next-round-requires
     enum-known-round
     same-length

@@ -25,7 +25,7 @@ board s =
 
 -- where a node is chosen, the function's start
 abbrev start : tie.Else1 → tie.Start
-start c = c .before .before .before .before .before .before .before .before .before .before .before .before .before .before .before .before .before .before .before .before .before .before .before
+start c = c .before .before .before .before .before .before .before .before .before .before .before .before .before .before .before .before .before .before .before .before .before .before .before .before .before
 
 -- a node is chosen: one of those kept
 picked : (c : tie.Else1) → let a = start c .args in
@@ -73,15 +73,15 @@ room r =
 
 choose-requires : tie.Need-choose-requires
 choose-requires c κs =
-    let s = c .before .before .before .before .before .before .before .before .before .before .before .before .before .before .before .before .before .before .before .before .before in
-    (s .pre .1 .1 .1 .0 .scan-long, few s, omega (arith, s .good .1 .1 .1 .1 .1 .1 .1 .1 .1 .1 .1 .1 .1 .1 .1 .1 .1 .1 .1 .1 .1 .1 .1 .1 .1 .1 .0), s .pre .1 .1 .1 .0 .chained .blocks)
+    let s = c .before .before .before .before .before .before .before .before .before .before .before .before .before .before .before .before .before .before .before .before .before .before .before in
+    (s .pre .1 .1 .1 .0 .scan-long, few s, omega (arith, s .good .1 .1 .1 .1 .1 .1 .1 .1 .1 .1 .1 .1 .1 .1 .1 .1 .1 .1 .1 .1 .1 .1 .1 .1 .1 .1 .1 .1 .0), s .pre .1 .1 .1 .0 .chained .blocks)
 
 same-length : tie.Need-same-length
 same-length c = search needs
 
 returns : tie.Need-returns
 returns c =
-    let s = c .before .before .before .before .before .before .before .before .before .before .before .before .before .before .before .before .before .before .before .before .before .before .before in
+    let s = c .before .before .before .before .before .before .before .before .before .before .before .before .before .before .before .before .before .before .before .before .before .before .before .before .before in
     ((λ t f a. ahead-finished t (f .valid) (s .args .nodes) (s .pre .1 .1 .1 .0 .few-nodes) (s .args .budget) (allStates t) (now (s .args .table)) (now (s .args .scan)) (s .args .run) a (sym (c .before .choose .ensures) ∙ c .if1 .taken)), s .pre .1 .0 .3)
 
 same-length-2 : tie.Need-same-length-2
@@ -89,29 +89,29 @@ same-length-2 c = search needs
 
 returns-2 : tie.Need-returns-2
 returns-2 c =
-    let s = c .before .before .before .before .before .before .before .before .before .before .before .before .before .before .before .before .before .before .before .before .before .before .before .before .before in
+    let s = c .before .before .before .before .before .before .before .before .before .before .before .before .before .before .before .before .before .before .before .before .before .before .before .before .before .before .before in
     ((λ t f a. ahead-spent t (f .valid) (s .args .nodes) (s .pre .1 .1 .1 .0 .few-nodes) (s .args .budget) (allStates t) (now (s .args .table)) (now (s .args .scan)) (s .args .run) a (c .before .before .before .choose .result - 1) (picked (c .before .before) .0) (c .if2 .taken)), s .pre .1 .0 .3)
 
 sub-u : tie.Need-sub-u
 sub-u c = search needs
 
 mul-key : tie.Need-mul-key
-mul-key c = let s = c .before .before .before .before .before .before .before .before .before .before .before .before .before .before .before .before .before .before .before .before .before .before .before .before .before in omega (arith, picked (c .before .before) .1, few s)
+mul-key c = let s = c .before .before .before .before .before .before .before .before .before .before .before .before .before .before .before .before .before .before .before .before .before .before .before .before .before .before .before in omega (arith, picked (c .before .before) .1, few s)
 
 slice-read-key : tie.Need-slice-read-key
-slice-read-key c = let s = c .before .before .before .before .before .before .before .before .before .before .before .before .before .before .before .before .before .before .before .before .before .before .before .before .before .before in omega (arith, picked (c .before .before .before) .1, long s)
+slice-read-key c = let s = c .before .before .before .before .before .before .before .before .before .before .before .before .before .before .before .before .before .before .before .before .before .before .before .before .before .before .before .before in omega (arith, picked (c .before .before .before) .1, long s)
 
 retire-requires : tie.Need-retire-requires
 retire-requires c κs =
-    let s = c .before .before .before .before .before .before .before .before .before .before .before .before .before .before .before .before .before .before .before .before .before .before .before .before .before .before .before in
+    let s = c .before .before .before .before .before .before .before .before .before .before .before .before .before .before .before .before .before .before .before .before .before .before .before .before .before .before .before .before .before in
     (s .pre .1 .1 .1 .0 .scan-long, few s, picked (c .before .before .before .before) .1)
 
-add-t47 : tie.Need-add-t47
-add-t47 c = omega (arith, c .before .before .before .before .before .before .before .before .before .before .before .before .before .before .before .before .before .before .before .before .before .before .before .before .before .before .before .before .before .before .before .pre .1 .1 .0 .2)
+add-t49 : tie.Need-add-t49
+add-t49 c = omega (arith, c .before .before .before .before .before .before .before .before .before .before .before .before .before .before .before .before .before .before .before .before .before .before .before .before .before .before .before .before .before .before .before .before .before .pre .1 .1 .0 .2)
 
 expand-requires : tie.Need-expand-requires
 expand-requires c κs =
-    let r = c .before .before .before .before .before .before .before .before .before in
+    let r = c .before .before .before .before .before .before .before .before .before .before .before in
     let s = entry r in
     (s .pre .0, (s .pre .1 .0, ((s .pre .1 .1 .0 .0, s .pre .1 .1 .0 .1, picked (r .before .before .before .before .before) .1), (room r, s .pre .1 .1 .1 .1))))
 
@@ -133,23 +133,23 @@ same-length-7 c = search needs
 same-length-8 : tie.Need-same-length-8
 same-length-8 c = search needs
 
-returns-3 : tie.Need-returns-3
-returns-3 c =
-    let r = c .before .before .before .before .before .before .before .before .before .before .before .before .before .before .before .before .before .before .before .before .before .before .before .before in
-    let s = entry r in
-    let a = s .args in
-    let w = c .before .before .before .before .before .before .before .before .before .before .before .before .before .before .expand in (
-      (λ t f h. ahead-full t (f .valid) (a .nodes) (s .pre .1 .1 .1 .0 .few-nodes) (a .budget) (allStates t) (now (a .table)) (now (a .scan)) (a .run) h (node r)
-          (picked (r .before .before .before .before .before) .0) (long s) (r .before .before .before .if2 .left) (words r) (keyed r)
-          (w .result) (w .last .1 .1 .1 .1 .1 .1 .1 .1 .1 .1 .1 .1 .1 .1 .1 .1 .1 .1 .1 .1 .1 .0) (w .last .1 .1 .1 .1 .1 .1 .1 .1 .1 .1 .1 .1 .1 .1 .1 .1 .1 .1 .1 .1 .1 .1 .0) (w .ensures .1 .0 t f) (c .if3 .taken)),
-      w .ensures .1 .1,
-    )
-
 same-length-9 : tie.Need-same-length-9
 same-length-9 c = search needs
 
 same-length-10 : tie.Need-same-length-10
 same-length-10 c = search needs
+
+returns-3 : tie.Need-returns-3
+returns-3 c =
+    let r = c .before .before .before .before .before .before .before .before .before .before .before .before .before .before .before .before .before .before .before .before .before .before .before .before .before .before .before .before .before .before in
+    let s = entry r in
+    let a = s .args in
+    let w = c .before .before .before .before .before .before .before .before .before .before .before .before .before .before .before .before .before .before .expand in (
+      (λ t f h. ahead-full t (f .valid) (a .nodes) (s .pre .1 .1 .1 .0 .few-nodes) (a .budget) (allStates t) (now (a .table)) (now (a .scan)) (a .run) h (node r)
+          (picked (r .before .before .before .before .before) .0) (long s) (r .before .before .before .if2 .left) (words r) (keyed r)
+          (w .result) (w .last .1 .1 .1 .1 .1 .1 .1 .1 .1 .1 .1 .1 .1 .1 .1 .1 .1 .1 .1 .1 .1 .0) (w .last .1 .1 .1 .1 .1 .1 .1 .1 .1 .1 .1 .1 .1 .1 .1 .1 .1 .1 .1 .1 .1 .1 .0) (w .ensures .1 .0 t f) (c .if3 .taken)),
+      w .ensures .1 .1,
+    )
 
 same-length-11 : tie.Need-same-length-11
 same-length-11 c = search needs
@@ -163,12 +163,24 @@ same-length-13 c = search needs
 same-length-14 : tie.Need-same-length-14
 same-length-14 c = search needs
 
+same-length-15 : tie.Need-same-length-15
+same-length-15 c = search needs
+
+same-length-16 : tie.Need-same-length-16
+same-length-16 c = search needs
+
+same-length-17 : tie.Need-same-length-17
+same-length-17 c = search needs
+
+same-length-18 : tie.Need-same-length-18
+same-length-18 c = search needs
+
 returns-4 : tie.Need-returns-4
 returns-4 c =
-    let r = c .before .before .before .before .before .before .before .before .before .before .before .before .before .before .before .before .before .before .before .before .before .before .before .before in
+    let r = c .before .before .before .before .before .before .before .before .before .before .before .before .before .before .before .before .before .before .before .before .before .before .before .before .before .before .before .before .before .before in
     let s = entry r in
     let a = s .args in
-    let w = c .before .before .before .before .before .before .before .before .before .before .before .before .before .before .expand in (
+    let w = c .before .before .before .before .before .before .before .before .before .before .before .before .before .before .before .before .before .before .expand in (
       (λ t f h. (
         ahead-on t (f .valid) (a .nodes) (s .pre .1 .1 .1 .0 .few-nodes) (a .budget) (allStates t) (now (a .table)) (now (a .scan)) (a .run) h (node r)
             (picked (r .before .before .before .before .before) .0) (long s) (r .before .before .before .if2 .left) (words r) (keyed r)
@@ -191,7 +203,7 @@ next-round-spec =
     mul-key
     slice-read-key
     retire-requires
-    add-t47
+    add-t49
     expand-requires
     same-length-3
     same-length-4
@@ -199,11 +211,15 @@ next-round-spec =
     same-length-6
     same-length-7
     same-length-8
-    returns-3
     same-length-9
     same-length-10
+    returns-3
     same-length-11
     same-length-12
     same-length-13
     same-length-14
+    same-length-15
+    same-length-16
+    same-length-17
+    same-length-18
     returns-4)

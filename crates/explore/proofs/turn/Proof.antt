@@ -26,7 +26,7 @@ shared-slice-read-if1 c = search needs
 
 returns : tie.Need-returns
 returns c =
-    let s = c .before .before .before .before .before .before .before .before .before .before .before .before .before .before .before .before .before .before .before in
+    let s = c .before .before .before .before .before .before .before .before .before .before .before .before .before .before .before .before .before .before .before .before .before in
     let a = s .args in (
       moved-leaf (board s) (now (a .effects)) (now (a .goals)) (a .goal) (a .nodes) (a .spot) (a .paid) (now (a .old)) (a .key) (a .u) (a .a)
           (now (a .table)) (now (a .scan)) (a .run) (s .pre .1 .1 .1 .1 .few-nodes) (s .pre .1 .1 .1 .1 .count-few) (s .pre .1 .1 .0 .5) (s .pre .1 .1 .0 .4)
@@ -36,23 +36,23 @@ returns c =
 
 mul-cost : tie.Need-mul-cost
 mul-cost c =
-    let s = c .before .before .before .before .before .before .before .before .before .before .before .before .before .before .before .before .before .before .before in
+    let s = c .before .before .before .before .before .before .before .before .before .before .before .before .before .before .before .before .before .before .before .before .before in
     omega (arith, s .pre .0 .few-actions, s .pre .1 .1 .0 .5)
 
 shared-slice-read-cost : tie.Need-shared-slice-read-cost
 shared-slice-read-cost c =
-    let s = c .before .before .before .before .before .before .before .before .before .before .before .before .before .before .before .before .before .before .before .before in
+    let s = c .before .before .before .before .before .before .before .before .before .before .before .before .before .before .before .before .before .before .before .before .before .before in
     omega (arith, s .pre .0 .few-actions, s .pre .0 .costs-long, s .pre .1 .1 .0 .5)
 
 cast-cost : tie.Need-cast-cost
-cast-cost c = omega (arith, c .shared-slice-known15 .given (c .before .before .before .before .before .before .before .before .before .before .before .before .before .before .before .before .before .before .before .before .args .a))
+cast-cost c = omega (arith, c .shared-slice-known16 .given (c .before .before .before .before .before .before .before .before .before .before .before .before .before .before .before .before .before .before .before .before .before .before .args .a))
 
 add-price-requires : tie.Need-add-price-requires
 add-price-requires c κs = search needs
 
 returns-2 : tie.Need-returns-2
 returns-2 c =
-    let s = c .before .before .before .before .before .before .before .before .before .before .before .before .before .before .before .before .before .before .before .before .before .before .before in
+    let s = c .before .before .before .before .before .before .before .before .before .before .before .before .before .before .before .before .before .before .before .before .before .before .before .before .before in
     let a = s .args in (
       moved-above (board s) (now (a .effects)) (now (a .goals)) (a .goal) (a .nodes) (a .spot) (a .paid) (now (a .old)) (a .key) (a .u) (a .a)
           (now (a .table)) (now (a .scan)) (a .run) (s .pre .1 .1 .1 .1 .few-nodes) (s .pre .1 .1 .1 .1 .count-few) (s .pre .1 .1 .0 .5) (s .pre .1 .1 .0 .4)
@@ -62,13 +62,13 @@ returns-2 c =
 
 is-stuck-requires : tie.Need-is-stuck-requires
 is-stuck-requires c κs =
-    let s = c .before .before .before .before .before .before .before .before .before .before .before .before .before .before .before .before .before .before .before .before .before .before .before in
+    let s = c .before .before .before .before .before .before .before .before .before .before .before .before .before .before .before .before .before .before .before .before .before .before .before .before .before in
     let all = s .pre .0 .few-all in
     (s .pre .0, (s .pre .1 .0 .0 .long, s .pre .1 .0 .5 .long, s .pre .1 .1 .0 .5, omega (arith, s .pre .1 .1 .0 .2)))
 
 returns-3 : tie.Need-returns-3
 returns-3 c =
-    let s = c .before .before .before .before .before .before .before .before .before .before .before .before .before .before .before .before .before .before .before .before .before .before .before .before .before in
+    let s = c .before .before .before .before .before .before .before .before .before .before .before .before .before .before .before .before .before .before .before .before .before .before .before .before .before .before .before in
     let a = s .args in (
       moved-stuck (board s) (now (a .effects)) (now (a .goals)) (a .goal) (a .nodes) (a .spot) (a .paid) (now (a .old)) (a .key) (a .u) (a .a)
           (now (a .table)) (now (a .scan)) (a .run) (s .pre .1 .1 .1 .1 .few-nodes) (s .pre .1 .1 .1 .1 .count-few) (s .pre .1 .1 .0 .5) (s .pre .1 .1 .0 .4)
@@ -78,7 +78,7 @@ returns-3 c =
 
 pairs-of-requires : tie.Need-pairs-of-requires
 pairs-of-requires c κs =
-    let s = c .before .before .before .before .before .before .before .before .before .before .before .before .before .before .before .before .before .before .before .before .before .before .before .before .before in
+    let s = c .before .before .before .before .before .before .before .before .before .before .before .before .before .before .before .before .before .before .before .before .before .before .before .before .before .before .before in
     omega (arith, s .pre .0 .few-actions, s .pre .1 .1 .0 .0, s .pre .1 .1 .0 .5)
 
 after-requires : tie.Need-after-requires
@@ -89,7 +89,7 @@ add-price-requires-2 c κs = search needs
 
 begin-of-requires : tie.Need-begin-of-requires
 begin-of-requires c κs =
-    let s = c .before .before .before .before .before .before .before .before .before .before .before .before .before .before .before .before .before .before .before .before .before .before .before .before .before .before .before .before .before in
+    let s = c .before .before .before .before .before .before .before .before .before .before .before .before .before .before .before .before .before .before .before .before .before .before .before .before .before .before .before .before .before .before .before in
     let a = s .args in
     let all = s .pre .0 .few-all in (
       s .pre .0,
@@ -104,13 +104,13 @@ begin-of-requires c κs =
 
 shared-slice-read-offer : tie.Need-shared-slice-read-offer
 shared-slice-read-offer c =
-    let s = c .before .before .before .before .before .before .before .before .before .before .before .before .before .before .before .before .before .before .before .before .before .before .before .before .before .before .before .before .before .before .before .before .before in
+    let s = c .before .before .before .before .before .before .before .before .before .before .before .before .before .before .before .before .before .before .before .before .before .before .before .before .before .before .before .before .before .before .before .before .before .before .before in
     omega (arith, s .pre .0 .few-actions, s .pre .1 .0 .0 .long, s .pre .1 .1 .0 .5)
 
 offer-requires : tie.Need-offer-requires
 offer-requires c κs =
-    let n = c .before .before .before .before .before .before .before .begin-of in
-    let s = c .before .before .before .before .before .before .before .before .before .before .before .before .before .before .before .before .before .before .before .before .before .before .before .before .before .before .before .before .before .before .before .before .before .before .before .before .before in
+    let n = c .before .before .before .before .before .before .before .before .begin-of in
+    let s = c .before .before .before .before .before .before .before .before .before .before .before .before .before .before .before .before .before .before .before .before .before .before .before .before .before .before .before .before .before .before .before .before .before .before .before .before .before .before .before .before in
     let next = n .last .1 .1 .1 .1 .1 .1 .1 .1 .1 .1 .1 .1 .1 .1 .0 in
     let kept : length next ≡ length (now (s .args .next)) = n .kept .1 .1 .1 .1 .1 .1 .1 .1 .1 .1 .1 .1 .1 .1 .0 in
     let all = s .pre .0 .few-all in (
@@ -122,7 +122,7 @@ offer-requires c κs =
             cut {n = length next} (s .pre .0) (omega (arith, s .pre .1 .1 .0 .3)),
             cut {n = length (now (s .args .goals))} (s .pre .0) (omega (arith, s .pre .1 .1 .0 .1)),
           ),
-          ((n .ensures .2, omega (arith, s .pre .1 .1 .0 .2)), s .pre .1 .1 .1 .1),
+          ((n .ensures .2, omega (arith, s .pre .1 .1 .0 .2), s .pre .1 .1 .0 .6, s .pre .1 .1 .0 .7), s .pre .1 .1 .1 .1),
         ),
       ),
     )
@@ -139,22 +139,25 @@ same-length-3 c = search needs
 same-length-4 : tie.Need-same-length-4
 same-length-4 c = search needs
 
+same-length-5 : tie.Need-same-length-5
+same-length-5 c = c .before .before .before .before .before .before .before .before .before .before .offer .kept .1 .1 .1 .1 .1 .1 .1 .1 .1 .1 .1 .1 .1 .1 .1 .1 .1 .1 .1 .1 .1 .1 .1 .1 .1 .1 .1 .0
+
 returns-4 : tie.Need-returns-4
 returns-4 c =
-    let o = c .before .before .before .before .before .before .before .before .offer in
-    let n = c .before .before .before .before .before .before .before .before .before .before .before .before .before .before .before .before .begin-of in
-    let p = c .before .before .before .before .before .before .before .before .before .before .before .before .before .before .before .before .before .before .add-price2 in
-    let f = c .before .before .before .before .before .before .before .before .before .before .before .before .before .before .before .before .before .before .before .after in
-    let g = c .before .before .before .before .before .before .before .before .before .before .before .before .before .before .before .before .before .before .before .before .pairs-of in
-    let s = c .before .before .before .before .before .before .before .before .before .before .before .before .before .before .before .before .before .before .before .before .before .before .before .before .before .before .before .before .before .before .before .before .before .before .before .before .before .before .before .before .before .before .before .before .before .before in
+    let o = c .before .before .before .before .before .before .before .before .before .before .offer in
+    let n = c .before .before .before .before .before .before .before .before .before .before .before .before .before .before .before .before .before .before .before .begin-of in
+    let p = c .before .before .before .before .before .before .before .before .before .before .before .before .before .before .before .before .before .before .before .before .before .add-price2 in
+    let f = c .before .before .before .before .before .before .before .before .before .before .before .before .before .before .before .before .before .before .before .before .before .before .after in
+    let g = c .before .before .before .before .before .before .before .before .before .before .before .before .before .before .before .before .before .before .before .before .before .before .before .pairs-of in
+    let s = c .before .before .before .before .before .before .before .before .before .before .before .before .before .before .before .before .before .before .before .before .before .before .before .before .before .before .before .before .before .before .before .before .before .before .before .before .before .before .before .before .before .before .before .before .before .before .before .before .before .before .before in
     let a = s .args in
     let low : a .key ≡ keyBy (a .leaves) (now (a .bases)) (a .paid) (now (a .old))
-    → c .before .before .before .before .before .before .before .before .before .before .before .before .before .before .before .before .before .before .before .before .before .before .before .before .before .add-price .result ≡ keyBy (a .leaves) (now (a .bases)) (p .result) (now (a .old)) =
-    λ isKey. c .before .before .before .before .before .before .before .before .before .before .before .before .before .before .before .before .before .before .before .before .before .before .before .before .before .add-price .ensures
+    → c .before .before .before .before .before .before .before .before .before .before .before .before .before .before .before .before .before .before .before .before .before .before .before .before .before .before .before .before .add-price .result ≡ keyBy (a .leaves) (now (a .bases)) (p .result) (now (a .old)) =
+    λ isKey. c .before .before .before .before .before .before .before .before .before .before .before .before .before .before .before .before .before .before .before .before .before .before .before .before .before .before .before .before .add-price .ensures
     ∙ rw (isKey, p .ensures) (key-more (a .leaves) (now (a .bases)) (a .paid) (getD (now (a .costs)) (a .a) 0) (now (a .old))) in (
       moved-offered (board s) (now (a .effects)) (now (a .goals)) (a .goal) (a .nodes) (a .spot) (a .paid) (now (a .old)) (a .key) (a .u) (a .a)
           (now (a .table)) (now (a .scan)) (a .run) (s .pre .1 .1 .1 .1 .few-nodes) (s .pre .1 .1 .1 .1 .count-few) (s .pre .1 .1 .0 .5) (s .pre .1 .1 .0 .4)
-          (c .before .before .before .before .before .before .before .before .before .before .before .before .before .before .before .before .before .before .before .before .before .before .before .before .before .before .before .if1 .left) true (sym (s .pre .1 .0 .4)) refl
+          (c .before .before .before .before .before .before .before .before .before .before .before .before .before .before .before .before .before .before .before .before .before .before .before .before .before .before .before .before .before .before .if1 .left) true (sym (s .pre .1 .0 .4)) refl
           (g .result) (begunWords (getD (now (a .still)) (a .a) 0) (rowOn (board s)) (now (a .old)) (n .last .1 .1 .1 .1 .1 .1 .1 .1 .1 .1 .1 .1 .1 .1 .0)) (drop (rowOn (board s)) (now (a .next))) (f .result) (p .result)
           (g .ensures) (f .ensures) (n .ensures .0) (p .ensures) (n .result .key) (λ isKey. n .ensures .1 (p .result) (low isKey)) (o .last .1 .1 .1 .1 .1 .1 .1 .1 .1 .1 .1 .1 .1 .1 .1 .1 .1 .1 .1 .1 .1 .1 .1 .0) (o .last .1 .1 .1 .1 .1 .1 .1 .1 .1 .1 .1 .1 .1 .1 .1 .1 .1 .1 .1 .1 .1 .1 .1 .1 .0) (o .result) (o .ensures .0),
       o .ensures .1,
@@ -183,4 +186,5 @@ turn-spec =
     same-length-2
     same-length-3
     same-length-4
+    same-length-5
     returns-4)

@@ -1,11 +1,10 @@
 -- `nodes::dominator` meets its contract: the recent word is one more than the number of a node that dominates, or the walk tells. Assumes nothing.
 use mathlib.Core.Path.{_≡_}
-use Prim.Native.Nat.{ℕ, suc, _+_, _-_, _≤_, _<_}
+use Prim.Native.Nat.{ℕ, suc, _+_, _-_, _<_}
 use native.Mathlib.Omega.{arith}
-use lib.ListN.{getD, take, drop}
+use lib.ListN.{getD, take}
 use borrow.Author.Needs.{needs}
 use Rattle.search.specs.Node.{Node}
-use Rattle.rows.specs.Reach.{Reaches, reaches-part}
 use Rattle.rows.specs.Row.{nodeIn, nodeWith, Tested}
 use Rattle.rows.specs.Row.Laws.{row-in}
 use Rattle.rows.specs.Sign.Laws.{class-lt}
@@ -14,23 +13,12 @@ use Rattle.nodes.specs.Chain.Walk.{dominator-found}
 use Rattle.nodes.proofs.dominator.Statement.{statement}
 use Rattle.nodes.proofs.dominator.Tie as tie
 
--- the list that is lent
-listed : (s : tie.Start) → let a = s .args in
-    128 ≤ a .states → Reaches (a .states) (a .prices .now) (take (25888 + a .many - 25888) (drop 25888 (a .scan .now)))
-listed s l =
-    let a = s .args in
-    let e : 25888 + a .many - 25888 ≡ a .many = omega arith in
-    rw e (reaches-part (a .states) (a .prices .now) (a .scan .now) 25888 (a .many) (omega (arith, s .pre .1 .2, s .pre .0 .4 .long)) (s .pre .1 .3 l))
-
-add-end : tie.Need-add-end
-add-end c = search needs
-
 slot-of-requires : tie.Need-slot-of-requires
-slot-of-requires c κs = let s = c .before .before .before in omega (arith, s .pre .1 .0, class-lt (s .args .spot))
+slot-of-requires c κs = let s = c .before .before .before .before in omega (arith, s .pre .1 .0, class-lt (s .args .spot))
 
 -- the place is below 4,096
 small : (c : tie.After-slot-of) → c .slot-of .result < 4096
-small c = let a = c .before .before .before .before .args in rw (c .slot-of .ensures) (slot-lt (a .class) (a .sign))
+small c = let a = c .before .before .before .before .before .args in rw (c .slot-of .ensures) (slot-lt (a .class) (a .sign))
 
 add-recent : tie.Need-add-recent
 add-recent c = omega (arith, small c)
@@ -39,28 +27,19 @@ mul-recent : tie.Need-mul-recent
 mul-recent c = omega (arith, small c)
 
 shared-slice-read-recent : tie.Need-shared-slice-read-recent
-shared-slice-read-recent c = omega (arith, small (c .before), c .before .before .before .before .before .pre .0 .4 .long)
+shared-slice-read-recent c = omega (arith, small (c .before), c .before .before .before .before .before .before .pre .0 .4 .long)
 
 -- one more than the node that is tried
 abbrev recent : tie.Then2 → ℕ
-recent c = getD (c .before .before .before .before .before .before .before .args .scan .now) (21792 + c .before .before .before .slot-of .result) 0
+recent c = getD (c .before .before .before .before .before .before .before .before .args .scan .now) (21792 + c .before .before .before .slot-of .result) 0
 
 sub-test-at : tie.Need-sub-test-at
 sub-test-at c = search needs
 
-sub-test-at-2 : tie.Need-sub-test-at-2
-sub-test-at-2 c = search needs
-
-part-test-at-start : tie.Need-part-test-at-start
-part-test-at-start c = search needs
-
-part-test-at-end : tie.Need-part-test-at-end
-part-test-at-end c = search needs
-
 test-at-requires : tie.Need-test-at-requires
 test-at-requires c κs =
-    let t = c .before in
-    let s = t .before .before .before .before .before .before .before in
+    let t = c in
+    let s = t .before .before .before .before .before .before .before .before in
     let a = s .args in
     let inside : recent t - 1 < a .count = omega (arith, t .if2 .taken, t .before .if1 .taken) in (
       s .pre .0 .0,
@@ -69,7 +48,7 @@ test-at-requires c κs =
       omega arith,
       s .pre .0 .4 .packed (recent t - 1) inside,
       s .pre .1 .1,
-      listed s,
+      s .pre .1 .2,
     )
 
 -- the new node
@@ -77,31 +56,22 @@ abbrev fresh : tie.Start → Node
 fresh s = nodeWith (s .args .spot) (s .args .paid) (take (s .args .states) (s .args .prices .now)) 0 0
 
 -- what the test of it tells
-tested : (c : tie.After-test-at) → let t = c .before .before in let s = t .before .before .before .before .before .before .before in
+tested : (c : tie.After-test-at) → let t = c .before in let s = t .before .before .before .before .before .before .before .before in
     Tested (s .args .states) (nodeIn (s .args .states) (s .args .table .now) (recent t - 1)) (fresh s) (c .test-at .result)
 tested c = c .test-at .ensures
 
 returns : tie.Need-returns
 returns c =
-    let t = c .before .before .before in
-    let s = t .before .before .before .before .before .before .before in
+    let t = c .before .before in
+    let s = t .before .before .before .before .before .before .before .before in
     let a = s .args in
     let e : recent t ≡ suc (recent t - 1) = omega (arith, t .before .if1 .taken) in
     rw e
     (dominator-found (a .states) (a .table .now) (a .count) (fresh s) (recent t - 1) (omega (arith, t .if2 .taken, t .before .if1 .taken))
     (tested (c .before) .found (c .if3 .taken)))
 
-sub-walk : tie.Need-sub-walk
-sub-walk c = search needs
-
-part-walk-start : tie.Need-part-walk-start
-part-walk-start c = search needs
-
-part-walk-end : tie.Need-part-walk-end
-part-walk-end c = search needs
-
 walk-requires : tie.Need-walk-requires
-walk-requires c κs = let s = c .before .before .before .before .before .before .before in (s .pre .0, (s .pre .1 .0, s .pre .1 .1, listed s))
+walk-requires c κs = search needs
 
 returns-2 : tie.Need-returns-2
 returns-2 c = search needs
@@ -110,19 +80,12 @@ pub dominator-spec : {M : Type 1} → statement M
 dominator-spec =
     tie.close
     (tie.spec
-    add-end
     slot-of-requires
     add-recent
     mul-recent
     shared-slice-read-recent
     sub-test-at
-    sub-test-at-2
-    part-test-at-start
-    part-test-at-end
     test-at-requires
     returns
-    sub-walk
-    part-walk-start
-    part-walk-end
     walk-requires
     returns-2)

@@ -24,7 +24,7 @@ use Rattle.nodes.specs.Chain.Room.{free-full, groups-few}
 -- ---- chains
 
 -- no node
-pub chained-none : (S : ℕ) (T C : List ℕ) → length C ≡ 26912 → ((h : ℕ) → h < 1025 → headAt C h ≡ 0) → ((b : ℕ) → b < 272 → getD C (11280 + b) 0 ≡ mark)
+pub chained-none : (S : ℕ) (T C : List ℕ) → length C ≡ 25888 → ((h : ℕ) → h < 1025 → headAt C h ≡ 0) → ((b : ℕ) → b < 272 → getD C (11280 + b) 0 ≡ mark)
     → Chained S T C 0
 chained-none S T C l z m = record {
   long = l;
@@ -36,7 +36,7 @@ chained-none S T C l z m = record {
 }
 
 -- no node, after all block words are set to the mark
-pub chained-fresh : (S : ℕ) (T C : List ℕ) → length C ≡ 26912 → ((h : ℕ) → h < 1025 → headAt C h ≡ 0) → Chained S T (freshTo C 272) 0
+pub chained-fresh : (S : ℕ) (T C : List ℕ) → length C ≡ 25888 → ((h : ℕ) → h < 1025 → headAt C h ≡ 0) → Chained S T (freshTo C 272) 0
 chained-fresh S T C l z =
     chained-none S T (freshTo C 272) (fresh-length C 272 ∙ l) (λ h b. fresh-other C 272 (10240 + h) (omega arith) ∙ z h b)
     (λ b k. fresh-block C 272 b (omega arith) k)
@@ -140,7 +140,7 @@ module _ (C : List ℕ) (n key s : ℕ) where
   pub block-key : (u : ℕ) → u < 4096 → getD B u 0 ≡ getD (set C n key) u 0
   block-key u b = block-but u (λ e. omega arith) (λ e. omega arith) ∙ getD-set-other (set C n key) (4096 + n) u s 0 (λ e. omega arith)
 
-  module _ (long : length C ≡ 26912) (few : n < 4096) where
+  module _ (long : length C ≡ 25888) (few : n < 4096) where
     block-old : (i : ℕ) → 4096 ≤ i → (i ≡ 4096 + n → ⊥) → (i ≡ 11280 + n / 16 → ⊥) → (i ≡ 11536 + n / 16 / 16 → ⊥) → getD B i 0 ≡ getD C i 0
     block-old i b a d f =
         block-but i d f ∙ getD-set-other (set C n key) (4096 + n) i s 0 a ∙ getD-set-other C n i key 0 (λ e. omega arith)
@@ -227,7 +227,7 @@ pub record Ready (S : ℕ) (T C : List ℕ) (n h : ℕ) (D : List ℕ) (g : ℕ)
   pub others : (f : ℕ) → f < groupsIn D → (f ≡ g → ⊥) → 0 < fillAt D f
   pub grouped : Grouped S T D n
 
-module _ (S : ℕ) (T C : List ℕ) (n h : ℕ) (long : length C ≡ 26912) (few : groupsIn C < 2048) (small : h < 1024) (r : Grouped S T C n)
+module _ (S : ℕ) (T C : List ℕ) (n h : ℕ) (long : length C ≡ 25888) (few : groupsIn C < 2048) (small : h < 1024) (r : Grouped S T C n)
     (started : (f : ℕ) → f < groupsIn C → 0 < fillAt C f) where
   -- it is the last of the class
   ready-last : hasRoom C (headAt C h) ≡ true → Ready S T C n h C ((headAt C h - 1) % 2048)
@@ -316,7 +316,7 @@ module _ (S : ℕ) (T C : List ℕ) (n key : ℕ) (few : n < 4096) (own : Packed
   abbrev mid : List ℕ
   mid = blockedTo C n key sign
 
-  mid-long : length mid ≡ 26912
+  mid-long : length mid ≡ 25888
   mid-long = block-length C n key sign ∙ r .long
 
   mid-groups : groupsIn mid ≡ groupsIn C
@@ -338,7 +338,7 @@ module _ (S : ℕ) (T C : List ℕ) (n key : ℕ) (few : n < 4096) (own : Packed
   abbrev g : ℕ
   g = groupFor mid class
 
-  E-long : length E ≡ 26912
+  E-long : length E ≡ 25888
   E-long = got .kept ∙ mid-long
 
   E-few : groupsIn E ≤ 1793

@@ -5,11 +5,13 @@ use Prim.Native.Nat.{ℕ, _+_, _≤_}
 use native.Mathlib.Omega.{arith}
 use denote.Ref.{now}
 use lib.ListN.{length, take}
+use lib.Seq.{length-take-le}
 use Rattle.loops.specs.Count.{any}
 use Rattle.layer.specs.Board.{Board, rowOn}
 use Rattle.layer.specs.Lent.{boardOf}
 use Rattle.search.specs.Node.{dominates}
-use Rattle.rows.specs.Begun.{begunWords, read-begun, read-long}
+use Rattle.rows.specs.Begun.{begunWords, read-begun, read-long, read-reaches}
+use Rattle.rows.specs.Reach.{Reaches, reaches-front}
 use Rattle.rows.specs.Row.{nodeIn, nodeWith}
 use Rattle.rows.specs.Sign.{signOf}
 use Rattle.rows.specs.Sign.Laws.{class-lt}
@@ -41,7 +43,7 @@ shared-slice-read-states c = search needs
 
 returns : tie.Need-returns
 returns c =
-    let s = c .before .before .before .before .before .before .before .before .before .before .before .before .before .before .before .before .before in
+    let s = c .before .before .before .before .before .before .before .before .before .before .before .before .before .before .before .before .before .before .before in
     let a = s .args in (
       offered-above (board s) (now (a .goals)) (a .goal) (a .nodes) (now (a .table)) (now (a .scan)) (a .run)
           (a .spot) (a .paid) (begun s) (a .parent) (a .action) (s .pre .1 .1 .1 .1 .few-nodes) (s .pre .1 .1 .1 .1 .count-few)
@@ -52,12 +54,15 @@ returns c =
 class-of-requires : tie.Need-class-of-requires
 class-of-requires c κs = search needs
 
+list-begin-requires : tie.Need-list-begin-requires
+list-begin-requires c κs = let s = c .before .before .before .before .before .before .before .before .before .before .before .before .before .before .before .before .before .before .before .before .before .before in (s .pre .1 .1 .1 .0 .3, s .pre .1 .1 .1 .1 .few-states, s .pre .1 .1 .0 .0 .fits)
+
 read-from-requires : tie.Need-read-from-requires
 read-from-requires c κs = search needs
 
 -- where the function starts
 abbrev from-read : tie.After-read-from → tie.Start
-from-read c = c .before .before .before .before .before .before .before .before .before .before .before .before .before .before .before .before .before .before .before .before .before .before
+from-read c = c .before .before .before .before .before .before .before .before .before .before .before .before .before .before .before .before .before .before .before .before .before .before .before .before .before .before .before .before .before
 
 -- what is read are the begin's prices
 read-is : (c : tie.After-read-from) → let s = from-read c in take (rowOn (board s)) (now (c .read-from .result)) ≡ take (rowOn (board s)) (begun s)
@@ -66,9 +71,42 @@ read-is c =
     let a = s .args in
     ap (take (rowOn (board s))) (c .read-from .ensures) ∙ read-begun (a .still) (rowOn (board s)) (now (a .old)) (now (a .begin)) (s .pre .1 .1 .1 .0 .1)
 
+-- the list that was made, in the room for it
+abbrev made : tie.After-list-begin → List ℕ
+made b = b .list-begin .last .1 .1 .0
+
+made-in : (c : tie.After-read-from) → c .before .before .before .before .before .before .list-begin .result ≤ length (made (c .before .before .before .before .before .before))
+made-in c =
+    let b = c .before .before .before .before .before .before in
+    let kept : length (made b) ≡ length (now (from-read c .args .room)) = b .list-begin .kept .1 .1 .0 in
+    omega (arith, b .list-begin .ensures .0, from-read c .pre .1 .1 .1 .0 .3)
+
+slice-reshare-prefix-list-of : tie.Need-slice-reshare-prefix-list-of
+slice-reshare-prefix-list-of c = made-in c
+
+slice-aggregate-list-of : tie.Need-slice-aggregate-list-of
+slice-aggregate-list-of c = let b = c .before .before .before .before .before .before .before in sym (length-take-le (b .list-begin .result) (made b) (made-in (c .before)))
+
+list-of-requires : tie.Need-list-of-requires
+list-of-requires c κs = search needs
+
+-- the list that is read has the states that the begin reaches
+reached : (c : tie.After-list-of) → let s = from-read (c .before .before) in
+    128 ≤ rowOn (board s) → Reaches (rowOn (board s)) (now (c .before .before .read-from .result)) (now (c .list-of .result))
+reached c l =
+    let r = c .before .before in
+    let b = c .before .before .before .before .before .before .before .before in
+    let s = from-read r in
+    let a = s .args in
+    let all =
+    read-reaches (a .still) (rowOn (board s)) (now (a .old)) (now (a .begin)) (now (a .list)) (take (b .list-begin .result) (made b)) (s .pre .1 .1 .1 .0 .2)
+    (λ e m. reaches-front (rowOn (board s)) (now (a .begin)) (made b) (b .list-begin .result) (made-in r) (b .list-begin .ensures .1 e m)) l in
+    rw (sym (c .list-of .ensures)) at (rw (sym (r .read-from .ensures)) at all)
+
 is-dominated-requires : tie.Need-is-dominated-requires
 is-dominated-requires c κs =
-    let s = from-read c in
+    let r = c .before .before in
+    let s = from-read r in
     let a = s .args in
     let room = s .pre .1 .1 .1 .1 in
     let some : a .run .count ≤ a .nodes + 1 = omega (arith, room .count-few) in (
@@ -76,16 +114,16 @@ is-dominated-requires c κs =
         room .few-states,
         omega (arith, room .few-nodes, room .count-few),
         rows-fit room (a .run .count) some,
-        rw (c .read-from .ensures) (read-long (a .still) (rowOn (board s)) (now (a .old)) (now (a .begin)) (s .pre .1 .1 .1 .0 .1) (s .pre .1 .1 .0 .0 .fits)),
+        rw (r .read-from .ensures) (read-long (a .still) (rowOn (board s)) (now (a .old)) (now (a .begin)) (s .pre .1 .1 .1 .0 .1) (s .pre .1 .1 .0 .0 .fits)),
         room .chained,
       ),
-      (c .before .before .before .before .class-of .ensures, s .pre .1 .1 .1 .0 .0 ∙ ap signOf (sym (read-is c))),
+      (c .before .before .before .before .before .before .before .before .before .before .before .class-of .ensures, s .pre .1 .1 .1 .0 .0 ∙ ap signOf (sym (read-is r)), reached c),
     )
 
 -- whether a node kept dominates the begin
-found-is : (d : tie.After-is-dominated) → let s = from-read (d .before) in let a = s .args in
+found-is : (d : tie.After-is-dominated) → let s = from-read (d .before .before .before) in let a = s .args in
     d .is-dominated .result ≡ any (a .run .count) (λ u. dominates (nodeIn (rowOn (board s)) (now (a .table)) u) (nodeWith (a .spot) (a .paid) (take (rowOn (board s)) (begun s)) 0 0))
-found-is d = rw (read-is (d .before)) at (d .is-dominated .ensures .0)
+found-is d = rw (read-is (d .before .before .before)) at (d .is-dominated .ensures .0)
 
 same-length : tie.Need-same-length
 same-length c = search needs
@@ -96,19 +134,19 @@ same-length-2 c = search needs
 same-length-3 : tie.Need-same-length-3
 same-length-3 c = search needs
 
+same-length-4 : tie.Need-same-length-4
+same-length-4 c = search needs
+
 returns-2 : tie.Need-returns-2
 returns-2 c =
     let d = c .before .before .before in
-    let s = from-read (d .before) in
+    let s = from-read (d .before .before .before) in
     let a = s .args in (
       offered-dominated (board s) (now (a .goals)) (a .goal) (a .nodes) (now (a .table)) (now (a .scan)) (a .run)
           (a .spot) (a .paid) (begun s) (a .parent) (a .action) (s .pre .1 .1 .1 .1 .few-nodes) (s .pre .1 .1 .1 .1 .count-few)
-          (a .key) (c .before .before .before .before .before .before .before .before .before .if1 .left) (d .is-dominated .result) (found-is d) (words d) (d .is-dominated .ensures .1) (c .if2 .taken),
+          (a .key) (c .before .before .before .before .before .before .before .before .before .before .before .before .before .before .before .before .if1 .left) (d .is-dominated .result) (found-is d) (words d) (d .is-dominated .ensures .1) (c .if2 .taken),
       s .pre .1 .0 .2,
     )
-
-same-length-4 : tie.Need-same-length-4
-same-length-4 c = search needs
 
 same-length-5 : tie.Need-same-length-5
 same-length-5 c = search needs
@@ -116,36 +154,42 @@ same-length-5 c = search needs
 same-length-6 : tie.Need-same-length-6
 same-length-6 c = search needs
 
+same-length-7 : tie.Need-same-length-7
+same-length-7 c = search needs
+
+same-length-8 : tie.Need-same-length-8
+same-length-8 c = search needs
+
 returns-3 : tie.Need-returns-3
 returns-3 c =
     let d = c .before .before .before .before in
-    let s = from-read (d .before) in
+    let s = from-read (d .before .before .before) in
     let a = s .args in (
       offered-full (board s) (now (a .goals)) (a .goal) (a .nodes) (now (a .table)) (now (a .scan)) (a .run)
           (a .spot) (a .paid) (begun s) (a .parent) (a .action) (s .pre .1 .1 .1 .1 .few-nodes) (s .pre .1 .1 .1 .1 .count-few)
-          (a .key) (c .before .before .before .before .before .before .before .before .before .before .if1 .left) (d .is-dominated .result) (found-is d) (words d) (d .is-dominated .ensures .1) (c .before .if2 .left) (c .if3 .taken),
+          (a .key) (c .before .before .before .before .before .before .before .before .before .before .before .before .before .before .before .before .before .if1 .left) (d .is-dominated .result) (found-is d) (words d) (d .is-dominated .ensures .1) (c .before .if2 .left) (c .if3 .taken),
       s .pre .1 .0 .2,
     )
 
 fill-begin-requires : tie.Need-fill-begin-requires
-fill-begin-requires c κs = let s = from-read (c .before .before .before .before .before .before) in (s .pre .1 .1 .1 .0 .1, s .pre .1 .1 .0 .0 .fits)
+fill-begin-requires c κs = let s = from-read (c .before .before .before .before .before .before .before .before) in (s .pre .1 .1 .1 .0 .1, s .pre .1 .1 .0 .0 .fits)
 
 -- there are as many prices behind it
-filled : (c : tie.After-fill-begin) → length (c .fill-begin .last .1 .0) ≡ length (now (from-read (c .before .before .before .before .before .before .before) .args .begin))
+filled : (c : tie.After-fill-begin) → length (c .fill-begin .last .1 .0) ≡ length (now (from-read (c .before .before .before .before .before .before .before .before .before) .args .begin))
 filled c = c .fill-begin .kept .1 .0
 
 settle-begin-requires : tie.Need-settle-begin-requires
 settle-begin-requires c κs =
     let f = c .before .before .before .before in
-    let s = from-read (f .before .before .before .before .before .before .before) in
-    (s .pre .0, (s .pre .1 .0 .0, s .pre .1 .0 .1, s .pre .1 .0 .2, omega (arith, class-lt (s .args .spot), c .before .before .before .before .before .before .before .before .before .before .before .before .before .before .before .class-of .ensures), omega (arith, filled f, s .pre .1 .1 .0 .0 .fits)))
+    let s = from-read (f .before .before .before .before .before .before .before .before .before) in
+    (s .pre .0, (s .pre .1 .0 .0, s .pre .1 .0 .1, s .pre .1 .0 .2, omega (arith, class-lt (s .args .spot), c .before .before .before .before .before .before .before .before .before .before .before .before .before .before .before .before .before .before .before .before .before .before .class-of .ensures), omega (arith, filled f, s .pre .1 .1 .0 .0 .fits)))
 
 keep-requires : tie.Need-keep-requires
 keep-requires c κs =
     let n = c .before .before .before .before .before .before .before .settle-begin in
     let f = c .before .before .before .before .before .before .before .before .before .before .before .before in
     let d = c .before .before .before .before .before .before .before .before .before .before .before .before .before .before .before .before .before .before in
-    let s = from-read (d .before) in
+    let s = from-read (d .before .before .before) in
     let room = s .pre .1 .1 .1 .1 in
     let left = c .before .before .before .before .before .before .before .before .before .before .before .before .before .before .if3 .left in
     let new = n .last .1 .1 .1 .1 .1 .1 .1 .1 .1 .1 .1 .1 .1 .0 in
@@ -157,26 +201,29 @@ keep-requires c κs =
         (room .few-states, omega (arith, room .few-nodes), rows-fit room (s .args .run .count + 1) (omega arith), long ∙ room .scan-long),
         (
           λ e. s .pre .1 .1 .1 .0 .0 ∙ ap (λ (xs : List ℕ). signOf (take (rowOn (board s)) xs)) (sym (n .ensures .2 e ∙ f .fill-begin .ensures)),
-          c .before .before .before .before .before .before .before .before .before .before .before .before .before .before .before .before .before .before .before .before .before .before .before .class-of .ensures,
+          c .before .before .before .before .before .before .before .before .before .before .before .before .before .before .before .before .before .before .before .before .before .before .before .before .before .before .before .before .before .before .class-of .ensures,
         ),
       ),
     )
 
-same-length-7 : tie.Need-same-length-7
-same-length-7 c = search needs
-
-same-length-8 : tie.Need-same-length-8
-same-length-8 c = search needs
-
 same-length-9 : tie.Need-same-length-9
-same-length-9 c =
+same-length-9 c = search needs
+
+same-length-10 : tie.Need-same-length-10
+same-length-10 c = search needs
+
+same-length-11 : tie.Need-same-length-11
+same-length-11 c =
     let d = c .before .before .before .before .before .before .before .before .before .before .before .before .before .before .before .before .before .before .before .before .before .before .before in
     let w = c .before .before .before .before .keep in
     let kept : length (w .last .1 .1 .1 .1 .1 .1 .1 .1 .1 .1 .1 .1 .1 .1 .1 .0) ≡ length (words d) = w .kept .1 .1 .1 .1 .1 .1 .1 .1 .1 .1 .1 .1 .1 .1 .1 .0 in
     kept ∙ d .is-dominated .kept .1 .1 .1 .0
 
-same-length-10 : tie.Need-same-length-10
-same-length-10 c = search needs
+same-length-12 : tie.Need-same-length-12
+same-length-12 c = search needs
+
+same-length-13 : tie.Need-same-length-13
+same-length-13 c = c .before .before .before .before .before .before .before .before .before .before .before .before .before .before .before .before .before .before .before .before .before .before .before .before .before .before .before .before .before .before .before .before .list-begin .kept .1 .1 .0
 
 returns-4 : tie.Need-returns-4
 returns-4 c =
@@ -184,11 +231,11 @@ returns-4 c =
     let n = c .before .before .before .before .before .before .before .before .before .before .before .before .settle-begin in
     let f = c .before .before .before .before .before .before .before .before .before .before .before .before .before .before .before .before .before .fill-begin in
     let d = c .before .before .before .before .before .before .before .before .before .before .before .before .before .before .before .before .before .before .before .before .before .before .before in
-    let s = from-read (d .before) in
+    let s = from-read (d .before .before .before) in
     let a = s .args in (
       offered-kept (board s) (now (a .goals)) (a .goal) (a .nodes) (now (a .table)) (now (a .scan)) (a .run)
           (a .spot) (a .paid) (begun s) (a .parent) (a .action) (s .pre .1 .1 .1 .1 .few-nodes) (s .pre .1 .1 .1 .1 .count-few)
-          (a .key) (c .before .before .before .before .before .before .before .before .before .before .before .before .before .before .before .before .before .before .before .before .before .before .before .before .before .before .before .before .before .if1 .left) (d .is-dominated .result) (found-is d) (words d) (d .is-dominated .ensures .1) (c .before .before .before .before .before .before .before .before .before .before .before .before .before .before .before .before .before .before .before .before .if2 .left) (c .before .before .before .before .before .before .before .before .before .before .before .before .before .before .before .before .before .before .before .if3 .left)
+          (a .key) (c .before .before .before .before .before .before .before .before .before .before .before .before .before .before .before .before .before .before .before .before .before .before .before .before .before .before .before .before .before .before .before .before .before .before .before .before .if1 .left) (d .is-dominated .result) (found-is d) (words d) (d .is-dominated .ensures .1) (c .before .before .before .before .before .before .before .before .before .before .before .before .before .before .before .before .before .before .before .before .if2 .left) (c .before .before .before .before .before .before .before .before .before .before .before .before .before .before .before .before .before .before .before .if3 .left)
           (s .pre .1 .1 .1 .1 .scan-long) (n .last .1 .1 .1 .1 .1 .1 .1 .1 .1 .1 .1 .1 .1 .0) (rw (f .ensures) at (n .ensures .0)) (w .last .1 .1 .1 .1 .1 .1 .1 .1 .1 .1 .1 .1 .1 .1 .0) (w .last .1 .1 .1 .1 .1 .1 .1 .1 .1 .1 .1 .1 .1 .1 .1 .0) (w .result) (w .ensures),
       n .ensures .1,
     )
@@ -201,21 +248,28 @@ offer-spec =
     shared-slice-read-states
     returns
     class-of-requires
+    list-begin-requires
     read-from-requires
+    slice-reshare-prefix-list-of
+    slice-aggregate-list-of
+    list-of-requires
     is-dominated-requires
     same-length
     same-length-2
     same-length-3
-    returns-2
     same-length-4
+    returns-2
     same-length-5
     same-length-6
+    same-length-7
+    same-length-8
     returns-3
     fill-begin-requires
     settle-begin-requires
     keep-requires
-    same-length-7
-    same-length-8
     same-length-9
     same-length-10
+    same-length-11
+    same-length-12
+    same-length-13
     returns-4)

@@ -1,9 +1,8 @@
--- `nodes::list_four` meets its contract: where the bits that four prices share are those of the mark, none of the four is reached. Assumes nothing.
+-- `dominance::list_four` meets its contract: where the bits that four prices share are those of the mark, none of the four is reached. Assumes nothing.
 use borrow.Author.Needs.{needs}
 use Rattle.rows.specs.Reach.{reaches-four}
-use Rattle.nodes.specs.Chain.Laws.{recalled-none}
-use Rattle.nodes.proofs.list_four.Statement.{statement}
-use Rattle.nodes.proofs.list_four.Tie as tie
+use Rattle.dominance.proofs.list_four.Statement.{statement}
+use Rattle.dominance.proofs.list_four.Tie as tie
 
 mul-low : tie.Need-mul-low
 mul-low c = search needs
@@ -42,7 +41,7 @@ returns : tie.Need-returns
 returns c =
     let s = c .before .before .before .before .before .before .before in
     let a = s .args in
-    (recalled-none (a .scan .now), reaches-four (a .prices .now) (a .scan .now) 25888 (a .from) (a .many) (s .pre .3) (c .if1 .taken))
+    reaches-four (a .prices .now) (a .list .now) (a .from) (a .many) (s .pre .3) (c .if1 .taken)
 
 add-list-from : tie.Need-add-list-from
 add-list-from c = search needs
