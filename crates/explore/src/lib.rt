@@ -412,8 +412,8 @@ fn expand(
     let end = at + wide;
     let spot = read_spot(&table[at..end]);
     let paid = table[at + 32];
+    let sign = table[at + 39];
     copy_words(&table[at + 40..end], old, states);
-    let sign = scan[4096 + u];
     let many = list_turns(
         leaves,
         actions,
@@ -484,8 +484,8 @@ fn start(
 ) -> Run
     requires { ⌜ Valid task ⌝ }
     requires { ⌜ Tabled task (now bases) (now moves) (now costs) (now kinds) (now starts) × Goals task (now goals) ⌝ }
-    requires { ⌜ (40 + allStates task ≤ length (now table)) × (length (now scan) ≡ 25888)
-        × ((h : ℕ) → h < 1025 → getD (now scan) (10240 + h) 0 ≡ 0) ⌝ }
+    requires { ⌜ (40 + allStates task ≤ length (now table)) × (length (now scan) ≡ 21792)
+        × ((h : ℕ) → h < 1025 → getD (now scan) (6144 + h) 0 ≡ 0) ⌝ }
     ensures { λ r. ⌜ (searchOf (allStates task) (now (table .exit)) (now (scan .exit)) r ≡ start task)
         × Cached task (allStates task) (now (table .exit)) (now (scan .exit)) r
         × Chained (allStates task) (now (table .exit)) (now (scan .exit)) (r .count) ⌝ }
@@ -674,8 +674,8 @@ pub fn explore(
     requires { ⌜ Tabled task (now bases) (now moves) (now costs) (now kinds) (now starts) × Goals task (now goals) ⌝ }
     requires { ⌜ Edges (boardOf (task .leaves) (task .actions) (now bases) (now moves) (now costs) (now kinds) (task .factors) (task .conditions))
         (now edges) (now ends) ⌝ }
-    requires { ⌜ (1 ≤ nodes) × (nodes ≤ 4096) × ((nodes + 1) * (40 + allStates task) ≤ length (now table)) × (length (now scan) ≡ 25888)
-        × ((h : ℕ) → h < 1025 → getD (now scan) (10240 + h) 0 ≡ 0) ⌝ }
+    requires { ⌜ (1 ≤ nodes) × (nodes ≤ 4096) × ((nodes + 1) * (40 + allStates task) ≤ length (now table)) × (length (now scan) ≡ 21792)
+        × ((h : ℕ) → h < 1025 → getD (now scan) (6144 + h) 0 ≡ 0) ⌝ }
     ensures { λ r. ⌜ (stoppedOf (allStates task) (now (table .exit)) (now (scan .exit)) r ≡ explored task nodes budget)
         × Cached task (allStates task) (now (table .exit)) (now (scan .exit)) (r .run) ⌝ }
 {

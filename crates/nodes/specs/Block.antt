@@ -1,5 +1,5 @@
--- The blocks of the scan words, in two levels. A block word for each 16 nodes, 256 words at 11280 + b: the least open key of the nodes 16 b to
--- 16 b + 15, the mark if there is none below it. An upper word for each 16 blocks, 16 words at 11536 + g: the least of the block words 16 g to
+-- The blocks of the scan words, in two levels. A block word for each 16 nodes, 256 words at 7184 + b: the least open key of the nodes 16 b to
+-- 16 b + 15, the mark if there is none below it. An upper word for each 16 blocks, 16 words at 7440 + g: the least of the block words 16 g to
 -- 16 g + 15.
 pub mod Laws
 use mathlib.Core.Path.{_≡_}
@@ -53,11 +53,11 @@ pub record Under (K W : List ℕ) (m n : ℕ) : Type 0 where
 
 -- the block words, and what stands behind them
 abbrev pub blockWords : List ℕ → List ℕ
-blockWords C = drop 11280 C
+blockWords C = drop 7184 C
 
 -- the upper words, and what stands behind them
 abbrev pub upperWords : List ℕ → List ℕ
-upperWords C = drop 11536 C
+upperWords C = drop 7440 C
 
 -- the block words are those of the open keys of the first n nodes, the upper words those of the block words
 pub record Blocked (C : List ℕ) (n : ℕ) : Type 0 where
@@ -69,7 +69,7 @@ pub record Blocked (C : List ℕ) (n : ℕ) : Type 0 where
 -- the scan words after the first b block words are set to the mark; the upper words are the last 16 of 272
 unfoldable pub freshTo : List ℕ → ℕ → List ℕ
 freshTo C zero = C
-freshTo C (suc b) = set (freshTo C b) (11280 + b) mark
+freshTo C (suc b) = set (freshTo C b) (7184 + b) mark
 
 -- the word at i is no higher than the key
 unfoldable pub loweredTo : List ℕ → ℕ → ℕ → List ℕ
@@ -82,4 +82,4 @@ raisedTo C from at n b = set C (at + b) (leastOfBlock (drop from C) n b)
 -- the scan words after node u of n nodes is retired: its open key is the mark, its block's word the least open key that is left, and the upper word
 -- the least block word
 unfoldable pub retiredTo : List ℕ → ℕ → ℕ → List ℕ
-retiredTo C u n = raisedTo (raisedTo (set C u mark) 0 11280 n (u / 16)) 11280 11536 256 (u / 16 / 16)
+retiredTo C u n = raisedTo (raisedTo (set C u mark) 0 7184 n (u / 16)) 7184 7440 256 (u / 16 / 16)

@@ -1,6 +1,6 @@
--- The scan words: 25,888 words. Open keys stand at u, signatures at 4096 + u, the words of groups at 8192 + g, heads at 10240 + h, the number of groups
--- at 11264, block words at 11280 + b, upper words at 11536 + b, the signatures of entries at 11552 + 4 * g + k, the nodes of entries, four in a word, at
--- 19744 + g, recent words at 21792 + k. The words 11265 to 11279 are not used.
+-- The scan words: 21,792 words. Open keys stand at u, the words of groups at 4096 + g, heads at 6144 + h, the number of groups
+-- at 7168, block words at 7184 + b, upper words at 7440 + b, the signatures of entries at 7456 + 4 * g + k, the nodes of entries, four in a word, at
+-- 15648 + g, recent words at 17696 + k. The words 7169 to 7183 are not used.
 -- Nodes are chained by the class of their centre state, in groups: a group has up to four entries, each a node with its signature, so that a walk sees
 -- four signatures side by side. A link or a head is one more than a group's number, 0 for none: the link of a group is the last group before it of the
 -- same class, the head of a class is the last group of that class, to which the next node of the class goes while it has room.
@@ -25,21 +25,17 @@ use Rattle.rows.specs.Row.{rowIn, nodeIn, Packed}
 use Rattle.rows.specs.Sign.{classOf, signOf}
 use Rattle.nodes.specs.Block.{loweredTo, Blocked}
 
--- the signature of node u
-abbrev pub signAt : List ℕ → ℕ → ℕ
-signAt C u = getD C (4096 + u) 0
-
 -- the head of class h, of which there are 1,024
 abbrev pub headAt : List ℕ → ℕ → ℕ
-headAt C h = getD C (10240 + h) 0
+headAt C h = getD C (6144 + h) 0
 
 -- how many groups there are
 abbrev pub groupsIn : List ℕ → ℕ
-groupsIn C = getD C 11264 0
+groupsIn C = getD C 7168 0
 
 -- the word of group g, its link, its class and the number of its entries
 abbrev pub wordAt : List ℕ → ℕ → ℕ
-wordAt C g = getD C (8192 + g) 0
+wordAt C g = getD C (4096 + g) 0
 
 abbrev pub linkAt : List ℕ → ℕ → ℕ
 linkAt C g = wordAt C g % 65536
@@ -56,10 +52,10 @@ entryOf w k = w / 2 ^ (16 * k) % 65536
 
 -- the signature and the node of entry k of group g
 abbrev pub shownAt : List ℕ → ℕ → ℕ → ℕ
-shownAt C g k = getD C (11552 + 4 * g + k) 0
+shownAt C g k = getD C (7456 + 4 * g + k) 0
 
 abbrev pub nodesAt : List ℕ → ℕ → ℕ
-nodesAt C g = getD C (19744 + g) 0
+nodesAt C g = getD C (15648 + g) 0
 
 abbrev pub entryAt : List ℕ → ℕ → ℕ → ℕ
 entryAt C g k = entryOf (nodesAt C g) k
@@ -90,7 +86,7 @@ groupFor C h = cond (hasRoom C (headAt C h)) ((headAt C h - 1) % 2048) (groupsIn
 
 -- group g is the new last one of class h, without entries
 unfoldable pub withGroup : List ℕ → ℕ → ℕ → List ℕ
-withGroup C h g = set (set (set C (8192 + g) (h * 8 * 65536 + headAt C h % 65536)) (10240 + h) (g + 1)) 11264 (g + 1)
+withGroup C h g = set (set (set C (4096 + g) (h * 8 * 65536 + headAt C h % 65536)) (6144 + h) (g + 1)) 7168 (g + 1)
 
 -- that group is there
 unfoldable pub openedTo : List ℕ → ℕ → List ℕ
@@ -103,15 +99,15 @@ withEntry w k n = w % 2 ^ (16 * k) + n * 2 ^ (16 * k)
 -- node n, of signature s, is the next entry of group g
 unfoldable pub joinedTo : List ℕ → ℕ → ℕ → ℕ → List ℕ
 joinedTo C g n s =
-    set (set (set C (11552 + 4 * g + wordAt C g / 65536 % 4) s) (19744 + g) (withEntry (nodesAt C g) (wordAt C g / 65536 % 4) n)) (8192 + g) (wordAt C g % 4294967296 + 65536)
+    set (set (set C (7456 + 4 * g + wordAt C g / 65536 % 4) s) (15648 + g) (withEntry (nodesAt C g) (wordAt C g / 65536 % 4) n)) (4096 + g) (wordAt C g % 4294967296 + 65536)
 
--- its key and its signature are stored, and its block's word is no higher than its key, nor is the upper word
-unfoldable pub blockedTo : List ℕ → ℕ → ℕ → ℕ → List ℕ
-blockedTo C n key s = loweredTo (loweredTo (set (set C n key) (4096 + n) s) (11280 + n / 16) key) (11536 + n / 16 / 16) key
+-- its key is stored, and its block's word is no higher than its key, nor is the upper word
+unfoldable pub blockedTo : List ℕ → ℕ → ℕ → List ℕ
+blockedTo C n key = loweredTo (loweredTo (set C n key) (7184 + n / 16) key) (7440 + n / 16 / 16) key
 
 -- the scan words after node n, of class h, is linked
 unfoldable pub linkedTo : List ℕ → ℕ → ℕ → ℕ → ℕ → List ℕ
-linkedTo C n key s h = joinedTo (openedTo (blockedTo C n key s) h) (groupFor (blockedTo C n key s) h) n s
+linkedTo C n key s h = joinedTo (openedTo (blockedTo C n key) h) (groupFor (blockedTo C n key) h) n s
 
 -- ---- signatures
 
@@ -153,11 +149,11 @@ pub record Grouped (S : ℕ) (T C : List ℕ) (n : ℕ) : Type 0 where
   pub placed : (w : ℕ) → w < n → Placed C w
   pub counted : 4 * groupsIn C ≡ n + sum 1024 (λ h. roomAt C h)
 
--- the first n nodes of table T have their signatures in C and are chained, no group is without entries, the block words are those of the nodes' open keys,
--- and their rows have their packs
+-- the first n nodes of table T are chained, no group is without entries, the block words are those of the nodes' open keys, and their rows have their
+-- packs and their signatures
 pub record Chained (S : ℕ) (T C : List ℕ) (n : ℕ) : Type 0 where
-  pub long : length C ≡ 25888
-  pub signs : (u : ℕ) → u < n → signAt C u ≡ signOf (nodeIn S T u .prices)
+  pub long : length C ≡ 21792
+  pub signs : (u : ℕ) → u < n → getD (rowIn S T u) 39 0 ≡ signOf (nodeIn S T u .prices)
   pub grouped : Grouped S T C n
   pub started : (g : ℕ) → g < groupsIn C → 0 < fillAt C g
   pub blocks : Blocked C n
@@ -166,7 +162,7 @@ pub record Chained (S : ℕ) (T C : List ℕ) (n : ℕ) : Type 0 where
 -- the scan words D are those of C but for recent words
 pub record Recalled (C D : List ℕ) : Type 0 where
   pub long : length D ≡ length C
-  pub same : (i : ℕ) → i < 21792 → getD D i 0 ≡ getD C i 0
+  pub same : (i : ℕ) → i < 17696 → getD D i 0 ≡ getD C i 0
 
 -- ---- the node that dominates
 

@@ -29,36 +29,36 @@ fn lower(scan: &mut [u64], at: usize, key: u64)
 
 // Whether the group that a head stands for has room for one entry more.
 fn has_room(scan: &[u64], head: u64) -> bool
-    requires { ⌜ length (now scan) ≡ 25888 ⌝ }
+    requires { ⌜ length (now scan) ≡ 21792 ⌝ }
     ensures { λ r. ⌜ r ≡ hasRoom (now (scan .entry)) head ⌝ }
 {
     if head == 0 {
         return false;
     }
-    scan[8192 + ((head - 1) % 2048) as usize] / 65536 % 8 < 4
+    scan[4096 + ((head - 1) % 2048) as usize] / 65536 % 8 < 4
 }
 
 // A group without entries becomes the last of its class.
 fn add_group(scan: &mut [u64], class: usize, group: usize)
-    requires { ⌜ (length (now scan) ≡ 25888) × (class < 1024) × (group < 2048) ⌝ }
+    requires { ⌜ (length (now scan) ≡ 21792) × (class < 1024) × (group < 2048) ⌝ }
     ensures { λ _. ⌜ now (scan .exit) ≡ withGroup (now (scan .entry)) class group ⌝ }
 {
-    let head = scan[10240 + class] % 65536;
-    scan[8192 + group] = (class * 8) as u64 * 65536 + head;
-    scan[10240 + class] = (group + 1) as u64;
-    scan[11264] = (group + 1) as u64;
+    let head = scan[6144 + class] % 65536;
+    scan[4096 + group] = (class * 8) as u64 * 65536 + head;
+    scan[6144 + class] = (group + 1) as u64;
+    scan[7168] = (group + 1) as u64;
 }
 
 // The group that the next node of a class goes to: the last of the class where that has room, else a new one.
 fn group_for(scan: &mut [u64], class: usize) -> usize
-    requires { ⌜ (length (now scan) ≡ 25888) × (class < 1024) ⌝ }
+    requires { ⌜ (length (now scan) ≡ 21792) × (class < 1024) ⌝ }
     ensures { λ r. ⌜ (r ≡ groupFor (now (scan .entry)) class) × (now (scan .exit) ≡ openedTo (now (scan .entry)) class) ⌝ }
 {
-    let head = scan[10240 + class];
+    let head = scan[6144 + class];
     if has_room(scan, head) {
         return ((head - 1) % 2048) as usize;
     }
-    let group = (scan[11264] % 2048) as usize;
+    let group = (scan[7168] % 2048) as usize;
     add_group(scan, class, group);
     group
 }
@@ -82,27 +82,26 @@ fn with_entry(nodes: u64, k: usize, node: usize) -> u64
 
 // A node with its signature as the next entry of a group.
 fn join(scan: &mut [u64], group: usize, node: usize, sign: u64)
-    requires { ⌜ (length (now scan) ≡ 25888) × (group < 2048) × (node < 4096) ⌝ }
+    requires { ⌜ (length (now scan) ≡ 21792) × (group < 2048) × (node < 4096) ⌝ }
     ensures { λ _. ⌜ now (scan .exit) ≡ joinedTo (now (scan .entry)) group node sign ⌝ }
 {
-    let word = scan[8192 + group];
+    let word = scan[4096 + group];
     let k = (word / 65536 % 4) as usize;
-    let nodes = with_entry(scan[19744 + group], k, node);
-    scan[11552 + 4 * group + k] = sign;
-    scan[19744 + group] = nodes;
-    scan[8192 + group] = word % 4294967296 + 65536;
+    let nodes = with_entry(scan[15648 + group], k, node);
+    scan[7456 + 4 * group + k] = sign;
+    scan[15648 + group] = nodes;
+    scan[4096 + group] = word % 4294967296 + 65536;
 }
 
-// A node into the scan words: its key and its signature, its block's word and the upper word no higher than its key, and the node as an entry of the last
+// A node into the scan words: its key, its block's word and the upper word no higher than its key, and the node with its signature as an entry of the last
 // group of its class.
 pub fn link(scan: &mut [u64], node: usize, key: u64, sign: u64, class: usize)
-    requires { ⌜ (length (now scan) ≡ 25888) × (node < 4096) × (class < 1024) ⌝ }
+    requires { ⌜ (length (now scan) ≡ 21792) × (node < 4096) × (class < 1024) ⌝ }
     ensures { λ _. ⌜ now (scan .exit) ≡ linkedTo (now (scan .entry)) node key sign class ⌝ }
 {
     scan[node] = key;
-    scan[4096 + node] = sign;
-    lower(scan, 11280 + node / 16, key);
-    lower(scan, 11536 + node / 16 / 16, key);
+    lower(scan, 7184 + node / 16, key);
+    lower(scan, 7440 + node / 16 / 16, key);
     let group = group_for(scan, class);
     join(scan, group, node, sign);
 }
@@ -111,11 +110,11 @@ pub fn link(scan: &mut [u64], node: usize, key: u64, sign: u64, class: usize)
 
 // The words of all blocks to the mark, and the upper words, which stand behind them.
 pub fn fresh(scan: &mut [u64])
-    requires { ⌜ length (now scan) ≡ 25888 ⌝ }
+    requires { ⌜ length (now scan) ≡ 21792 ⌝ }
     ensures { λ _. ⌜ now (scan .exit) ≡ freshTo (now (scan .entry)) 272 ⌝ }
 {
     for b in 0..272 {
-        scan[11280 + b] = MARK;
+        scan[7184 + b] = MARK;
     }
 }
 
@@ -188,7 +187,7 @@ fn block_size(block: usize, count: usize) -> usize
 
 // A block's word again the least of its keys: the words begin at `at`, the keys at `from`.
 fn raise(scan: &mut [u64], from: usize, at: usize, block: usize, count: usize)
-    requires { ⌜ (length (now scan) ≡ 25888) × (from ≤ 11280) × (at ≤ 11536) × (block * 16 ≤ count) × (count ≤ 4096) ⌝ }
+    requires { ⌜ (length (now scan) ≡ 21792) × (from ≤ 7184) × (at ≤ 7440) × (block * 16 ≤ count) × (count ≤ 4096) ⌝ }
     ensures { λ _. ⌜ now (scan .exit) ≡ raisedTo (now (scan .entry)) from at count block ⌝ }
 {
     let low = least_key(scan, from + block * 16, block_size(block, count));
@@ -197,12 +196,12 @@ fn raise(scan: &mut [u64], from: usize, at: usize, block: usize, count: usize)
 
 // The mark as the open key of a node, its block's word again the least of the block, and the upper word the least of its block words.
 pub fn retire(scan: &mut [u64], node: usize, count: usize)
-    requires { ⌜ (length (now scan) ≡ 25888) × (count ≤ 4096) × (node < count) ⌝ }
+    requires { ⌜ (length (now scan) ≡ 21792) × (count ≤ 4096) × (node < count) ⌝ }
     ensures { λ _. ⌜ now (scan .exit) ≡ retiredTo (now (scan .entry)) node count ⌝ }
 {
     scan[node] = MARK;
-    raise(scan, 0, 11280, node / 16, count);
-    raise(scan, 11280, 11536, node / 16 / 16, 256);
+    raise(scan, 0, 7184, node / 16, count);
+    raise(scan, 7184, 7440, node / 16 / 16, 256);
 }
 
 // ---- dominance
@@ -271,10 +270,10 @@ fn lacks(sign: u64, theirs: u64) -> bool
 
 // Whether the signatures of all entries of a group lack a bit of the signature. The four words stand side by side, and nothing branches between them.
 fn all_lack(scan: &[u64], group: usize, sign: u64) -> bool
-    requires { ⌜ (length (now scan) ≡ 25888) × (group < 2048) ⌝ }
+    requires { ⌜ (length (now scan) ≡ 21792) × (group < 2048) ⌝ }
     ensures { λ r. ⌜ r ≡ allLack (now (scan .entry)) group sign ⌝ }
 {
-    let from = 11552 + 4 * group;
+    let from = 7456 + 4 * group;
     let first = lacks(sign, scan[from]);
     let second = lacks(sign, scan[from + 1]);
     let third = lacks(sign, scan[from + 2]);
@@ -299,12 +298,12 @@ fn try_group(
     requires { ⌜ (group < groupsIn (now scan)) × (sign ≡ signOf (take states (now prices))) × (128 ≤ states → Reaches states (now prices) (now list)) ⌝ }
     ensures { λ r. ⌜ Tried states (now (table .entry)) (now (scan .entry)) count (nodeWith spot paid (take states (now (prices .entry))) 0 0) group r ⌝ }
 {
-    let fill = (scan[8192 + group] / 65536 % 8) as usize;
-    let nodes = scan[19744 + group];
+    let fill = (scan[4096 + group] / 65536 % 8) as usize;
+    let nodes = scan[15648 + group];
     let mut hint = 0;
     for k in 0..fill {
         let u = entry_of(nodes, k);
-        let theirs = scan[11552 + 4 * group + k];
+        let theirs = scan[7456 + 4 * group + k];
         hint = test_node(
             table,
             states,
@@ -342,10 +341,10 @@ fn walk(
     requires { ⌜ (class ≡ classOf spot) × (sign ≡ signOf (take states (now prices))) × (128 ≤ states → Reaches states (now prices) (now list)) ⌝ }
     ensures { λ r. ⌜ Dominator states (now (table .entry)) count (nodeWith spot paid (take states (now (prices .entry))) 0 0) r ⌝ }
 {
-    let mut to = scan[10240 + class] as usize;
+    let mut to = scan[6144 + class] as usize;
     while to > 0 {
         let group = to - 1;
-        to = (scan[8192 + group] % 65536) as usize;
+        to = (scan[4096 + group] % 65536) as usize;
         if all_lack(scan, group, sign) {
             continue;
         }
@@ -393,7 +392,7 @@ fn dominator(
     requires { ⌜ (class ≡ classOf spot) × (sign ≡ signOf (take states (now prices))) × (128 ≤ states → Reaches states (now prices) (now list)) ⌝ }
     ensures { λ r. ⌜ Dominator states (now (table .entry)) count (nodeWith spot paid (take states (now (prices .entry))) 0 0) r ⌝ }
 {
-    let recent = scan[21792 + slot_of(class, sign)] as usize;
+    let recent = scan[17696 + slot_of(class, sign)] as usize;
     if recent > 0 {
         if recent <= count {
             let tried = test_at(table, states, recent - 1, spot, paid, prices, sign, list, 0);
@@ -456,7 +455,7 @@ pub fn is_dominated(
         prices,
         list,
     );
-    let place = 21792 + slot_of(class, sign);
+    let place = 17696 + slot_of(class, sign);
     scan[place] = recent_word(found, count);
     found > 0
 }
@@ -483,16 +482,16 @@ fn find(scan: &[u64], from: usize, count: usize, word: u64) -> usize
 // One more than the node with the least key below the bound, the lowest on ties; 0 for none. An upper word is picked, of those that the first `count`
 // nodes have, and it is that key. So the block is the first of its 16 blocks whose word is the same, and the node the first in the block with that key.
 pub fn choose(scan: &[u64], count: usize, bound: u64) -> usize
-    requires { ⌜ (length (now scan) ≡ 25888) × (count ≤ 4096) × (bound ≤ mark) × Blocked (now scan) count ⌝ }
+    requires { ⌜ (length (now scan) ≡ 21792) × (count ≤ 4096) × (bound ≤ mark) × Blocked (now scan) count ⌝ }
     ensures { λ r. ⌜ r ≡ chooseBy bound (now (scan .entry)) count ⌝ }
 {
-    let picked = pick(scan, 11536, (count + 255) / 256, bound);
+    let picked = pick(scan, 7440, (count + 255) / 256, bound);
     if picked == 0 {
         return 0;
     }
     let upper = picked - 1;
-    let word = scan[11536 + upper];
-    let block = upper * 16 + find(scan, 11280 + upper * 16, 16, word);
+    let word = scan[7440 + upper];
+    let block = upper * 16 + find(scan, 7184 + upper * 16, 16, word);
     let start = block * 16;
     start + find(scan, start, block_size(block, count), word) + 1
 }

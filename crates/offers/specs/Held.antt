@@ -56,7 +56,7 @@ pub record Room (S nodes : ℕ) (T O : List ℕ) (r : Run) : Type 0 where
   pub few-states : S ≤ 1024
   pub few-nodes : nodes ≤ 4096
   pub table-long : (nodes + 1) * (40 + S) ≤ length T
-  pub scan-long : length O ≡ 25888
+  pub scan-long : length O ≡ 21792
   pub count-few : r .count ≤ nodes
   pub chained : Chained S T O (r .count)
 

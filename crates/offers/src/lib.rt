@@ -52,7 +52,7 @@ fn sign_behind(swept: bool, sign: u64, prices: &[u64]) -> u64
     sign
 }
 
-// A node under the next number: its row, its scan words (key, signature, links), and the new best. `class` is its centre state's class, `sign` the signature of
+// A node under the next number: its row with its signature, its scan words (key, links), and the new best. `class` is its centre state's class, `sign` the signature of
 // its layer's begin, and `swept` whether a leaf was swept since.
 pub fn keep(
     leaves: usize,
@@ -75,7 +75,7 @@ pub fn keep(
 ) -> Run
     requires { ⌜ Cut leaves (now bases) (length (now prices)) × Cut leaves (now bases) (length (now goals)) ⌝ }
     requires { ⌜ (getD (now bases) leaves 0 ≤ 1024) × (run .count < 4096) × ((run .count + 1) * (40 + getD (now bases) leaves 0) ≤ length (now table))
-        × (length (now scan) ≡ 25888) ⌝ }
+        × (length (now scan) ≡ 21792) ⌝ }
     requires { ⌜ (swept ≡ false → sign ≡ signOf (take (getD (now bases) leaves 0) (now prices))) × (class ≡ classOf spot) ⌝ }
     ensures { λ r. ⌜ Kept (getD (now (bases .entry)) leaves 0) (now (table .entry)) (now (scan .entry)) run
         (nodeWith spot paid (take (getD (now (bases .entry)) leaves 0) (now (prices .entry))) parent action) key
@@ -87,6 +87,7 @@ pub fn keep(
     let wide = 40 + states;
     let at = count * wide;
     let end = at + wide;
+    let own = sign_behind(swept, sign, &prices[..states]);
     write_row(
         &mut table[at..end],
         states,
@@ -94,9 +95,9 @@ pub fn keep(
         paid,
         parent,
         action,
+        own,
         prices,
     );
-    let own = sign_behind(swept, sign, &prices[..states]);
     link(scan, count, key, own, class);
     let cost = goal_cost(leaves, bases, goals, factors, goal, spot, paid, prices);
     if cost < run.best_cost {

@@ -1,5 +1,5 @@
 -- A node's row in the lent table: 40 + S words. Word 32 holds the centre cost, 33 the number of the node it was made from, 34 the centre action that
--- made it, 35 to 38 the centre state's packs; 0 to 31 and 39 are not used; then the S prices, leaf 1 first.
+-- made it, 35 to 38 the centre state's packs; 39 the signature of its prices; 0 to 31 are not used; then the S prices, leaf 1 first.
 -- A pack is eight of the 32 values in one word, the first its lowest byte, so that two centre states are told apart by four words.
 pub mod Packs
 pub mod Laws

@@ -6,7 +6,7 @@ use task::Centre;
 use words::copy_words;
 ghost use mathlib.Core.Path.{_≡_};
 ghost use Prim.Native.Nat.{_+_, _*_, _≤_, _<_, min};
-ghost use lib.ListN.{length, take};
+ghost use lib.ListN.{length, getD, take};
 ghost use Rattle.search.specs.Node.{leastOf};
 ghost use Rattle.rows.specs.Four.{fourTo};
 ghost use Rattle.rows.specs.Row.{spotOf, nodeOf, nodeWith, packOf, Packed};
@@ -206,7 +206,7 @@ fn write_packs(row: &mut [u64], spot: Centre)
     row[38] = pack(spot, 24);
 }
 
-// A node into its row.
+// A node into its row, with the signature of its prices.
 pub fn write_row(
     row: &mut [u64],
     states: usize,
@@ -214,15 +214,18 @@ pub fn write_row(
     paid: u64,
     parent: usize,
     action: usize,
+    sign: u64,
     prices: &[u64],
 )
     requires { ⌜ (length (now row) ≡ 40 + states) × (states ≤ length (now prices)) ⌝ }
-    ensures { λ _. ⌜ (nodeOf states (now (row .exit)) ≡ nodeWith spot paid (take states (now (prices .entry))) parent action) × Packed (now (row .exit)) ⌝ }
+    ensures { λ _. ⌜ (nodeOf states (now (row .exit)) ≡ nodeWith spot paid (take states (now (prices .entry))) parent action) × Packed (now (row .exit))
+        × (getD (now (row .exit)) 39 0 ≡ sign) ⌝ }
 {
     write_packs(row, spot);
     row[32] = paid;
     row[33] = parent as u64;
     row[34] = action as u64;
+    row[39] = sign;
     copy_words(prices, &mut row[40..], states);
 }
 

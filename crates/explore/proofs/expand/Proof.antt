@@ -9,7 +9,7 @@ use Rattle.layer.specs.Board.{Board, rowOn}
 use Rattle.layer.specs.Lent.{boardOf}
 use Rattle.explore.specs.Held.Lists.{useful-front}
 use Rattle.rows.specs.Reach.{reaches-front}
-use Rattle.rows.specs.Row.Laws.{row-in}
+use Rattle.rows.specs.Row.Laws.{row-in, row-word}
 use Rattle.rows.specs.Sign.{signOf}
 use Rattle.offers.specs.Held.Laws.{row-has}
 use borrow.Author.Needs.{needs}
@@ -71,11 +71,20 @@ mul-paid c = omega (arith, c .before .before .before .before .before .before .be
 slice-read-paid : tie.Need-slice-read-paid
 slice-read-paid c = omega (arith, c .before .before .before .before .before .before .before .before .before .before .before .before .before .before .before .before .before .before .before .before .before .before .before .before .before .before .before .good, row-fits (c .before .before .before .before .before .before .before .before .before .before .before .before .before .before .before .before .before .before .before .before .before .before .before .before .before .before .before))
 
+add-sign : tie.Need-add-sign
+add-sign c = let s = c .before .before .before .before .before .before .before .before .before .before .before .before .before .before .before .before .before .before .before .before .before .before .before .before .before .before .before in omega (arith, s .good, row-fits s)
+
+mul-sign : tie.Need-mul-sign
+mul-sign c = let s = c .before .before .before .before .before .before .before .before .before .before .before .before .before .before .before .before .before .before .before .before .before .before .before .before .before .before .before in omega (arith, s .good, row-fits s)
+
+slice-read-sign : tie.Need-slice-read-sign
+slice-read-sign c = let s = c .before .before .before .before .before .before .before .before .before .before .before .before .before .before .before .before .before .before .before .before .before .before .before .before .before .before .before .before in omega (arith, s .good, row-fits s)
+
 add-copy-words : tie.Need-add-copy-words
-add-copy-words c = omega (arith, c .before .before .before .before .before .before .before .before .before .before .before .before .before .before .before .before .before .before .before .before .before .before .before .before .before .before .before .good, row-fits (c .before .before .before .before .before .before .before .before .before .before .before .before .before .before .before .before .before .before .before .before .before .before .before .before .before .before .before))
+add-copy-words c = omega (arith, c .before .before .before .before .before .before .before .before .before .before .before .before .before .before .before .before .before .before .before .before .before .before .before .before .before .before .before .before .good, row-fits (c .before .before .before .before .before .before .before .before .before .before .before .before .before .before .before .before .before .before .before .before .before .before .before .before .before .before .before .before))
 
 mul-copy-words : tie.Need-mul-copy-words
-mul-copy-words c = omega (arith, c .before .before .before .before .before .before .before .before .before .before .before .before .before .before .before .before .before .before .before .before .before .before .before .before .before .before .before .good, row-fits (c .before .before .before .before .before .before .before .before .before .before .before .before .before .before .before .before .before .before .before .before .before .before .before .before .before .before .before))
+mul-copy-words c = omega (arith, c .before .before .before .before .before .before .before .before .before .before .before .before .before .before .before .before .before .before .before .before .before .before .before .before .before .before .before .before .good, row-fits (c .before .before .before .before .before .before .before .before .before .before .before .before .before .before .before .before .before .before .before .before .before .before .before .before .before .before .before .before))
 
 sub-copy-words : tie.Need-sub-copy-words
 sub-copy-words c = search needs
@@ -84,26 +93,17 @@ part-copy-words-start : tie.Need-part-copy-words-start
 part-copy-words-start c = search needs
 
 part-copy-words-end : tie.Need-part-copy-words-end
-part-copy-words-end c = omega (arith, c .before .before .before .before .before .before .before .before .before .before .before .before .before .before .before .before .before .before .before .before .before .before .before .before .before .before .before .before .good, row-fits (c .before .before .before .before .before .before .before .before .before .before .before .before .before .before .before .before .before .before .before .before .before .before .before .before .before .before .before .before))
+part-copy-words-end c = omega (arith, c .before .before .before .before .before .before .before .before .before .before .before .before .before .before .before .before .before .before .before .before .before .before .before .before .before .before .before .before .before .good, row-fits (c .before .before .before .before .before .before .before .before .before .before .before .before .before .before .before .before .before .before .before .before .before .before .before .before .before .before .before .before .before))
 
 copy-words-requires : tie.Need-copy-words-requires
 copy-words-requires c κs =
-    let s = c .before .before .before .before .before .before .before .before .before .before .before .before .before .before .before .before .before .before .before .before .before .before .before .before .before .before .before .before .before .before in
+    let s = c .before .before .before .before .before .before .before .before .before .before .before .before .before .before .before .before .before .before .before .before .before .before .before .before .before .before .before .before .before .before .before in
     (simp (length-take, length-drop) (omega (arith, row-fits s)), omega (arith, s .pre .1 .1 .1 .1 .0, s .pre .0 .few-all))
-
-add-sign : tie.Need-add-sign
-add-sign c = omega (arith, inside-scan (c .before .before .before .before .before .before .before .before .before .before .before .before .before .before .before .before .before .before .before .before .before .before .before .before .before .before .before .before .before .before .before .before .before))
-
-mul-sign : tie.Need-mul-sign
-mul-sign c = omega (arith, inside-scan (c .before .before .before .before .before .before .before .before .before .before .before .before .before .before .before .before .before .before .before .before .before .before .before .before .before .before .before .before .before .before .before .before .before))
-
-slice-read-sign : tie.Need-slice-read-sign
-slice-read-sign c = omega (arith, inside-scan (c .before .before .before .before .before .before .before .before .before .before .before .before .before .before .before .before .before .before .before .before .before .before .before .before .before .before .before .before .before .before .before .before .before .before), c .before .before .before .before .before .before .before .before .before .before .before .before .before .before .before .before .before .before .before .before .before .before .before .before .before .before .before .before .before .before .before .before .before .before .pre .1 .1 .1 .0 .scan-long)
 
 list-turns-requires : tie.Need-list-turns-requires
 list-turns-requires c κs =
     let s = c .before .before .before .before .before .before .before .before .before .before .before .before .before .before .before .before .before .before .before .before .before .before .before .before .before .before .before .before .before .before .before .before .before .before .before .before .before .before in
-    let w = c .before .before .before .before .before .before .before .copy-words in
+    let w = c .before .before .before .before .before .before .copy-words in
     let long : length (w .last .1 .0) ≡ 1024 = w .kept .1 .0 ∙ s .pre .1 .1 .1 .1 .0 in
     (s .pre .0, ((s .pre .1 .0 .1, s .pre .1 .0 .3, s .pre .1 .0 .6, s .pre .1 .0 .7), (s .pre .1 .0 .4, long, inside-scan s, row-fits s)))
 
@@ -118,7 +118,7 @@ listed-in c =
 list-reached-requires : tie.Need-list-reached-requires
 list-reached-requires c κs =
     let s = c .before .before .before .before .before .before .before .before .before .before .before .before .before .before .before .before .before .before .before .before .before .before .before .before .before .before .before .before .before .before .before .before .before .before .before .before .before .before .before .before .before .before .before .before .before in
-    let w = c .before .before .before .before .before .before .before .before .before .before .before .before .before .before .copy-words in
+    let w = c .before .before .before .before .before .before .before .before .before .before .before .before .before .copy-words in
     let long : length (w .last .1 .0) ≡ 1024 = w .kept .1 .0 ∙ s .pre .1 .1 .1 .1 .0 in
     (s .pre .1 .1 .1 .1 .2, s .pre .0 .few-all, omega (arith, s .pre .0 .few-all))
 
@@ -145,13 +145,15 @@ turns-requires : tie.Need-turns-requires
 turns-requires c κs =
     let s = c .before .before .before .before .before .before .before .before .before .before .before .before .before .before .before .before .before .before .before .before .before .before .before .before .before .before .before .before .before .before .before .before .before .before .before .before .before .before .before .before .before .before .before .before .before .before .before .before .before .before .before .before .before .before .before .before in
     let r = c .before .before .before .before .before .before .before .before .before .before .before .before .before .before .before .before .before .before .before .before .before .before .before .before .before .before .before .before .before .before .read-spot in
-    let w = c .before .before .before .before .before .before .before .before .before .before .before .before .before .before .before .before .before .before .before .before .before .before .before .before .before .copy-words in
+    let w = c .before .before .before .before .before .before .before .before .before .before .before .before .before .before .before .before .before .before .before .before .before .before .before .before .copy-words in
     let m = c .before .before .before .before .before .before .before .before .before .before .before .before .before .before .before .before .before .list-turns in
     let useful = useful-front _ _ _ _ _ _ (m .result) (m .last .1 .1 .1 .1 .1 .1 .1 .1 .1 .1 .1 .1 .1 .1 .1 .1 .1 .0) (listed-in (c .before .before .before .before .before .before .before .before .before .before .before .before .before .before .before .before .before)) (m .ensures .2) in
     let long : length (w .last .1 .0) ≡ 1024 = w .kept .1 .0 ∙ s .pre .1 .1 .1 .1 .0 in
     let has = row-has (rowOn (board s)) (s .args .u) (now (s .args .table)) (r .result) (w .last .1 .0) _ (row-fits s) (r .ensures) (w .ensures) in
     let g = c .before .before .before .before .before .before .before .before .before .before in
-    let sign = s .pre .1 .1 .1 .0 .chained .signs (s .args .u) (s .pre .1 .1 .0 .2) ∙ ap signOf (has .prices-is) in (
+    let sign =
+    sym (row-word (rowOn (board s)) (s .args .u) (now (s .args .table)) 39 (omega arith))
+    ∙ s .pre .1 .1 .1 .0 .chained .signs (s .args .u) (s .pre .1 .1 .0 .2) ∙ ap signOf (has .prices-is) in (
       s .pre .0,
       (
         (s .pre .1 .0 .0, s .pre .1 .0 .1, s .pre .1 .0 .2, m .ensures .0, useful, s .pre .1 .0 .5),
@@ -183,7 +185,7 @@ same-length-4 : tie.Need-same-length-4
 same-length-4 c = c .before .before .before .before .before .before .before .before .before .before .before .before .before .before .before .before .before .before .before .before .before .before .before .before .before .before .before .before .list-turns .kept .1 .1 .1 .1 .1 .1 .1 .1 .1 .1 .1 .1 .1 .1 .1 .1 .1 .0
 
 same-length-5 : tie.Need-same-length-5
-same-length-5 c = c .before .before .before .before .before .before .before .before .before .before .before .before .before .before .before .before .before .before .before .before .before .before .before .before .before .before .before .before .before .before .before .before .before .before .before .before .copy-words .kept .1 .0
+same-length-5 c = c .before .before .before .before .before .before .before .before .before .before .before .before .before .before .before .before .before .before .before .before .before .before .before .before .before .before .before .before .before .before .before .before .before .before .before .copy-words .kept .1 .0
 
 same-length-6 : tie.Need-same-length-6
 same-length-6 c = search needs
@@ -214,15 +216,15 @@ expand-spec =
     add-paid
     mul-paid
     slice-read-paid
+    add-sign
+    mul-sign
+    slice-read-sign
     add-copy-words
     mul-copy-words
     sub-copy-words
     part-copy-words-start
     part-copy-words-end
     copy-words-requires
-    add-sign
-    mul-sign
-    slice-read-sign
     list-turns-requires
     list-reached-requires
     slice-reshare-prefix-turns

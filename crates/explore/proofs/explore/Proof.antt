@@ -25,7 +25,7 @@ use Rattle.explore.proofs.explore.Tie as tie
 
 abbrev Inv-loop : tie.InvT-loop
 Inv-loop bases moves costs kinds starts goals nodes budget edges ends table₀ scan₀ leaves actions factors goal conditions effects stills still firsts hops ways run₀ known₀ mets₀ old₀ next₀ list₀ room₀ table scan run known mets old next list room =
-    (length table ≡ length table₀) × (length scan ≡ 25888)
+    (length table ≡ length table₀) × (length scan ≡ 21792)
     × AheadBy (boardOf leaves actions bases moves costs kinds factors conditions) effects goals goal nodes budget table₀ scan₀ run₀ table scan run
     × (length old ≡ 1024) × (length next ≡ 1024)
     × Known (boardOf leaves actions bases moves costs kinds factors conditions) known

@@ -62,7 +62,7 @@ returns : tie.Need-returns
 unfolding allLack
 returns c =
     let g = c .before .before .before .before .before .before .before .before .before .args .group in
-    let e : 11552 + 4 * g + 0 ≡ 11552 + 4 * g = omega arith in
+    let e : 7456 + 4 * g + 0 ≡ 7456 + 4 * g = omega arith in
     rw (
       c .before .before .before .before .before .before .lacks .ensures,
       c .before .before .before .before .lacks2 .ensures,

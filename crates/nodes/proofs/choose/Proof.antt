@@ -72,7 +72,7 @@ find-requires c κs = omega (arith, place (c .before), c .before .before .before
 
 -- the block that is found: its word is the upper word, and it is the choice among the block words
 block : (c : tie.After-find) → let a = c .before .before .before .before .before .args in let g = c .before .before .before .pick .result - 1 in let C = a .scan .now in
-    let b = g * 16 + c .find .result in (getD (blockWords C) b 0 ≡ getD C (11536 + g) 0) × Picked (a .bound) (blockWords C) 256 b
+    let b = g * 16 + c .find .result in (getD (blockWords C) b 0 ≡ getD C (7440 + g) 0) × Picked (a .bound) (blockWords C) 256 b
 block c =
     let s = c .before .before .before .before .before in
     let a = s .args in
@@ -80,8 +80,8 @@ block c =
     let g = c .before .before .before .pick .result - 1 in
     let p = upper (c .before .before) in
     let size : blockSize 256 g ≡ 16 = omega (arith, p .inside) in
-    under-found (a .bound) (blockWords C) (upperWords C) 16 256 (omega arith) (s .pre .2) (s .pre .3 .words) g (getD C (11536 + g) 0) (c .find .result)
-    p (getD-drop 11536 C g 0) (rw (size, drop-drop (g * 16) 11280 C) (c .find .ensures))
+    under-found (a .bound) (blockWords C) (upperWords C) 16 256 (omega arith) (s .pre .2) (s .pre .3 .words) g (getD C (7440 + g) 0) (c .find .result)
+    p (getD-drop 7440 C g 0) (rw (size, drop-drop (g * 16) 7184 C) (c .find .ensures))
 
 add-block : tie.Need-add-block
 add-block c = omega (arith, block c .1 .inside)
@@ -114,7 +114,7 @@ node c =
     let g = c .before .before .before .before .before .pick .result - 1 in
     let b = g * 16 + c .before .before .find .result in
     let p = block (c .before .before) in
-    under-found (a .bound) C (blockWords C) 256 (a .count) (omega (arith, s .pre .1)) (s .pre .2) (s .pre .3 .keys) b (getD C (11536 + g) 0) (c .find2 .result)
+    under-found (a .bound) C (blockWords C) 256 (a .count) (omega (arith, s .pre .1)) (s .pre .2) (s .pre .3 .keys) b (getD C (7440 + g) 0) (c .find2 .result)
     (p .1) (p .0) (rw (c .before .block-size .ensures) at (c .find2 .ensures)) .1
 
 add-result : tie.Need-add-result

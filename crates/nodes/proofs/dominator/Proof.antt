@@ -31,7 +31,7 @@ shared-slice-read-recent c = omega (arith, small (c .before), c .before .before 
 
 -- one more than the node that is tried
 abbrev recent : tie.Then2 → ℕ
-recent c = getD (c .before .before .before .before .before .before .before .before .args .scan .now) (21792 + c .before .before .before .slot-of .result) 0
+recent c = getD (c .before .before .before .before .before .before .before .before .args .scan .now) (17696 + c .before .before .before .slot-of .result) 0
 
 sub-test-at : tie.Need-sub-test-at
 sub-test-at c = search needs

@@ -39,8 +39,8 @@ slice-write-scan c = omega (arith, small (c .before), start (c .before) .pre .0 
 
 -- no other words are stored
 recalled : (c : tie.After-recent-word) → let C = start (c .before) .args .scan .now in
-    Recalled C (set C (21792 + c .before .slot-of .result) (c .recent-word .result))
-recalled c = recalled-set (start (c .before) .args .scan .now) (21792 + c .before .slot-of .result) (c .recent-word .result) (omega arith)
+    Recalled C (set C (17696 + c .before .slot-of .result) (c .recent-word .result))
+recalled c = recalled-set (start (c .before) .args .scan .now) (17696 + c .before .slot-of .result) (c .recent-word .result) (omega arith)
 
 same-length : tie.Need-same-length
 same-length c = recalled c .long

@@ -292,22 +292,22 @@ upper-fewer bound C n low few r =
 -- ---- block words set to the mark
 
 -- no node: all 272 words are the mark
-pub blocked-none : (C : List ℕ) → ((b : ℕ) → b < 272 → getD C (11280 + b) 0 ≡ mark) → Blocked C 0
+pub blocked-none : (C : List ℕ) → ((b : ℕ) → b < 272 → getD C (7184 + b) 0 ≡ mark) → Blocked C 0
 blocked-none C z = record {
   keys = record { lower = λ u h. absurd (not-suc-le-zero h); held = λ b l. inl (block b l) };
   words = record { lower = λ u l. omega (arith, upper (u / 16) (omega arith), block u l); held = λ b l. inl (upper b l) };
 }
   where
     block : (b : ℕ) → b < 256 → getD (blockWords C) b 0 ≡ mark
-    block b l = getD-drop 11280 C b 0 ∙ z b (omega arith)
+    block b l = getD-drop 7184 C b 0 ∙ z b (omega arith)
 
     upper : (b : ℕ) → b < 16 → getD (upperWords C) b 0 ≡ mark
     upper b l =
-        let s : 11536 + b ≡ 11280 + (256 + b) = omega arith in
-        getD-drop 11536 C b 0 ∙ ap (λ (i : ℕ). getD C i 0) s ∙ z (256 + b) (omega arith)
+        let s : 7440 + b ≡ 7184 + (256 + b) = omega arith in
+        getD-drop 7440 C b 0 ∙ ap (λ (i : ℕ). getD C i 0) s ∙ z (256 + b) (omega arith)
 
 -- a turn of the loop
-pub fresh-more : (C : List ℕ) (b : ℕ) → freshTo C (b + 1) ≡ set (freshTo C b) (11280 + b) mark
+pub fresh-more : (C : List ℕ) (b : ℕ) → freshTo C (b + 1) ≡ set (freshTo C b) (7184 + b) mark
 unfolding freshTo
 fresh-more C b = rw add-one
 
@@ -315,23 +315,23 @@ fresh-more C b = rw add-one
 pub fresh-length : (C : List ℕ) (b : ℕ) → length (freshTo C b) ≡ length C
 unfolding freshTo
 fresh-length C zero = refl
-fresh-length C (suc b) = length-set (freshTo C b) (11280 + b) mark ∙ fresh-length C b
+fresh-length C (suc b) = length-set (freshTo C b) (7184 + b) mark ∙ fresh-length C b
 
 -- the other words are the same
-pub fresh-other : (C : List ℕ) (b i : ℕ) → i < 11280 → getD (freshTo C b) i 0 ≡ getD C i 0
+pub fresh-other : (C : List ℕ) (b i : ℕ) → i < 7184 → getD (freshTo C b) i 0 ≡ getD C i 0
 unfolding freshTo
 fresh-other C zero i l = refl
-fresh-other C (suc b) i l = getD-set-other (freshTo C b) (11280 + b) i mark 0 (λ e. omega arith) ∙ fresh-other C b i l
+fresh-other C (suc b) i l = getD-set-other (freshTo C b) (7184 + b) i mark 0 (λ e. omega arith) ∙ fresh-other C b i l
 
 -- the block words are the mark
-pub fresh-block : (C : List ℕ) (n b : ℕ) → 11280 + n ≤ length C → b < n → getD (freshTo C n) (11280 + b) 0 ≡ mark
+pub fresh-block : (C : List ℕ) (n b : ℕ) → 7184 + n ≤ length C → b < n → getD (freshTo C n) (7184 + b) 0 ≡ mark
 unfolding freshTo
 fresh-block C zero b r l = absurd (not-suc-le-zero l)
 fresh-block C (suc n) b r l = go (below-cases l) (fresh-block C n b (omega arith))
   where
-    go : (b < n) ⊎ (b ≡ n) → (b < n → getD (freshTo C n) (11280 + b) 0 ≡ mark) → getD (freshTo C (suc n)) (11280 + b) 0 ≡ mark
-    go (inl k) h = getD-set-other (freshTo C n) (11280 + n) (11280 + b) mark 0 (λ e. omega arith) ∙ h k
-    go (inr e) h = rw e (getD-set-same (freshTo C n) (11280 + n) mark 0 (omega (arith, fresh-length C n)))
+    go : (b < n) ⊎ (b ≡ n) → (b < n → getD (freshTo C n) (7184 + b) 0 ≡ mark) → getD (freshTo C (suc n)) (7184 + b) 0 ≡ mark
+    go (inl k) h = getD-set-other (freshTo C n) (7184 + n) (7184 + b) mark 0 (λ e. omega arith) ∙ h k
+    go (inr e) h = rw e (getD-set-same (freshTo C n) (7184 + n) mark 0 (omega (arith, fresh-length C n)))
 
 -- ---- words at a place
 
@@ -371,57 +371,57 @@ module _ (C : List ℕ) (from at n b : ℕ) where
 
 -- the scan words with the node's open key and its block's word
 abbrev halfTo : List ℕ → ℕ → ℕ → List ℕ
-halfTo C u n = raisedTo (set C u mark) 0 11280 n (u / 16)
+halfTo C u n = raisedTo (set C u mark) 0 7184 n (u / 16)
 
 module _ (C : List ℕ) (u n : ℕ) where
   -- the scan words stay as many
   half-length : length (halfTo C u n) ≡ length C
-  half-length = raised-length (set C u mark) 0 11280 n (u / 16) ∙ length-set C u mark
+  half-length = raised-length (set C u mark) 0 7184 n (u / 16) ∙ length-set C u mark
 
   pub retired-length : length (retiredTo C u n) ≡ length C
   unfolding retiredTo
-  retired-length = raised-length (halfTo C u n) 11280 11536 256 (u / 16 / 16) ∙ half-length
+  retired-length = raised-length (halfTo C u n) 7184 7440 256 (u / 16 / 16) ∙ half-length
 
   -- all words but the upper word
-  retired-half : (i : ℕ) → (i ≡ 11536 + u / 16 / 16 → ⊥) → getD (retiredTo C u n) i 0 ≡ getD (halfTo C u n) i 0
+  retired-half : (i : ℕ) → (i ≡ 7440 + u / 16 / 16 → ⊥) → getD (retiredTo C u n) i 0 ≡ getD (halfTo C u n) i 0
   unfolding retiredTo
-  retired-half = raised-other (halfTo C u n) 11280 11536 256 (u / 16 / 16)
+  retired-half = raised-other (halfTo C u n) 7184 7440 256 (u / 16 / 16)
 
   -- all words but the block's word and the upper word
-  retired-but : (i : ℕ) → (i ≡ 11280 + u / 16 → ⊥) → (i ≡ 11536 + u / 16 / 16 → ⊥) → getD (retiredTo C u n) i 0 ≡ getD (set C u mark) i 0
-  retired-but i d f = retired-half i f ∙ raised-other (set C u mark) 0 11280 n (u / 16) i d
+  retired-but : (i : ℕ) → (i ≡ 7184 + u / 16 → ⊥) → (i ≡ 7440 + u / 16 / 16 → ⊥) → getD (retiredTo C u n) i 0 ≡ getD (set C u mark) i 0
+  retired-but i d f = retired-half i f ∙ raised-other (set C u mark) 0 7184 n (u / 16) i d
 
   -- of the words before the block words only the node's open key is stored
-  pub retired-key : (i : ℕ) → i < 11280 → getD (retiredTo C u n) i 0 ≡ getD (set C u mark) i 0
+  pub retired-key : (i : ℕ) → i < 7184 → getD (retiredTo C u n) i 0 ≡ getD (set C u mark) i 0
   retired-key i l = retired-but i (λ e. omega arith) (λ e. omega arith)
 
   -- the words behind the upper words are the same
-  pub retired-behind : (i : ℕ) → u < 4096 → 11552 ≤ i → getD (retiredTo C u n) i 0 ≡ getD C i 0
+  pub retired-behind : (i : ℕ) → u < 4096 → 7456 ≤ i → getD (retiredTo C u n) i 0 ≡ getD C i 0
   retired-behind i l b = retired-but i (λ e. omega arith) (λ e. omega arith) ∙ getD-set-other C u i mark 0 (λ e. omega arith)
 
-module _ (C : List ℕ) (u n : ℕ) (long : length C ≡ 25888) (few : n ≤ 4096) (inside : u < n) where
+module _ (C : List ℕ) (u n : ℕ) (long : length C ≡ 21792) (few : n ≤ 4096) (inside : u < n) where
   -- the scan words after it
   abbrev D : List ℕ
   D = retiredTo C u n
 
   -- the other words behind the open keys, as those from a place on
-  retired-at : (at b : ℕ) → 4096 ≤ at → (at + b ≡ 11280 + u / 16 → ⊥) → (at + b ≡ 11536 + u / 16 / 16 → ⊥) → getD (drop at D) b 0 ≡ getD (drop at C) b 0
+  retired-at : (at b : ℕ) → 4096 ≤ at → (at + b ≡ 7184 + u / 16 → ⊥) → (at + b ≡ 7440 + u / 16 / 16 → ⊥) → getD (drop at D) b 0 ≡ getD (drop at C) b 0
   retired-at at b l d f = drop-same C D at b (retired-but C u n (at + b) d f ∙ getD-set-other C u (at + b) mark 0 (λ e. omega arith))
 
   -- so the words of the other blocks
   retired-words : (b : ℕ) → b < 256 → (b ≡ u / 16 → ⊥) → getD (blockWords D) b 0 ≡ getD (blockWords C) b 0
-  retired-words b l d = retired-at 11280 b (omega arith) (λ e. d (omega arith)) (λ e. omega arith)
+  retired-words b l d = retired-at 7184 b (omega arith) (λ e. d (omega arith)) (λ e. omega arith)
 
   -- the block's word and the upper word
   retired-word : getD (blockWords D) (u / 16) 0 ≡ leastOfBlock (set C u mark) n (u / 16)
   retired-word =
-      getD-drop 11280 D (u / 16) 0 ∙ retired-half C u n (11280 + u / 16) (λ e. omega arith)
-      ∙ raised-here (set C u mark) 0 11280 n (u / 16) (simp length-set (omega arith))
+      getD-drop 7184 D (u / 16) 0 ∙ retired-half C u n (7184 + u / 16) (λ e. omega arith)
+      ∙ raised-here (set C u mark) 0 7184 n (u / 16) (simp length-set (omega arith))
 
   retired-upper : getD (upperWords D) (u / 16 / 16) 0 ≡ leastOfBlock (blockWords (halfTo C u n)) 256 (u / 16 / 16)
   unfolding retiredTo
   retired-upper =
-      getD-drop 11536 D (u / 16 / 16) 0 ∙ raised-here (halfTo C u n) 11280 11536 256 (u / 16 / 16) (omega (arith, half-length C u n))
+      getD-drop 7440 D (u / 16 / 16) 0 ∙ raised-here (halfTo C u n) 7184 7440 256 (u / 16 / 16) (omega (arith, half-length C u n))
 
   -- the words are right again
   pub blocked-retire : Blocked C n → Blocked (retiredTo C u n) n
@@ -432,7 +432,7 @@ module _ (C : List ℕ) (u n : ℕ) (long : length C ≡ 25888) (few : n ≤ 409
         (r .keys) (set C u mark) (λ w l. retired-key C u n w (omega arith)) retired-word;
     words =
         under-raised (blockWords C) (upperWords C) (blockWords D) (upperWords D) 16 256 256 (u / 16)
-        (record { keys = retired-words; words = λ g l d. retired-at 11536 g (omega arith) (λ e. omega arith) (λ e. d (omega arith)); old = λ w l _. l; kept = omega arith; few = omega arith })
+        (record { keys = retired-words; words = λ g l d. retired-at 7440 g (omega arith) (λ e. omega arith) (λ e. d (omega arith)); old = λ w l _. l; kept = omega arith; few = omega arith })
         (r .words) (blockWords (halfTo C u n))
-        (λ b l. drop-same (halfTo C u n) D 11280 b (retired-half C u n (11280 + b) (λ e. omega arith))) retired-upper;
+        (λ b l. drop-same (halfTo C u n) D 7184 b (retired-half C u n (7184 + b) (λ e. omega arith))) retired-upper;
   }

@@ -117,27 +117,27 @@ grouped-none S T C z =
 
 -- the words of groups are the same, with the heads, and from the entries' signatures on
 pub record SameGroups (C D : List ℕ) : Type 0 where
-  pub chains : (i : ℕ) → 8192 ≤ i → i < 11280 → getD D i 0 ≡ getD C i 0
-  pub members : (i : ℕ) → 11552 ≤ i → i < 21792 → getD D i 0 ≡ getD C i 0
+  pub chains : (i : ℕ) → 4096 ≤ i → i < 7184 → getD D i 0 ≡ getD C i 0
+  pub members : (i : ℕ) → 7456 ≤ i → i < 17696 → getD D i 0 ≡ getD C i 0
 
 module _ (S : ℕ) (T C D : List ℕ) (n : ℕ) (few : groupsIn C ≤ 2048) (s : SameGroups C D) (r : Grouped S T C n) where
   same-groups : groupsIn D ≡ groupsIn C
-  same-groups = s .chains 11264 (omega arith) (omega arith)
+  same-groups = s .chains 7168 (omega arith) (omega arith)
 
   same-word : (g : ℕ) → g < groupsIn C → wordAt D g ≡ wordAt C g
-  same-word g l = s .chains (8192 + g) (omega arith) (omega arith)
+  same-word g l = s .chains (4096 + g) (omega arith) (omega arith)
 
   same-link : (g : ℕ) → g < groupsIn C → linkAt D g ≡ linkAt C g
   same-link g l = ap (λ (x : ℕ). x % 65536) (same-word g l)
 
   same-head : (h : ℕ) → h < 1024 → headAt D h ≡ headAt C h
-  same-head h l = s .chains (10240 + h) (omega arith) (omega arith)
+  same-head h l = s .chains (6144 + h) (omega arith) (omega arith)
 
   same-class : (g : ℕ) → g < groupsIn C → classAt D g ≡ classAt C g
   same-class g l = ap (λ (x : ℕ). x / 65536 / 8) (same-word g l)
 
   same-entry : (g k : ℕ) → g < groupsIn C → entryAt D g k ≡ entryAt C g k
-  same-entry g k l = ap (λ (w : ℕ). entryOf w k) (s .members (19744 + g) (omega arith) (omega arith))
+  same-entry g k l = ap (λ (w : ℕ). entryOf w k) (s .members (15648 + g) (omega arith) (omega arith))
 
   same-entries : (g k : ℕ) → g < groupsIn D → k < fillAt D g → Entry S T D n g k
   same-entries g k b f =
@@ -148,7 +148,7 @@ module _ (S : ℕ) (T C D : List ℕ) (n : ℕ) (few : groupsIn C ≤ 2048) (s :
       let is = same-entry g k l in
       record {
         inside = omega (arith, is, e .inside);
-        shown = s .members (11552 + 4 * g + k) (omega arith) (omega arith) ∙ e .shown ∙ ap (λ (u : ℕ). signOf (nodeIn S T u .prices)) (sym is);
+        shown = s .members (7456 + 4 * g + k) (omega arith) (omega arith) ∙ e .shown ∙ ap (λ (u : ℕ). signOf (nodeIn S T u .prices)) (sym is);
         class = ap (λ (u : ℕ). classOf (nodeIn S T u .spot)) is ∙ e .class ∙ sym (same-class g l);
       }
 
@@ -210,7 +210,7 @@ grouped-same S T T′ C n s r = record {
 
 -- ---- a group is opened
 
-module _ (S : ℕ) (T C : List ℕ) (n h : ℕ) (long : length C ≡ 25888) (few : groupsIn C < 2048) (small : h < 1024) (r : Grouped S T C n) where
+module _ (S : ℕ) (T C : List ℕ) (n h : ℕ) (long : length C ≡ 21792) (few : groupsIn C < 2048) (small : h < 1024) (r : Grouped S T C n) where
   abbrev g : ℕ
   g = groupsIn C
 
@@ -218,29 +218,29 @@ module _ (S : ℕ) (T C : List ℕ) (n h : ℕ) (long : length C ≡ 25888) (few
   D = withGroup C h g
 
   -- a word that is none of the three
-  pub open-other : (i : ℕ) → (i ≡ 8192 + g → ⊥) → (i ≡ 10240 + h → ⊥) → (i ≡ 11264 → ⊥) → getD D i 0 ≡ getD C i 0
+  pub open-other : (i : ℕ) → (i ≡ 4096 + g → ⊥) → (i ≡ 6144 + h → ⊥) → (i ≡ 7168 → ⊥) → getD D i 0 ≡ getD C i 0
   unfolding withGroup
   open-other i a c d =
-      getD-set-other (set (set C (8192 + g) (h * 8 * 65536 + headAt C h % 65536)) (10240 + h) (g + 1)) 11264 i (g + 1) 0 d
-      ∙ getD-set-other (set C (8192 + g) (h * 8 * 65536 + headAt C h % 65536)) (10240 + h) i (g + 1) 0 c
-      ∙ getD-set-other C (8192 + g) i (h * 8 * 65536 + headAt C h % 65536) 0 a
+      getD-set-other (set (set C (4096 + g) (h * 8 * 65536 + headAt C h % 65536)) (6144 + h) (g + 1)) 7168 i (g + 1) 0 d
+      ∙ getD-set-other (set C (4096 + g) (h * 8 * 65536 + headAt C h % 65536)) (6144 + h) i (g + 1) 0 c
+      ∙ getD-set-other C (4096 + g) i (h * 8 * 65536 + headAt C h % 65536) 0 a
 
   pub open-groups : groupsIn D ≡ g + 1
   unfolding withGroup
-  open-groups = getD-set-same (set (set C (8192 + g) (h * 8 * 65536 + headAt C h % 65536)) (10240 + h) (g + 1)) 11264 (g + 1) 0 (simp length-set (omega arith))
+  open-groups = getD-set-same (set (set C (4096 + g) (h * 8 * 65536 + headAt C h % 65536)) (6144 + h) (g + 1)) 7168 (g + 1) 0 (simp length-set (omega arith))
 
   pub open-head : headAt D h ≡ g + 1
   unfolding withGroup
   open-head =
-      getD-set-other (set (set C (8192 + g) (h * 8 * 65536 + headAt C h % 65536)) (10240 + h) (g + 1)) 11264 (10240 + h) (g + 1) 0 (λ e. omega arith)
-      ∙ getD-set-same (set C (8192 + g) (h * 8 * 65536 + headAt C h % 65536)) (10240 + h) (g + 1) 0 (simp length-set (omega arith))
+      getD-set-other (set (set C (4096 + g) (h * 8 * 65536 + headAt C h % 65536)) (6144 + h) (g + 1)) 7168 (6144 + h) (g + 1) 0 (λ e. omega arith)
+      ∙ getD-set-same (set C (4096 + g) (h * 8 * 65536 + headAt C h % 65536)) (6144 + h) (g + 1) 0 (simp length-set (omega arith))
 
   pub open-word : wordAt D g ≡ h * 8 * 65536 + headAt C h % 65536
   unfolding withGroup
   open-word =
-      getD-set-other (set (set C (8192 + g) (h * 8 * 65536 + headAt C h % 65536)) (10240 + h) (g + 1)) 11264 (8192 + g) (g + 1) 0 (λ e. omega arith)
-      ∙ getD-set-other (set C (8192 + g) (h * 8 * 65536 + headAt C h % 65536)) (10240 + h) (8192 + g) (g + 1) 0 (λ e. omega arith)
-      ∙ getD-set-same C (8192 + g) (h * 8 * 65536 + headAt C h % 65536) 0 (omega arith)
+      getD-set-other (set (set C (4096 + g) (h * 8 * 65536 + headAt C h % 65536)) (6144 + h) (g + 1)) 7168 (4096 + g) (g + 1) 0 (λ e. omega arith)
+      ∙ getD-set-other (set C (4096 + g) (h * 8 * 65536 + headAt C h % 65536)) (6144 + h) (4096 + g) (g + 1) 0 (λ e. omega arith)
+      ∙ getD-set-same C (4096 + g) (h * 8 * 65536 + headAt C h % 65536) 0 (omega arith)
 
   open-link : linkAt D g ≡ headAt C h
   open-link = let top = r .heads h small in rw open-word (omega arith)
@@ -254,7 +254,7 @@ module _ (S : ℕ) (T C : List ℕ) (n h : ℕ) (long : length C ≡ 25888) (few
 
   -- the words of the other groups and the heads of the other classes
   pub word-old : (f : ℕ) → f < g → wordAt D f ≡ wordAt C f
-  word-old f l = open-other (8192 + f) (λ e. omega arith) (λ e. omega arith) (λ e. omega arith)
+  word-old f l = open-other (4096 + f) (λ e. omega arith) (λ e. omega arith) (λ e. omega arith)
 
   class-old : (f : ℕ) → f < g → classAt D f ≡ classAt C f
   class-old f l = ap (λ (x : ℕ). x / 65536 / 8) (word-old f l)
@@ -263,13 +263,13 @@ module _ (S : ℕ) (T C : List ℕ) (n h : ℕ) (long : length C ≡ 25888) (few
   link-old f l = ap (λ (x : ℕ). x % 65536) (word-old f l)
 
   head-old : (i : ℕ) → i < 1024 → (i ≡ h → ⊥) → headAt D i ≡ headAt C i
-  head-old i b d = open-other (10240 + i) (λ e. omega arith) (λ e. d (omega arith)) (λ e. omega arith)
+  head-old i b d = open-other (6144 + i) (λ e. omega arith) (λ e. d (omega arith)) (λ e. omega arith)
 
   entry-old : (f k : ℕ) → f < g → entryAt D f k ≡ entryAt C f k
-  entry-old f k l = ap (λ (w : ℕ). entryOf w k) (open-other (19744 + f) (λ e. omega arith) (λ e. omega arith) (λ e. omega arith))
+  entry-old f k l = ap (λ (w : ℕ). entryOf w k) (open-other (15648 + f) (λ e. omega arith) (λ e. omega arith) (λ e. omega arith))
 
   shown-old : (f k : ℕ) → f < g → k < 4 → shownAt D f k ≡ shownAt C f k
-  shown-old f k l b = open-other (11552 + 4 * f + k) (λ e. omega arith) (λ e. omega arith) (λ e. omega arith)
+  shown-old f k l b = open-other (7456 + 4 * f + k) (λ e. omega arith) (λ e. omega arith) (λ e. omega arith)
 
   cases : (f : ℕ) → f < groupsIn D → (f < g) ⊎ (f ≡ g)
   cases f l = below-cases (omega (arith, open-groups))
@@ -369,7 +369,7 @@ module _ (S : ℕ) (T C : List ℕ) (n h : ℕ) (long : length C ≡ 25888) (few
 
 -- ---- node n joins group g, the last of its class, which has room
 
-module _ (S : ℕ) (T C : List ℕ) (n g : ℕ) (inside : n < 4096) (long : length C ≡ 25888) (few : groupsIn C ≤ 2048) (known : g < groupsIn C)
+module _ (S : ℕ) (T C : List ℕ) (n g : ℕ) (inside : n < 4096) (long : length C ≡ 21792) (few : groupsIn C ≤ 2048) (known : g < groupsIn C)
     (room : fillAt C g < 4) (own : classAt C g ≡ classOf (nodeIn S T n .spot)) (r : Grouped S T C n) where
   abbrev s : ℕ
   s = signOf (nodeIn S T n .prices)
@@ -390,26 +390,26 @@ module _ (S : ℕ) (T C : List ℕ) (n g : ℕ) (inside : n < 4096) (long : leng
   word-is = omega (arith, r .fills g known .1)
 
   -- a word that is none of the three
-  pub join-other : (i : ℕ) → (i ≡ 11552 + 4 * g + k → ⊥) → (i ≡ 19744 + g → ⊥) → (i ≡ 8192 + g → ⊥) → getD J i 0 ≡ getD C i 0
+  pub join-other : (i : ℕ) → (i ≡ 7456 + 4 * g + k → ⊥) → (i ≡ 15648 + g → ⊥) → (i ≡ 4096 + g → ⊥) → getD J i 0 ≡ getD C i 0
   unfolding joinedTo
   join-other i a b c =
       rw (place-is, word-is)
-      (getD-set-other (set (set C (11552 + 4 * g + k) s) (19744 + g) w) (8192 + g) i (wordAt C g + 65536) 0 c
-      ∙ getD-set-other (set C (11552 + 4 * g + k) s) (19744 + g) i w 0 b
-      ∙ getD-set-other C (11552 + 4 * g + k) i s 0 a)
+      (getD-set-other (set (set C (7456 + 4 * g + k) s) (15648 + g) w) (4096 + g) i (wordAt C g + 65536) 0 c
+      ∙ getD-set-other (set C (7456 + 4 * g + k) s) (15648 + g) i w 0 b
+      ∙ getD-set-other C (7456 + 4 * g + k) i s 0 a)
 
   join-word : wordAt J g ≡ wordAt C g + 65536
   unfolding joinedTo
   join-word =
       rw (place-is, word-is)
-      (getD-set-same (set (set C (11552 + 4 * g + k) s) (19744 + g) w) (8192 + g) (wordAt C g + 65536) 0 (simp length-set (omega arith)))
+      (getD-set-same (set (set C (7456 + 4 * g + k) s) (15648 + g) w) (4096 + g) (wordAt C g + 65536) 0 (simp length-set (omega arith)))
 
   join-nodes : nodesAt J g ≡ w
   unfolding joinedTo
   join-nodes =
       rw (place-is, word-is)
-      (getD-set-other (set (set C (11552 + 4 * g + k) s) (19744 + g) w) (8192 + g) (19744 + g) (wordAt C g + 65536) 0 (λ e. omega arith)
-      ∙ getD-set-same (set C (11552 + 4 * g + k) s) (19744 + g) w 0 (simp length-set (omega arith)))
+      (getD-set-other (set (set C (7456 + 4 * g + k) s) (15648 + g) w) (4096 + g) (15648 + g) (wordAt C g + 65536) 0 (λ e. omega arith)
+      ∙ getD-set-same (set C (7456 + 4 * g + k) s) (15648 + g) w 0 (simp length-set (omega arith)))
 
   join-entry : entryAt J g k ≡ n
   join-entry = ap (λ (x : ℕ). entryOf x k) join-nodes ∙ entry-here (nodesAt C g) k n room inside
@@ -418,19 +418,19 @@ module _ (S : ℕ) (T C : List ℕ) (n g : ℕ) (inside : n < 4096) (long : leng
   unfolding joinedTo
   join-shown =
       rw (place-is, word-is)
-      (getD-set-other (set (set C (11552 + 4 * g + k) s) (19744 + g) w) (8192 + g) (11552 + 4 * g + k) (wordAt C g + 65536) 0 (λ e. omega arith)
-      ∙ getD-set-other (set C (11552 + 4 * g + k) s) (19744 + g) (11552 + 4 * g + k) w 0 (λ e. omega arith)
-      ∙ getD-set-same C (11552 + 4 * g + k) s 0 (omega arith))
+      (getD-set-other (set (set C (7456 + 4 * g + k) s) (15648 + g) w) (4096 + g) (7456 + 4 * g + k) (wordAt C g + 65536) 0 (λ e. omega arith)
+      ∙ getD-set-other (set C (7456 + 4 * g + k) s) (15648 + g) (7456 + 4 * g + k) w 0 (λ e. omega arith)
+      ∙ getD-set-same C (7456 + 4 * g + k) s 0 (omega arith))
 
   pub join-length : length J ≡ length C
   unfolding joinedTo
   join-length = simp length-set
 
   -- before the words of groups nothing changed, nor between them and the entries' signatures
-  pub join-before : (i : ℕ) → i < 8192 → getD J i 0 ≡ getD C i 0
+  pub join-before : (i : ℕ) → i < 4096 → getD J i 0 ≡ getD C i 0
   join-before i l = join-other i (λ e. omega arith) (λ e. omega arith) (λ e. omega arith)
 
-  pub join-between : (i : ℕ) → 10240 ≤ i → i < 11552 → getD J i 0 ≡ getD C i 0
+  pub join-between : (i : ℕ) → 6144 ≤ i → i < 7456 → getD J i 0 ≡ getD C i 0
   join-between i a l = join-other i (λ e. omega arith) (λ e. omega arith) (λ e. omega arith)
 
   -- the group's word counts one entry more, and the link and the class stay
@@ -438,7 +438,7 @@ module _ (S : ℕ) (T C : List ℕ) (n g : ℕ) (inside : n < 4096) (long : leng
   fill-new = rw join-word (omega arith)
 
   word-kept : (f : ℕ) → f < 2048 → (f ≡ g → ⊥) → wordAt J f ≡ wordAt C f
-  word-kept f l d = join-other (8192 + f) (λ e. omega arith) (λ e. omega arith) (λ e. d (omega arith))
+  word-kept f l d = join-other (4096 + f) (λ e. omega arith) (λ e. omega arith) (λ e. d (omega arith))
 
   link-all : (f : ℕ) → f < 2048 → linkAt J f ≡ linkAt C f
   link-all f l = go (ℕ-discrete f g)
@@ -469,18 +469,18 @@ module _ (S : ℕ) (T C : List ℕ) (n g : ℕ) (inside : n < 4096) (long : leng
       go (no d) = omega (arith, word-kept f l d)
 
   groups-all : groupsIn J ≡ groupsIn C
-  groups-all = join-between 11264 (omega arith) (omega arith)
+  groups-all = join-between 7168 (omega arith) (omega arith)
 
   -- an entry that was there
   entry-kept : (f i : ℕ) → f < 2048 → i < 4 → (f ≡ g → i < k) → (entryAt J f i ≡ entryAt C f i) × (shownAt J f i ≡ shownAt C f i)
   entry-kept f i l b d = (
     go (ℕ-discrete f g),
-    join-other (11552 + 4 * f + i) (λ e. let q : f ≡ g = omega arith in omega (arith, d q)) (λ e. omega arith) (λ e. omega arith),
+    join-other (7456 + 4 * f + i) (λ e. let q : f ≡ g = omega arith in omega (arith, d q)) (λ e. omega arith) (λ e. omega arith),
   )
     where
       go : Dec (f ≡ g) → entryAt J f i ≡ entryAt C f i
       go (yes e) = rw e (ap (λ (x : ℕ). entryOf x i) join-nodes ∙ entry-before (nodesAt C g) i k n (d e) room)
-      go (no q) = ap (λ (x : ℕ). entryOf x i) (join-other (19744 + f) (λ e. omega arith) (λ e. q (omega arith)) (λ e. omega arith))
+      go (no q) = ap (λ (x : ℕ). entryOf x i) (join-other (15648 + f) (λ e. omega arith) (λ e. q (omega arith)) (λ e. omega arith))
 
   entries-new : (f i : ℕ) → f < groupsIn C → i < fillAt J f → Entry S T J (suc n) f i
   entries-new f i l b = go (ℕ-discrete f g) (ℕ-discrete i k)
@@ -540,9 +540,9 @@ module _ (S : ℕ) (T C : List ℕ) (n g : ℕ) (inside : n < 4096) (long : leng
       let h = classAt C g in
       let small : h < 1024 = r .fills g known .1 in
       let old : roomAt C h ≡ 4 - k = free-some C (headAt C h) g end in
-      let new : roomAt J h ≡ 4 - fillAt J g = free-some J (headAt J h) g (join-between (10240 + h) (omega arith) (omega arith) ∙ end) in
+      let new : roomAt J h ≡ 4 - fillAt J g = free-some J (headAt J h) g (join-between (6144 + h) (omega arith) (omega arith) ∙ end) in
       let sums = sum-change h (λ i. roomAt C i) (λ i. roomAt J i) 1024 small (λ i b d. free-same C J (headAt C i) (headAt J i)
-      (join-between (10240 + i) (omega arith) (omega arith))
+      (join-between (6144 + i) (omega arith) (omega arith))
       (λ f e. ap (λ (x : ℕ). x / 65536 % 8)
       (word-kept f (omega (arith, r .heads i b)) (λ q. d (sym (r .headed i f b e) ∙ ap (λ (x : ℕ). classAt C x) q))))) in
       omega (arith, groups-all, fill-new, r .counted)
@@ -557,10 +557,10 @@ module _ (S : ℕ) (T C : List ℕ) (n g : ℕ) (inside : n < 4096) (long : leng
     linked = λ f i l e. let b : f < groupsIn C = omega (arith, groups-all) in
         let q = sym (link-all f (omega arith)) ∙ e in
         class-all i (omega (arith, r .links f b)) ∙ r .linked f i b q ∙ sym (class-all f (omega arith));
-    heads = λ h b. omega (arith, groups-all, join-between (10240 + h) (omega arith) (omega arith), r .heads h b);
+    heads = λ h b. omega (arith, groups-all, join-between (6144 + h) (omega arith) (omega arith), r .heads h b);
     last = λ h f b a l e. let q : f < groupsIn C = omega (arith, groups-all) in
-        r .last h f b (omega (arith, join-between (10240 + h) (omega arith) (omega arith))) q (sym (class-all f (omega arith)) ∙ e);
-    headed = λ h f b e. let q = sym (join-between (10240 + h) (omega arith) (omega arith)) ∙ e in class-all f (omega (arith, r .heads h b)) ∙ r .headed h f b q;
+        r .last h f b (omega (arith, join-between (6144 + h) (omega arith) (omega arith))) q (sym (class-all f (omega arith)) ∙ e);
+    headed = λ h f b e. let q = sym (join-between (6144 + h) (omega arith) (omega arith)) ∙ e in class-all f (omega (arith, r .heads h b)) ∙ r .headed h f b q;
     entries = λ f i l. entries-new f i (omega (arith, groups-all));
     placed = placed-new;
     counted = counted-join end;

@@ -17,14 +17,14 @@ use Rattle.rows.specs.Sign.{classOf, signOf}
 use Rattle.rows.specs.Sign.Laws.{class-lt}
 use Rattle.nodes.specs.Block.{blockWords, upperWords, Blocked, freshTo, loweredTo, retiredTo}
 use Rattle.nodes.specs.Block.Laws.{under-same, under-lowered, blocked-none, fresh-length, fresh-other, fresh-block, drop-same, lowered-length, lowered-other, lowered-here, retired-length, retired-key, retired-behind, blocked-retire}
-use Rattle.nodes.specs.Chain.{signAt, headAt, groupsIn, wordAt, classAt, fillAt, nodesAt, slotOf, hasRoom, groupFor, withGroup, openedTo, withEntry, joinedTo, blockedTo, linkedTo, Grouped, Chained, Recalled}
+use Rattle.nodes.specs.Chain.{headAt, groupsIn, wordAt, classAt, fillAt, nodesAt, slotOf, hasRoom, groupFor, withGroup, openedTo, withEntry, joinedTo, blockedTo, linkedTo, Grouped, Chained, Recalled}
 use Rattle.nodes.specs.Chain.Groups.{room-some, room-head, group-last, group-new, SameGroups, grouped-none, grouped-words, grouped-same, open-other, open-groups, open-head, open-word, open-length, word-old, grouped-open, join-length, join-before, join-between, started-join, grouped-join}
 use Rattle.nodes.specs.Chain.Room.{free-full, groups-few}
 
 -- ---- chains
 
 -- no node
-pub chained-none : (S : ℕ) (T C : List ℕ) → length C ≡ 25888 → ((h : ℕ) → h < 1025 → headAt C h ≡ 0) → ((b : ℕ) → b < 272 → getD C (11280 + b) 0 ≡ mark)
+pub chained-none : (S : ℕ) (T C : List ℕ) → length C ≡ 21792 → ((h : ℕ) → h < 1025 → headAt C h ≡ 0) → ((b : ℕ) → b < 272 → getD C (7184 + b) 0 ≡ mark)
     → Chained S T C 0
 chained-none S T C l z m = record {
   long = l;
@@ -36,21 +36,21 @@ chained-none S T C l z m = record {
 }
 
 -- no node, after all block words are set to the mark
-pub chained-fresh : (S : ℕ) (T C : List ℕ) → length C ≡ 25888 → ((h : ℕ) → h < 1025 → headAt C h ≡ 0) → Chained S T (freshTo C 272) 0
+pub chained-fresh : (S : ℕ) (T C : List ℕ) → length C ≡ 21792 → ((h : ℕ) → h < 1025 → headAt C h ≡ 0) → Chained S T (freshTo C 272) 0
 chained-fresh S T C l z =
-    chained-none S T (freshTo C 272) (fresh-length C 272 ∙ l) (λ h b. fresh-other C 272 (10240 + h) (omega arith) ∙ z h b)
+    chained-none S T (freshTo C 272) (fresh-length C 272 ∙ l) (λ h b. fresh-other C 272 (6144 + h) (omega arith) ∙ z h b)
     (λ b k. fresh-block C 272 b (omega arith) k)
 
--- signatures and groups are the same, and the block words are right
-chained-words : (S : ℕ) (T C C′ : List ℕ) (n : ℕ) → n ≤ 4096 → length C′ ≡ length C → ((i : ℕ) → 4096 ≤ i → i < 11280 → getD C′ i 0 ≡ getD C i 0)
-    → ((i : ℕ) → 11552 ≤ i → i < 21792 → getD C′ i 0 ≡ getD C i 0) → Blocked C′ n → Chained S T C n → Chained S T C′ n
+-- groups are the same, and the block words are right
+chained-words : (S : ℕ) (T C C′ : List ℕ) (n : ℕ) → n ≤ 4096 → length C′ ≡ length C → ((i : ℕ) → 4096 ≤ i → i < 7184 → getD C′ i 0 ≡ getD C i 0)
+    → ((i : ℕ) → 7456 ≤ i → i < 17696 → getD C′ i 0 ≡ getD C i 0) → Blocked C′ n → Chained S T C n → Chained S T C′ n
 chained-words S T C C′ n few l s f k r = record {
   long = l ∙ r .long;
-  signs = λ u h. s (4096 + u) (omega arith) (omega arith) ∙ r .signs u h;
+  signs = r .signs;
   grouped =
       grouped-words S T C C′ n (omega (arith, groups-few S T C n few r)) (record { chains = λ i a. s i (omega arith); members = f }) (r .grouped);
-  started = λ g b. let known : g < groupsIn C = omega (arith, s 11264 (omega arith) (omega arith)) in
-      omega (arith, s (8192 + g) (omega arith) (omega (arith, groups-few S T C n few r)), r .started g known);
+  started = λ g b. let known : g < groupsIn C = omega (arith, s 7168 (omega arith) (omega arith)) in
+      omega (arith, s (4096 + g) (omega arith) (omega (arith, groups-few S T C n few r)), r .started g known);
   blocks = k;
   packed = r .packed;
 }
@@ -72,20 +72,20 @@ recalled-none C = record { long = refl; same = λ i l. refl }
 pub recalled-both : (C D E : List ℕ) → Recalled C D → Recalled D E → Recalled C E
 recalled-both C D E r s = record { long = s .long ∙ r .long; same = λ i l. s .same i l ∙ r .same i l }
 
--- one recent word is stored, or one of the list
-pub recalled-set : (C : List ℕ) (i v : ℕ) → 21792 ≤ i → Recalled C (set C i v)
+-- one recent word is stored
+pub recalled-set : (C : List ℕ) (i v : ℕ) → 17696 ≤ i → Recalled C (set C i v)
 recalled-set C i v h = record { long = length-set C i v; same = λ k l. getD-set-other C i k v 0 (λ e. omega arith) }
 
 -- the block words do not go by recent words
 pub blocked-recalled : (C D : List ℕ) (n : ℕ) → n ≤ 4096 → Recalled C D → Blocked C n → Blocked D n
 blocked-recalled C D n few k r = record {
-  keys = under-same C (blockWords C) D (blockWords D) 256 n (omega arith) (λ u l. k .same u (omega arith)) (λ b l. word 11280 b (omega arith)) (r .keys);
+  keys = under-same C (blockWords C) D (blockWords D) 256 n (omega arith) (λ u l. k .same u (omega arith)) (λ b l. word 7184 b (omega arith)) (r .keys);
   words =
-      under-same (blockWords C) (upperWords C) (blockWords D) (upperWords D) 16 256 (omega arith) (λ b l. word 11280 b (omega arith))
-      (λ g l. word 11536 g (omega arith)) (r .words);
+      under-same (blockWords C) (upperWords C) (blockWords D) (upperWords D) 16 256 (omega arith) (λ b l. word 7184 b (omega arith))
+      (λ g l. word 7440 g (omega arith)) (r .words);
 }
   where
-    word : (at b : ℕ) → at + b < 21792 → getD (drop at D) b 0 ≡ getD (drop at C) b 0
+    word : (at b : ℕ) → at + b < 17696 → getD (drop at D) b 0 ≡ getD (drop at C) b 0
     word at b l = drop-same C D at b (k .same (at + b) l)
 
 -- nor do the chains
@@ -104,93 +104,84 @@ slot-lt h s = omega arith
 pub chained-same : (S : ℕ) (T T′ C : List ℕ) (n : ℕ) → ((u : ℕ) → u < n → rowIn S T′ u ≡ rowIn S T u) → Chained S T C n → Chained S T′ C n
 chained-same S T T′ C n s r = record {
   long = r .long;
-  signs = λ u h. r .signs u h ∙ ap (λ (row : List ℕ). signOf (nodeOf S row .prices)) (sym (s u h));
+  signs = λ u h. rw (s u h) (r .signs u h);
   grouped = grouped-same S T T′ C n s (r .grouped);
   started = r .started;
   blocks = r .blocks;
   packed = λ u h. rw (s u h) (r .packed u h);
 }
 
--- ---- a node's key and signature are stored
+-- ---- a node's key is stored
 
-module _ (C : List ℕ) (n key s : ℕ) where
+module _ (C : List ℕ) (n key : ℕ) where
   abbrev stored : List ℕ
-  stored = set (set C n key) (4096 + n) s
+  stored = set C n key
 
   abbrev half : List ℕ
-  half = loweredTo stored (11280 + n / 16) key
+  half = loweredTo stored (7184 + n / 16) key
 
   abbrev B : List ℕ
-  B = blockedTo C n key s
+  B = blockedTo C n key
 
   half-length : length half ≡ length C
-  half-length = lowered-length stored (11280 + n / 16) key ∙ simp length-set
+  half-length = lowered-length stored (7184 + n / 16) key ∙ simp length-set
 
   -- the scan words stay as many
   pub block-length : length B ≡ length C
   unfolding blockedTo
-  block-length = lowered-length half (11536 + n / 16 / 16) key ∙ half-length
+  block-length = lowered-length half (7440 + n / 16 / 16) key ∙ half-length
 
-  -- but for the key, the signature, its block's word and the upper word they are the same
-  block-but : (i : ℕ) → (i ≡ 11280 + n / 16 → ⊥) → (i ≡ 11536 + n / 16 / 16 → ⊥) → getD B i 0 ≡ getD stored i 0
+  -- but for the key, its block's word and the upper word they are the same
+  block-but : (i : ℕ) → (i ≡ 7184 + n / 16 → ⊥) → (i ≡ 7440 + n / 16 / 16 → ⊥) → getD B i 0 ≡ getD stored i 0
   unfolding blockedTo
-  block-but i d f = lowered-other half (11536 + n / 16 / 16) key i f ∙ lowered-other stored (11280 + n / 16) key i d
+  block-but i d f = lowered-other half (7440 + n / 16 / 16) key i f ∙ lowered-other stored (7184 + n / 16) key i d
 
   -- of the open keys only the node's is stored
   pub block-key : (u : ℕ) → u < 4096 → getD B u 0 ≡ getD (set C n key) u 0
-  block-key u b = block-but u (λ e. omega arith) (λ e. omega arith) ∙ getD-set-other (set C n key) (4096 + n) u s 0 (λ e. omega arith)
+  block-key u b = block-but u (λ e. omega arith) (λ e. omega arith)
 
-  module _ (long : length C ≡ 25888) (few : n < 4096) where
-    block-old : (i : ℕ) → 4096 ≤ i → (i ≡ 4096 + n → ⊥) → (i ≡ 11280 + n / 16 → ⊥) → (i ≡ 11536 + n / 16 / 16 → ⊥) → getD B i 0 ≡ getD C i 0
-    block-old i b a d f =
-        block-but i d f ∙ getD-set-other (set C n key) (4096 + n) i s 0 a ∙ getD-set-other C n i key 0 (λ e. omega arith)
-
-    -- the node's signature, and those of the nodes before it
-    block-sign : signAt B n ≡ s
-    block-sign = block-but (4096 + n) (λ e. omega arith) (λ e. omega arith) ∙ getD-set-same (set C n key) (4096 + n) s 0 (simp length-set (omega arith))
-
-    sign-old : (u : ℕ) → u < n → signAt B u ≡ signAt C u
-    sign-old u l = block-old (4096 + u) (omega arith) (λ e. omega arith) (λ e. omega arith) (λ e. omega arith)
+  module _ (long : length C ≡ 21792) (few : n < 4096) where
+    block-old : (i : ℕ) → 4096 ≤ i → (i ≡ 7184 + n / 16 → ⊥) → (i ≡ 7440 + n / 16 / 16 → ⊥) → getD B i 0 ≡ getD C i 0
+    block-old i b d f = block-but i d f ∙ getD-set-other C n i key 0 (λ e. omega arith)
 
     -- groups are as they were
     same-groups : SameGroups C B
     same-groups = record {
-      chains = λ i a b. block-old i (omega arith) (λ e. omega arith) (λ e. omega arith) (λ e. omega arith);
-      members = λ i a b. block-old i (omega arith) (λ e. omega arith) (λ e. omega arith) (λ e. omega arith);
+      chains = λ i a b. block-old i (omega arith) (λ e. omega arith) (λ e. omega arith);
+      members = λ i a b. block-old i (omega arith) (λ e. omega arith) (λ e. omega arith);
     }
 
     -- the other words of blocks and upper words, as those from a place on
-    block-at : (at b : ℕ) → 11280 ≤ at → at + b < 11552 → (at + b ≡ 11280 + n / 16 → ⊥) → (at + b ≡ 11536 + n / 16 / 16 → ⊥)
+    block-at : (at b : ℕ) → 7184 ≤ at → at + b < 7456 → (at + b ≡ 7184 + n / 16 → ⊥) → (at + b ≡ 7440 + n / 16 / 16 → ⊥)
         → getD (drop at B) b 0 ≡ getD (drop at C) b 0
-    block-at at b l i d f = drop-same C B at b (block-old (at + b) (omega arith) (λ e. omega arith) d f)
+    block-at at b l i d f = drop-same C B at b (block-old (at + b) (omega arith) d f)
 
     -- so the words of the other blocks
     block-words : (b : ℕ) → b < 256 → (b ≡ n / 16 → ⊥) → getD (blockWords B) b 0 ≡ getD (blockWords C) b 0
-    block-words b l d = block-at 11280 b (omega arith) (omega arith) (λ e. d (omega arith)) (λ e. omega arith)
+    block-words b l d = block-at 7184 b (omega arith) (omega arith) (λ e. d (omega arith)) (λ e. omega arith)
 
     -- a word from the block words on, before it is lowered
-    stored-word : (at b : ℕ) → 11280 ≤ at → getD stored (at + b) 0 ≡ getD (drop at C) b 0
+    stored-word : (at b : ℕ) → 7184 ≤ at → getD stored (at + b) 0 ≡ getD (drop at C) b 0
     stored-word at b l =
-        getD-set-other (set C n key) (4096 + n) (at + b) s 0 (λ e. omega arith) ∙ getD-set-other C n (at + b) key 0 (λ e. omega arith)
-        ∙ sym (getD-drop at C b 0)
+        getD-set-other C n (at + b) key 0 (λ e. omega arith) ∙ sym (getD-drop at C b 0)
 
     -- the word of its block
     block-word : getD (blockWords B) (n / 16) 0 ≡ min (getD (blockWords C) (n / 16) 0) key
     unfolding blockedTo
     block-word =
-        getD-drop 11280 B (n / 16) 0
-        ∙ lowered-other half (11536 + n / 16 / 16) key (11280 + n / 16) (λ e. omega arith)
-        ∙ lowered-here stored (11280 + n / 16) key (simp length-set (omega arith))
-        ∙ ap (λ (i : ℕ). min i key) (stored-word 11280 (n / 16) (omega arith))
+        getD-drop 7184 B (n / 16) 0
+        ∙ lowered-other half (7440 + n / 16 / 16) key (7184 + n / 16) (λ e. omega arith)
+        ∙ lowered-here stored (7184 + n / 16) key (simp length-set (omega arith))
+        ∙ ap (λ (i : ℕ). min i key) (stored-word 7184 (n / 16) (omega arith))
 
     -- the upper word
     block-upper : getD (upperWords B) (n / 16 / 16) 0 ≡ min (getD (upperWords C) (n / 16 / 16) 0) key
     unfolding blockedTo
     block-upper =
-        getD-drop 11536 B (n / 16 / 16) 0
-        ∙ lowered-here half (11536 + n / 16 / 16) key (omega (arith, half-length))
+        getD-drop 7440 B (n / 16 / 16) 0
+        ∙ lowered-here half (7440 + n / 16 / 16) key (omega (arith, half-length))
         ∙ ap (λ (i : ℕ). min i key)
-        (lowered-other stored (11280 + n / 16) key (11536 + n / 16 / 16) (λ e. omega arith) ∙ stored-word 11536 (n / 16 / 16) (omega arith))
+        (lowered-other stored (7184 + n / 16) key (7440 + n / 16 / 16) (λ e. omega arith) ∙ stored-word 7440 (n / 16 / 16) (omega arith))
 
     -- the open keys of the nodes before it, and its own
     key-old : (u : ℕ) → u < n → getD B u 0 ≡ getD C u 0
@@ -208,7 +199,7 @@ module _ (C : List ℕ) (n key s : ℕ) where
           (r .keys) key (omega arith) block-word (λ l. absurd (omega arith)) (λ _. key-new);
       words =
           under-lowered (blockWords C) (upperWords C) (blockWords B) (upperWords B) 16 256 256 (n / 16)
-          (record { keys = block-words; words = λ g l d. block-at 11536 g (omega arith) (omega arith) (λ e. omega arith) (λ e. d (omega arith)); old = λ u l d. l; kept = omega arith; few = omega arith })
+          (record { keys = block-words; words = λ g l d. block-at 7440 g (omega arith) (omega arith) (λ e. omega arith) (λ e. d (omega arith)); old = λ u l d. l; kept = omega arith; few = omega arith })
           (r .words) key (omega arith) block-upper (λ _. block-word) (λ l. absurd (omega arith));
     }
 
@@ -217,8 +208,8 @@ module _ (C : List ℕ) (n key s : ℕ) where
 -- a group for the next node of class h is there, and has room
 pub record Ready (S : ℕ) (T C : List ℕ) (n h : ℕ) (D : List ℕ) (g : ℕ) : Type 0 where
   pub kept : length D ≡ length C
-  pub same : (i : ℕ) → i < 8192 → getD D i 0 ≡ getD C i 0
-  pub words : (i : ℕ) → 11280 ≤ i → i < 11552 → getD D i 0 ≡ getD C i 0
+  pub same : (i : ℕ) → i < 4096 → getD D i 0 ≡ getD C i 0
+  pub words : (i : ℕ) → 7184 ≤ i → i < 7456 → getD D i 0 ≡ getD C i 0
   pub few : groupsIn D ≤ groupsIn C + 1
   pub known : g < groupsIn D
   pub room : fillAt D g < 4
@@ -227,7 +218,7 @@ pub record Ready (S : ℕ) (T C : List ℕ) (n h : ℕ) (D : List ℕ) (g : ℕ)
   pub others : (f : ℕ) → f < groupsIn D → (f ≡ g → ⊥) → 0 < fillAt D f
   pub grouped : Grouped S T D n
 
-module _ (S : ℕ) (T C : List ℕ) (n h : ℕ) (long : length C ≡ 25888) (few : groupsIn C < 2048) (small : h < 1024) (r : Grouped S T C n)
+module _ (S : ℕ) (T C : List ℕ) (n h : ℕ) (long : length C ≡ 21792) (few : groupsIn C < 2048) (small : h < 1024) (r : Grouped S T C n)
     (started : (f : ℕ) → f < groupsIn C → 0 < fillAt C f) where
   -- it is the last of the class
   ready-last : hasRoom C (headAt C h) ≡ true → Ready S T C n h C ((headAt C h - 1) % 2048)
@@ -282,9 +273,9 @@ module _ (S : ℕ) (T C : List ℕ) (n h : ℕ) (long : length C ≡ 25888) (few
 group-key : (C : List ℕ) (h g u : ℕ) → u < 4096 → getD (withGroup C h g) u 0 ≡ getD C u 0
 unfolding withGroup
 group-key C h g u b =
-    getD-set-other (set (set C (8192 + g) (h * 8 * 65536 + headAt C h % 65536)) (10240 + h) (g + 1)) 11264 u (g + 1) 0 (λ e. omega arith)
-    ∙ getD-set-other (set C (8192 + g) (h * 8 * 65536 + headAt C h % 65536)) (10240 + h) u (g + 1) 0 (λ e. omega arith)
-    ∙ getD-set-other C (8192 + g) u (h * 8 * 65536 + headAt C h % 65536) 0 (λ e. omega arith)
+    getD-set-other (set (set C (4096 + g) (h * 8 * 65536 + headAt C h % 65536)) (6144 + h) (g + 1)) 7168 u (g + 1) 0 (λ e. omega arith)
+    ∙ getD-set-other (set C (4096 + g) (h * 8 * 65536 + headAt C h % 65536)) (6144 + h) u (g + 1) 0 (λ e. omega arith)
+    ∙ getD-set-other C (4096 + g) u (h * 8 * 65536 + headAt C h % 65536) 0 (λ e. omega arith)
 
 opened-key : (C : List ℕ) (h u : ℕ) → u < 4096 → getD (openedTo C h) u 0 ≡ getD C u 0
 opened-key C h u b = go (test-cases (hasRoom C (headAt C h)))
@@ -296,17 +287,18 @@ opened-key C h u b = go (test-cases (hasRoom C (headAt C h)))
 joined-key : (C : List ℕ) (g n s u : ℕ) → u < 4096 → getD (joinedTo C g n s) u 0 ≡ getD C u 0
 unfolding joinedTo
 joined-key C g n s u b =
-    getD-set-other (set (set C (11552 + 4 * g + wordAt C g / 65536 % 4) s) (19744 + g) (withEntry (nodesAt C g) (wordAt C g / 65536 % 4) n)) (8192 + g) u (wordAt C g % 4294967296 + 65536) 0 (λ e. omega arith)
-    ∙ getD-set-other (set C (11552 + 4 * g + wordAt C g / 65536 % 4) s) (19744 + g) u (withEntry (nodesAt C g) (wordAt C g / 65536 % 4) n) 0 (λ e. omega arith)
-    ∙ getD-set-other C (11552 + 4 * g + wordAt C g / 65536 % 4) u s 0 (λ e. omega arith)
+    getD-set-other (set (set C (7456 + 4 * g + wordAt C g / 65536 % 4) s) (15648 + g) (withEntry (nodesAt C g) (wordAt C g / 65536 % 4) n)) (4096 + g) u (wordAt C g % 4294967296 + 65536) 0 (λ e. omega arith)
+    ∙ getD-set-other (set C (7456 + 4 * g + wordAt C g / 65536 % 4) s) (15648 + g) u (withEntry (nodesAt C g) (wordAt C g / 65536 % 4) n) 0 (λ e. omega arith)
+    ∙ getD-set-other C (7456 + 4 * g + wordAt C g / 65536 % 4) u s 0 (λ e. omega arith)
 
 -- of the open keys only the node's is stored
 pub linked-key : (C : List ℕ) (n key s h u : ℕ) → u < 4096 → getD (linkedTo C n key s h) u 0 ≡ getD (set C n key) u 0
 unfolding linkedTo
-linked-key C n key s h u b = joined-key (openedTo (blockedTo C n key s) h) (groupFor (blockedTo C n key s) h) n s u b ∙ opened-key (blockedTo C n key s) h u b ∙ block-key C n key s u b
+linked-key C n key s h u b = joined-key (openedTo (blockedTo C n key) h) (groupFor (blockedTo C n key) h) n s u b ∙ opened-key (blockedTo C n key) h u b ∙ block-key C n key u b
 
 -- node n of the table is linked behind the first n
-module _ (S : ℕ) (T C : List ℕ) (n key : ℕ) (few : n < 4096) (own : Packed (rowIn S T n)) (r : Chained S T C n) where
+module _ (S : ℕ) (T C : List ℕ) (n key : ℕ) (few : n < 4096) (own : Packed (rowIn S T n)) (signed : getD (rowIn S T n) 39 0 ≡ signOf (nodeIn S T n .prices))
+    (r : Chained S T C n) where
   abbrev sign : ℕ
   sign = signOf (nodeIn S T n .prices)
 
@@ -314,13 +306,13 @@ module _ (S : ℕ) (T C : List ℕ) (n key : ℕ) (few : n < 4096) (own : Packed
   class = classOf (nodeIn S T n .spot)
 
   abbrev mid : List ℕ
-  mid = blockedTo C n key sign
+  mid = blockedTo C n key
 
-  mid-long : length mid ≡ 25888
-  mid-long = block-length C n key sign ∙ r .long
+  mid-long : length mid ≡ 21792
+  mid-long = block-length C n key ∙ r .long
 
   mid-groups : groupsIn mid ≡ groupsIn C
-  mid-groups = same-groups C n key sign (r .long) few .chains 11264 (omega arith) (omega arith)
+  mid-groups = same-groups C n key (r .long) few .chains 7168 (omega arith) (omega arith)
 
   few-old : groupsIn C ≤ 1792
   few-old = groups-few S T C n (omega arith) r
@@ -328,9 +320,9 @@ module _ (S : ℕ) (T C : List ℕ) (n key : ℕ) (few : n < 4096) (own : Packed
   got : Ready S T mid n class (openedTo mid class) (groupFor mid class)
   got =
       ready S T mid n class mid-long (omega (arith, mid-groups, few-old)) (class-lt (nodeIn S T n .spot))
-      (grouped-words S T C mid n (omega (arith, few-old)) (same-groups C n key sign (r .long) few) (r .grouped))
+      (grouped-words S T C mid n (omega (arith, few-old)) (same-groups C n key (r .long) few) (r .grouped))
       (λ f l. let b : f < groupsIn C = omega (arith, mid-groups) in
-      omega (arith, same-groups C n key sign (r .long) few .chains (8192 + f) (omega arith) (omega (arith, few-old)), r .started f b))
+      omega (arith, same-groups C n key (r .long) few .chains (4096 + f) (omega arith) (omega (arith, few-old)), r .started f b))
 
   abbrev E : List ℕ
   E = openedTo mid class
@@ -338,43 +330,43 @@ module _ (S : ℕ) (T C : List ℕ) (n key : ℕ) (few : n < 4096) (own : Packed
   abbrev g : ℕ
   g = groupFor mid class
 
-  E-long : length E ≡ 25888
+  E-long : length E ≡ 21792
   E-long = got .kept ∙ mid-long
 
   E-few : groupsIn E ≤ 1793
   E-few = omega (arith, got .few, mid-groups, few-old)
 
   -- a word before the groups
-  word-same : (i : ℕ) → i < 8192 → getD (linkedTo C n key sign class) i 0 ≡ getD mid i 0
+  word-same : (i : ℕ) → i < 4096 → getD (linkedTo C n key sign class) i 0 ≡ getD mid i 0
   unfolding linkedTo
   word-same i l =
       join-before S T E n g few E-long (omega (arith, E-few)) (got .known) (got .room) (got .own) (got .grouped) i (omega arith) ∙ got .same i l
 
   -- a block word or an upper word
-  block-same : (i : ℕ) → 11280 ≤ i → i < 11552 → getD (linkedTo C n key sign class) i 0 ≡ getD mid i 0
+  block-same : (i : ℕ) → 7184 ≤ i → i < 7456 → getD (linkedTo C n key sign class) i 0 ≡ getD mid i 0
   unfolding linkedTo
   block-same i a l =
       join-between S T E n g few E-long (omega (arith, E-few)) (got .known) (got .room) (got .own) (got .grouped) i (omega arith) l ∙ got .words i a l
 
-  signs-more : (u : ℕ) → u < suc n → signAt (linkedTo C n key sign class) u ≡ signOf (nodeIn S T u .prices)
-  signs-more u b = word-same (4096 + u) (omega arith) ∙ go (below-cases b)
+  signs-more : (u : ℕ) → u < suc n → getD (rowIn S T u) 39 0 ≡ signOf (nodeIn S T u .prices)
+  signs-more u b = go (below-cases b)
     where
-      go : (u < n) ⊎ (u ≡ n) → signAt mid u ≡ signOf (nodeIn S T u .prices)
-      go (inl l) = sign-old C n key sign (r .long) few u l ∙ r .signs u l
-      go (inr e) = rw e (block-sign C n key sign (r .long) few)
+      go : (u < n) ⊎ (u ≡ n) → getD (rowIn S T u) 39 0 ≡ signOf (nodeIn S T u .prices)
+      go (inl l) = r .signs u l
+      go (inr e) = rw e signed
 
   blocks-more : Blocked (linkedTo C n key sign class) (suc n)
   blocks-more =
-      let k = blocked-link C n key sign (r .long) few (r .blocks) in
+      let k = blocked-link C n key (r .long) few (r .blocks) in
       let D = linkedTo C n key sign class in
       record {
-        keys = under-same mid (blockWords mid) D (blockWords D) 256 (suc n) (omega arith) (λ u l. word-same u (omega arith)) (λ b l. word 11280 b (omega arith) (omega arith)) (k .keys);
+        keys = under-same mid (blockWords mid) D (blockWords D) 256 (suc n) (omega arith) (λ u l. word-same u (omega arith)) (λ b l. word 7184 b (omega arith) (omega arith)) (k .keys);
         words =
-            under-same (blockWords mid) (upperWords mid) (blockWords D) (upperWords D) 16 256 (omega arith) (λ b l. word 11280 b (omega arith) (omega arith))
-            (λ b l. word 11536 b (omega arith) (omega arith)) (k .words);
+            under-same (blockWords mid) (upperWords mid) (blockWords D) (upperWords D) 16 256 (omega arith) (λ b l. word 7184 b (omega arith) (omega arith))
+            (λ b l. word 7440 b (omega arith) (omega arith)) (k .words);
       }
     where
-      word : (at b : ℕ) → 11280 ≤ at → at + b < 11552 → getD (drop at (linkedTo C n key sign class)) b 0 ≡ getD (drop at mid) b 0
+      word : (at b : ℕ) → 7184 ≤ at → at + b < 7456 → getD (drop at (linkedTo C n key sign class)) b 0 ≡ getD (drop at mid) b 0
       word at b a l = drop-same mid (linkedTo C n key sign class) at b (block-same (at + b) (omega arith) l)
 
   packed-more : (u : ℕ) → u < suc n → Packed (rowIn S T u)
@@ -397,8 +389,10 @@ module _ (S : ℕ) (T C : List ℕ) (n key : ℕ) (few : n < 4096) (own : Packed
     packed = packed-more;
   }
 
--- node n, of centre state c and prices P, is linked; its row has its packs, and the table's rows before it are the same
+-- node n, of centre state c and prices P, is linked; its row has its packs and its signature, and the table's rows before it are the same
 pub chained-more : (S : ℕ) (T T′ C : List ℕ) (n key : ℕ) (c : Centre) (P : List ℕ) → n < 4096 → ((u : ℕ) → u < n → rowIn S T′ u ≡ rowIn S T u)
-    → nodeIn S T′ n .spot ≡ c → nodeIn S T′ n .prices ≡ P → Packed (rowIn S T′ n) → Chained S T C n
+    → nodeIn S T′ n .spot ≡ c → nodeIn S T′ n .prices ≡ P → Packed (rowIn S T′ n)
+    → getD (rowIn S T′ n) 39 0 ≡ signOf P → Chained S T C n
     → Chained S T′ (linkedTo C n key (signOf P) (classOf c)) (suc n)
-chained-more S T T′ C n key c P few same p q own r = rw (← p, ← q) (chained-link S T′ C n key few own (chained-same S T T′ C n same r))
+chained-more S T T′ C n key c P few same p q own signed r =
+    rw (← p, ← q) (chained-link S T′ C n key few own (signed ∙ ap signOf (sym q)) (chained-same S T T′ C n same r))

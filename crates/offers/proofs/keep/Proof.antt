@@ -39,6 +39,14 @@ mul-at c = search needs
 add-end : tie.Need-add-end
 add-end c = search needs
 
+slice-aggregate-sign-behind : tie.Need-slice-aggregate-sign-behind
+slice-aggregate-sign-behind c =
+    let s = c .before .before .before .before .before .before .before in
+    sym (length-take-le (S s) (now (s .args .prices)) (s .pre .0 .0 .fits))
+
+sign-behind-requires : tie.Need-sign-behind-requires
+sign-behind-requires c κs = search needs
+
 mul-write-row : tie.Need-mul-write-row
 mul-write-row c = search needs
 
@@ -53,14 +61,6 @@ part-write-row-end c = search needs
 
 write-row-requires : tie.Need-write-row-requires
 write-row-requires c κs = search needs
-
-slice-aggregate-sign-behind : tie.Need-slice-aggregate-sign-behind
-slice-aggregate-sign-behind c =
-    let s = c .before .before .before .before .before .before .before .before .before .before .before in
-    sym (length-take-le (S s) (now (s .args .prices)) (s .pre .0 .0 .fits))
-
-sign-behind-requires : tie.Need-sign-behind-requires
-sign-behind-requires c κs = search needs
 
 link-requires : tie.Need-link-requires
 link-requires c κs =
@@ -84,11 +84,11 @@ same-length-2 c = search needs
 
 returns : tie.Need-returns
 returns c =
-    let w = c .before .before .before .before .before .before .before .before .before .before .before in
-    let s = w .before .before .before .before .before .before .before .before in
+    let w = c .before .before .before .before .before .before .before .before .before in
+    let s = w .before .before .before .before .before .before .before .before .before .before in
     kept-best (S s) (now (s .args .table)) (now (s .args .scan)) (s .args .run) (node s) (s .args .key) (cost s) (w .write-row .last .0) _
-    (omega arith) (omega arith) (w .write-row .ensures .0) (w .write-row .ensures .1) (s .pre .1 .0 .1) (c .before .before .before .before .before .link .last .0) (c .before .before .before .before .before .before .before .sign-behind .result) (s .args .class)
-    (c .before .before .before .before .before .before .before .sign-behind .ensures) (s .pre .1 .1 .1) (c .before .before .before .before .before .link .ensures)
+    (omega arith) (omega arith) (w .write-row .ensures .0) (w .write-row .ensures .1) (s .pre .1 .0 .1) (c .before .before .before .before .before .link .last .0) (c .before .before .before .before .before .before .before .before .before .before .before .sign-behind .result) (s .args .class)
+    (w .write-row .ensures .2) (c .before .before .before .before .before .before .before .before .before .before .before .sign-behind .ensures) (s .pre .1 .1 .1) (c .before .before .before .before .before .link .ensures)
     (c .before .before .goal-cost .result) (c .before .before .goal-cost .ensures) (c .if1 .taken)
 
 add-t27 : tie.Need-add-t27
@@ -102,11 +102,11 @@ same-length-4 c = search needs
 
 returns-2 : tie.Need-returns-2
 returns-2 c =
-    let w = c .before .before .before .before .before .before .before .before .before .before .before in
-    let s = w .before .before .before .before .before .before .before .before in
+    let w = c .before .before .before .before .before .before .before .before .before in
+    let s = w .before .before .before .before .before .before .before .before .before .before in
     kept-other (S s) (now (s .args .table)) (now (s .args .scan)) (s .args .run) (node s) (s .args .key) (cost s) (w .write-row .last .0) _
-    (omega arith) (omega arith) (w .write-row .ensures .0) (w .write-row .ensures .1) (s .pre .1 .0 .1) (c .before .before .before .before .before .link .last .0) (c .before .before .before .before .before .before .before .sign-behind .result) (s .args .class)
-    (c .before .before .before .before .before .before .before .sign-behind .ensures) (s .pre .1 .1 .1) (c .before .before .before .before .before .link .ensures)
+    (omega arith) (omega arith) (w .write-row .ensures .0) (w .write-row .ensures .1) (s .pre .1 .0 .1) (c .before .before .before .before .before .link .last .0) (c .before .before .before .before .before .before .before .before .before .before .before .sign-behind .result) (s .args .class)
+    (w .write-row .ensures .2) (c .before .before .before .before .before .before .before .before .before .before .before .sign-behind .ensures) (s .pre .1 .1 .1) (c .before .before .before .before .before .link .ensures)
     (c .before .before .goal-cost .result) (c .before .before .goal-cost .ensures) (c .if1 .left)
 
 pub keep-spec : {M : Type 1} → statement M
@@ -118,13 +118,13 @@ keep-spec =
     add-wide
     mul-at
     add-end
+    slice-aggregate-sign-behind
+    sign-behind-requires
     mul-write-row
     sub-write-row
     part-write-row-start
     part-write-row-end
     write-row-requires
-    slice-aggregate-sign-behind
-    sign-behind-requires
     link-requires
     goal-cost-requires
     add-t37

@@ -32,7 +32,7 @@ use Rattle.search.specs.Small.{made-key, made-goal}
 use Rattle.search.specs.Explore.{nodeAt, belowBest, bestWith, keep}
 use Rattle.search.specs.Explore.Laws.{Base}
 use Rattle.rows.specs.Row.{spotOf, nodeOf, nodeIn, nodesIn, Packed}
-use Rattle.rows.specs.Row.Laws.{row-lent, row-kept, row-written, nodesIn-length, nodesIn-at}
+use Rattle.rows.specs.Row.Laws.{row-lent, row-word, row-kept, row-written, nodesIn-length, nodesIn-at}
 use Rattle.rows.specs.Scan.{Cut, partBy, goalsBy, keyBy, goalSumBy, goalCostBy}
 use Rattle.rows.specs.Sign.{signOf, classOf}
 use Rattle.nodes.specs.Chain.{linkedTo, Recalled}
@@ -62,7 +62,7 @@ row-has S u T spot old rest fits isSpot isOld =
     rw (isOld, many, take-take S S (drop (u * (40 + S) + 40) T) (omega arith)) (take-at words rest S long) in
     record {
       spot-is = sym (isSpot ∙ ap spotOf (row-lent S u T));
-      paid-is = getD-take (40 + S) (drop (u * (40 + S)) T) 32 0 (omega arith) ∙ getD-drop (u * (40 + S)) T 32 0;
+      paid-is = row-word S u T 32 (omega arith);
       prices-is = part-take S 40 (40 + S) (drop (u * (40 + S)) T) (omega arith) ∙ ap (take S) (drop-drop 40 (u * (40 + S)) T) ∙ sym front;
     }
 
@@ -222,9 +222,9 @@ dominated-is t S T O r n m same =
 
 -- ---- one node more
 
--- the node's row was written over the next row, and it was linked: Q is the row, cost the goal cost
+-- the node's row was written over the next row, with its signature, and it was linked: Q is the row, cost the goal cost
 module _ (S : ℕ) (T O : List ℕ) (r : Run) (n : Node) (opens cost : ℕ) (Q rest : List ℕ) (fits : r .count * (40 + S) ≤ length T) (long : length Q ≡ 40 + S)
-    (holds : nodeOf S Q ≡ n) (packs : Packed Q) (few : r .count < 4096) (O′ : List ℕ) (sign class : ℕ) (isSign : sign ≡ signOf (n .prices)) (isClass : class ≡ classOf (n .spot))
+    (holds : nodeOf S Q ≡ n) (packs : Packed Q) (few : r .count < 4096) (O′ : List ℕ) (sign class : ℕ) (signed : getD Q 39 0 ≡ sign) (isSign : sign ≡ signOf (n .prices)) (isClass : class ≡ classOf (n .spot))
     (isLinked : O′ ≡ linkedTo O (r .count) opens sign class) (got : ℕ) (is : got ≡ cost) where
   -- the table afterwards
   abbrev written : List ℕ
@@ -247,7 +247,8 @@ module _ (S : ℕ) (T O : List ℕ) (r : Run) (n : Node) (opens cost : ℕ) (Q r
         counted = e;
         linked = λ c. rw (isLinked, isSign, isClass, add-one)
             (chained-more S T written O (r .count) opens (n .spot) (n .prices) few (λ u l. row-kept S u (r .count) T (Q ++ rest) l fits)
-            (ap (λ (x : Node). x .spot) kept-new) (ap (λ (x : Node). x .prices) kept-new) (rw (row-written S (r .count) T Q rest fits long) packs) c);
+            (ap (λ (x : Node). x .spot) kept-new) (ap (λ (x : Node). x .prices) kept-new) (rw (row-written S (r .count) T Q rest fits long) packs)
+            (rw (row-written S (r .count) T Q rest fits long) (signed ∙ isSign)) c);
       }
 
   -- the node is the new best

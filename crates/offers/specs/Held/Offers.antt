@@ -169,7 +169,7 @@ module _ (b : Board) (goals goalPairs : List ℕ) (nodes : ℕ) (T O : List ℕ)
             }
 
         -- it is settled and kept
-        pub offered-kept : r .count < nodes → length O ≡ 25888 → (P′ : List ℕ) → P′ ≡ settledWords b spot P → (T′ O′ : List ℕ) (r′ : Run)
+        pub offered-kept : r .count < nodes → length O ≡ 21792 → (P′ : List ℕ) → P′ ≡ settledWords b spot P → (T′ O′ : List ℕ) (r′ : Run)
             → Kept S T M r (nodeWith spot paid (take S P′) parent action) opens (goalCostBy (b .leaves) (b .bases) goals (b .factors) goalPairs spot paid P′) T′ O′ r′
             → Offered b goals goalPairs nodes T O r spot paid P parent action opens T′ O′ (record { full = false; run = r′ })
         offered-kept k long P′ isWords T′ O′ r′ given =

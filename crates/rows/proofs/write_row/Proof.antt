@@ -7,7 +7,7 @@ use borrow.Rule.Slice.PartMut.{same-len-mid}
 use borrow.Author.Needs.{needs}
 use mir.Syntax.{w8}
 use mir.Val.{Fits}
-use Rattle.rows.specs.Row.Laws.{withNumbers, node-written, packs-written}
+use Rattle.rows.specs.Row.Laws.{withNumbers, node-written, packs-written, sign-written}
 use Rattle.rows.proofs.write_row.Statement.{statement}
 use Rattle.rows.proofs.write_row.Tie as tie
 
@@ -31,6 +31,9 @@ slice-write-row-2 c = simp length-set (omega (arith, long (c .before .before)))
 slice-write-row-3 : tie.Need-slice-write-row-3
 slice-write-row-3 c = simp length-set (omega (arith, long (c .before .before)))
 
+slice-write-row-4 : tie.Need-slice-write-row-4
+slice-write-row-4 c = simp length-set (omega (arith, long (c .before .before)))
+
 sub-copy-words : tie.Need-sub-copy-words
 sub-copy-words c = simp length-set (omega (arith, long (c .before .before)))
 
@@ -49,7 +52,7 @@ same-length : tie.Need-same-length
 same-length c =
     let w = c .before .before .before .before .before .before in
     let a = start w .args in
-    let L = withNumbers (w .write-packs .last .0) (a .paid) (a .parent) (a .action) in
+    let L = withNumbers (w .write-packs .last .0) (a .paid) (a .parent) (a .action) (a .sign) in
     let called = c .before .before .copy-words in
     same-len-mid 40 (length L - 40) L (called .last .1 .0) (called .kept .1 .0) ∙ simp length-set (long w ∙ sym (start w .pre .0))
 
@@ -60,9 +63,11 @@ returns c =
     let a = s .args in
     let wide : length (a .spot .values) ≡ 32 = search needs in
     let small : (v : ℕ) → Fits w8 (getD (a .spot .values) v 0) = λ v. search needs in (
-      node-written (a .states) (a .paid) (a .parent) (a .action) (a .spot) (a .row .now) _ _ _ _ (a .prices .now) wide (λ v. small v .fits)
+      node-written (a .states) (a .paid) (a .parent) (a .action) (a .sign) (a .spot) (a .row .now) _ _ _ _ (a .prices .now) wide (λ v. small v .fits)
           (s .pre .0) (s .pre .1) (w .write-packs .ensures) (c .before .before .copy-words .ensures),
-      packs-written (a .states) (a .paid) (a .parent) (a .action) (a .spot) (a .row .now) _ _ _ _ (a .prices .now) wide (λ v. small v .fits)
+      packs-written (a .states) (a .paid) (a .parent) (a .action) (a .sign) (a .spot) (a .row .now) _ _ _ _ (a .prices .now) wide (λ v. small v .fits)
+          (s .pre .0) (s .pre .1) (w .write-packs .ensures) (c .before .before .copy-words .ensures),
+      sign-written (a .states) (a .paid) (a .parent) (a .action) (a .sign) (a .spot) (a .row .now) _ _ _ _ (a .prices .now) wide (λ v. small v .fits)
           (s .pre .0) (s .pre .1) (w .write-packs .ensures) (c .before .before .copy-words .ensures),
     )
 
@@ -74,6 +79,7 @@ write-row-spec =
     slice-write-row
     slice-write-row-2
     slice-write-row-3
+    slice-write-row-4
     sub-copy-words
     part-copy-words-start
     part-copy-words-end

@@ -103,17 +103,17 @@ module _ (S paid : ℕ) (row P : List ℕ) (c : Centre) (long : length row ≡ 4
       let low = all-in S (notHigher row P) (λ k l. le-leb _ _ (q k l)) in
       record { found = λ k. dominates-is S paid row P c long many ∙ rw (e, le-leb (getD row 32 0) paid p, low); missed = λ k. absurd (omega arith) }
 
--- a centre cost, a parent and an action stored in a row
-abbrev pub withNumbers : List ℕ → ℕ → ℕ → ℕ → List ℕ
-withNumbers W paid parent action = set (set (set W 32 paid) 33 parent) 34 action
+-- a centre cost, a parent, an action and a signature stored in a row
+abbrev pub withNumbers : List ℕ → ℕ → ℕ → ℕ → ℕ → List ℕ
+withNumbers W paid parent action sign = set (set (set (set W 32 paid) 33 parent) 34 action) 39 sign
 
--- a row that is written: the centre state's packs, then the three numbers, then the prices Q behind the first 40 words
-module _ (S paid parent action : ℕ) (c : Centre) (row W Q X Y P : List ℕ) (wide : length (c .values) ≡ 32)
+-- a row that is written: the centre state's packs, then the four numbers, then the prices Q behind the first 40 words
+module _ (S paid parent action sign : ℕ) (c : Centre) (row W Q X Y P : List ℕ) (wide : length (c .values) ≡ 32)
     (small : (v : ℕ) → getD (c .values) v 0 < 256) (long : length row ≡ 40 + S) (many : S ≤ length P)
     (packs : W ≡ fourTo row 35 (packOf c 0) (packOf c 8) (packOf c 16) (packOf c 24)) (copied : Q ≡ take S P ++ Y) where
   -- the row before the prices are copied, and its lengths
   abbrev L : List ℕ
-  L = withNumbers W paid parent action
+  L = withNumbers W paid parent action sign
 
   whole : length W ≡ 40 + S
   whole = ap length packs ∙ four-length row 35 (packOf c 0) (packOf c 8) (packOf c 16) (packOf c 24) ∙ long
@@ -125,10 +125,11 @@ module _ (S paid parent action : ℕ) (c : Centre) (row W Q X Y P : List ℕ) (w
   word : (v : ℕ) → v < 40 → getD (take 40 L ++ (Q ++ X)) v 0 ≡ getD L v 0
   word v h = List·getD-append (take 40 L) (Q ++ X) 0 v (rw front h) ∙ getD-take 40 L v 0 h
 
-  -- a word behind the numbers
-  behind : (v : ℕ) → 35 ≤ v → v < 40 → getD (take 40 L ++ (Q ++ X)) v 0 ≡ getD (fourTo row 35 (packOf c 0) (packOf c 8) (packOf c 16) (packOf c 24)) v 0
+  -- a word behind the first three numbers
+  behind : (v : ℕ) → 35 ≤ v → v < 39 → getD (take 40 L ++ (Q ++ X)) v 0 ≡ getD (fourTo row 35 (packOf c 0) (packOf c 8) (packOf c 16) (packOf c 24)) v 0
   behind v a b =
-      word v b
+      word v (omega arith)
+      ∙ getD-set-other (set (set (set W 32 paid) 33 parent) 34 action) 39 v sign 0 (λ e. omega arith)
       ∙ getD-set-other (set (set W 32 paid) 33 parent) 34 v action 0 (λ e. omega arith)
       ∙ getD-set-other (set W 32 paid) 33 v parent 0 (λ e. omega arith)
       ∙ getD-set-other W 32 v paid 0 (λ e. omega arith)
@@ -163,27 +164,35 @@ module _ (S paid parent action : ℕ) (c : Centre) (row W Q X Y P : List ℕ) (w
       ap (take S) (drop-at (take 40 L) (Q ++ X) 40 front)
       ∙ rw (copied, append-assoc) (take-at (take S P) (Y ++ X) S (length-take-le S P many))
 
-  -- the three numbers
+  -- the numbers
   paid-is : getD (take 40 L ++ (Q ++ X)) 32 0 ≡ paid
   paid-is =
-      word 32 (omega arith) ∙ getD-set-other (set (set W 32 paid) 33 parent) 34 32 action 0 (λ e. omega arith)
+      word 32 (omega arith) ∙ getD-set-other (set (set (set W 32 paid) 33 parent) 34 action) 39 32 sign 0 (λ e. omega arith)
+      ∙ getD-set-other (set (set W 32 paid) 33 parent) 34 32 action 0 (λ e. omega arith)
       ∙ getD-set-other (set W 32 paid) 33 32 parent 0 (λ e. omega arith) ∙ getD-set-same W 32 paid 0 (omega (arith, whole))
 
   parent-is : getD (take 40 L ++ (Q ++ X)) 33 0 ≡ parent
   parent-is =
-      word 33 (omega arith) ∙ getD-set-other (set (set W 32 paid) 33 parent) 34 33 action 0 (λ e. omega arith)
+      word 33 (omega arith) ∙ getD-set-other (set (set (set W 32 paid) 33 parent) 34 action) 39 33 sign 0 (λ e. omega arith)
+      ∙ getD-set-other (set (set W 32 paid) 33 parent) 34 33 action 0 (λ e. omega arith)
       ∙ getD-set-same (set W 32 paid) 33 parent 0 (simp length-set (omega (arith, whole)))
 
   action-is : getD (take 40 L ++ (Q ++ X)) 34 0 ≡ action
-  action-is = word 34 (omega arith) ∙ getD-set-same (set (set W 32 paid) 33 parent) 34 action 0 (simp length-set (omega (arith, whole)))
+  action-is =
+      word 34 (omega arith) ∙ getD-set-other (set (set (set W 32 paid) 33 parent) 34 action) 39 34 sign 0 (λ e. omega arith)
+      ∙ getD-set-same (set (set W 32 paid) 33 parent) 34 action 0 (simp length-set (omega (arith, whole)))
+
+  pub sign-written : getD (take 40 (withNumbers W paid parent action sign) ++ (Q ++ X)) 39 0 ≡ sign
+  sign-written =
+      word 39 (omega arith) ∙ getD-set-same (set (set (set W 32 paid) 33 parent) 34 action) 39 sign 0 (simp length-set (omega (arith, whole)))
 
   -- the row has the node
-  pub node-written : nodeOf S (take 40 (withNumbers W paid parent action) ++ (Q ++ X)) ≡ nodeWith c paid (take S P) parent action
+  pub node-written : nodeOf S (take 40 (withNumbers W paid parent action sign) ++ (Q ++ X)) ≡ nodeWith c paid (take S P) parent action
   unfolding nodeOf
   node-written = cc (spot-is, prices-are, paid-is, parent-is, action-is)
 
   -- the row has the packs
-  pub packs-written : Packed (take 40 (withNumbers W paid parent action) ++ (Q ++ X))
+  pub packs-written : Packed (take 40 (withNumbers W paid parent action sign) ++ (Q ++ X))
   packs-written =
       record {
         first = pack-at 0 (omega arith) ∙ same 0;
@@ -204,6 +213,10 @@ row-in S n u T h l = omega (arith, suc-mul u (40 + S), mul-le-mul-right (40 + S)
 -- a row that is lent as a part of the table
 pub row-lent : (S u : ℕ) (T : List ℕ) → take (u * (40 + S) + (40 + S) - u * (40 + S)) (drop (u * (40 + S)) T) ≡ rowIn S T u
 row-lent S u T = let e : u * (40 + S) + (40 + S) - u * (40 + S) ≡ 40 + S = omega arith in rw e
+
+-- a word of a row, as one of the table
+pub row-word : (S u : ℕ) (T : List ℕ) (k : ℕ) → k < 40 + S → getD (rowIn S T u) k 0 ≡ getD T (u * (40 + S) + k) 0
+row-word S u T k h = getD-take (40 + S) (drop (u * (40 + S)) T) k 0 h ∙ getD-drop (u * (40 + S)) T k 0
 
 -- a row has 40 + S words
 pub row-length : (S u : ℕ) (T : List ℕ) → u * (40 + S) + (40 + S) ≤ length T → length (rowIn S T u) ≡ 40 + S
