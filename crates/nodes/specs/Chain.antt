@@ -176,11 +176,11 @@ pub record Dominator (S : ℕ) (T : List ℕ) (n : ℕ) (m : Node) (r : ℕ) : T
 abbrev pub Missed : ℕ → List ℕ → List ℕ → Node → ℕ → ℕ → Type 0
 Missed S T C m g k = (i : ℕ) → i < k → dominates (nodeIn S T (entryAt C g i)) m ≡ false
 
--- the entries of group g were tried: r is one more than the number of one that dominates m, 0 only where none does
+-- the entries of group g were tried: r is above S by one more than the number of one that dominates m, or at most S, which it is only where none does
 pub record Tried (S : ℕ) (T C : List ℕ) (n : ℕ) (m : Node) (g r : ℕ) : Type 0 where
-  pub inside : r ≤ n
-  pub found : (u : ℕ) → r ≡ suc u → dominates (nodeIn S T u) m ≡ true
-  pub none : r ≡ 0 → Missed S T C m g (fillAt C g)
+  pub inside : r ≤ S + n
+  pub found : (u : ℕ) → r ≡ S + suc u → dominates (nodeIn S T u) m ≡ true
+  pub none : r ≤ S → Missed S T C m g (fillAt C g)
 
 -- a walk along the groups of m's class has come to `to`, one more than the next group: no entry of a group from there on dominates m
 pub record Walked (S : ℕ) (T C : List ℕ) (m : Node) (to : ℕ) : Type 0 where

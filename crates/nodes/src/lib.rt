@@ -281,7 +281,8 @@ fn all_lack(scan: &[u64], group: usize, sign: u64) -> bool
     first & second & third & fourth
 }
 
-// The entries of a group are tried: one more than the number of a node that dominates the node with these parts, 0 for none.
+// The entries of a group are tried. Where one of their nodes dominates the node with these parts, the answer is above the number of states, by one more than the
+// node's number. Else it is the hint for the next group; `first` is the hint for this one.
 fn try_group(
     table: &[u64],
     states: usize,
@@ -293,14 +294,16 @@ fn try_group(
     paid: u64,
     prices: &[u64],
     list: &[u16],
+    first: usize,
 ) -> usize
     requires { ⌜ (states ≤ 1024) × (count ≤ 4096) × (count * (40 + states) ≤ length (now table)) × (states ≤ length (now prices)) × Chained states (now table) (now scan) count ⌝ }
-    requires { ⌜ (group < groupsIn (now scan)) × (sign ≡ signOf (take states (now prices))) × (128 ≤ states → Reaches states (now prices) (now list)) ⌝ }
+    requires { ⌜ (group < groupsIn (now scan)) × (sign ≡ signOf (take states (now prices))) × (128 ≤ states → Reaches states (now prices) (now list))
+        × (first ≤ states) ⌝ }
     ensures { λ r. ⌜ Tried states (now (table .entry)) (now (scan .entry)) count (nodeWith spot paid (take states (now (prices .entry))) 0 0) group r ⌝ }
 {
     let fill = (scan[4096 + group] / 65536 % 8) as usize;
     let nodes = scan[15648 + group];
-    let mut hint = 0;
+    let mut hint = first;
     for k in 0..fill {
         let u = entry_of(nodes, k);
         let theirs = scan[7456 + 4 * group + k];
@@ -317,10 +320,10 @@ fn try_group(
             hint,
         );
         if hint > states {
-            return u + 1;
+            return states + u + 1;
         }
     }
-    0
+    hint
 }
 
 // One more than the number of a node that dominates the node with these parts, 0 for none: the groups of its class are tried, the last first, but
@@ -342,6 +345,7 @@ fn walk(
     ensures { λ r. ⌜ Dominator states (now (table .entry)) count (nodeWith spot paid (take states (now (prices .entry))) 0 0) r ⌝ }
 {
     let mut to = scan[6144 + class] as usize;
+    let mut hint = 0;
     while to > 0 {
         let group = to - 1;
         to = (scan[4096 + group] % 65536) as usize;
@@ -359,10 +363,12 @@ fn walk(
             paid,
             prices,
             list,
+            hint,
         );
-        if found > 0 {
-            return found;
+        if found > states {
+            return found - states;
         }
+        hint = found;
     }
     0
 }

@@ -14,11 +14,11 @@ use Rattle.nodes.proofs.try_group.Statement.{statement}
 use Rattle.nodes.proofs.try_group.Tie as tie
 
 abbrev Inv-loop : tie.InvT-loop
-Inv-loop table states count scan group sign spot paid prices list fill nodes hint₀ k₀ hint k =
+Inv-loop table states count scan group sign spot paid prices list first fill nodes hint₀ k₀ hint k =
     (k ≤ fill) × (hint ≤ states) × Missed states table scan (nodeWith spot paid (take states prices) 0 0) group k
 
 abbrev μ-loop : tie.MeasureT-loop
-μ-loop table states count scan group sign spot paid prices list fill nodes hint₀ k₀ hint k = fill - k
+μ-loop table states count scan group sign spot paid prices list first fill nodes hint₀ k₀ hint k = fill - k
 
 -- the new node
 abbrev fresh : tie.Start Inv-loop μ-loop → Node
@@ -65,7 +65,7 @@ loop-holds : tie.Need-loop-holds Inv-loop μ-loop
 loop-holds c =
     let s = c .before .before .before .before .before .before in
     let a = s .args in
-    (omega arith, omega arith, missed-none (a .states) (a .table .now) (a .scan .now) (a .count) (fresh s) (s .pre .0 .4 .grouped) (a .group))
+    (omega arith, s .pre .1 .3, missed-none (a .states) (a .table .now) (a .scan .now) (a .count) (fresh s) (s .pre .0 .4 .grouped) (a .group))
 
 entry-of-requires : tie.Need-entry-of-requires Inv-loop μ-loop
 entry-of-requires c κs = few c
@@ -108,7 +108,14 @@ tested : (c : tie.After-test-node Inv-loop μ-loop) → let t = c .before .befor
 tested c = rw (c .before .before .entry-of .ensures) at (c .test-node .ensures)
 
 add-result : tie.Need-add-result Inv-loop μ-loop
-add-result c = let t = c .before .before .before .before in rw (c .before .before .before .entry-of .ensures) (omega (arith, entry t .inside, start t .pre .0 .1))
+add-result c =
+    let t = c .before .before .before .before in
+    rw (c .before .before .before .entry-of .ensures) (omega (arith, entry t .inside, start t .pre .0 .0, start t .pre .0 .1))
+
+add-result-2 : tie.Need-add-result-2 Inv-loop μ-loop
+add-result-2 c =
+    let t = c .before .before .before .before in
+    rw (c .before .before .before .entry-of .ensures) (omega (arith, entry t .inside, start t .pre .0 .0, start t .pre .0 .1))
 
 returns : tie.Need-returns Inv-loop μ-loop
 returns c =
@@ -140,7 +147,7 @@ returns-2 c =
     let l = c .before .loop in
     let a = s .args in
     let e : l .k ≡ fillAt (a .scan .now) (a .group) = omega (arith, l .inv .0, c .loop-test .left) in
-    record { inside = omega arith; found = λ u z. absurd (omega arith); none = λ _. rw e at (l .inv .2) }
+    record { inside = omega (arith, l .inv .1); found = λ u z. absurd (omega (arith, l .inv .1)); none = λ _. rw e at (l .inv .2) }
 
 pub try-group-spec : {M : Type 1} → statement M
 try-group-spec =
@@ -163,6 +170,7 @@ try-group-spec =
     shared-slice-read-theirs
     test-node-requires
     add-result
+    add-result-2
     returns
     add-k
     loop-less

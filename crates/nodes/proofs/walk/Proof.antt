@@ -1,7 +1,7 @@
--- `nodes::walk` meets its contract. The invariant: the walk along the groups has come to `to`, and no entry of a group from there on dominates.
--- Assumes nothing.
+-- `nodes::walk` meets its contract. The invariant: the walk along the groups has come to `to`, no entry of a group from there on dominates, and the hint is a
+-- state or their number. Assumes nothing.
 use mathlib.Core.Path.{_≡_}
-use Prim.Native.Nat.{ℕ, suc, _-_, _<_}
+use Prim.Native.Nat.{ℕ, suc, _-_, _≤_, _<_}
 use native.Mathlib.Omega.{arith}
 use lib.ListN.{take}
 use lib.Seq.{length-take-le}
@@ -17,10 +17,11 @@ use Rattle.nodes.proofs.walk.Statement.{statement}
 use Rattle.nodes.proofs.walk.Tie as tie
 
 abbrev Inv-loop : tie.InvT-loop
-Inv-loop table states count scan class sign spot paid prices list to₀ to = Walked states table scan (nodeWith spot paid (take states prices) 0 0) to
+Inv-loop table states count scan class sign spot paid prices list to₀ hint₀ to hint =
+    Walked states table scan (nodeWith spot paid (take states prices) 0 0) to × (hint ≤ states)
 
 abbrev μ-loop : tie.MeasureT-loop
-μ-loop table states count scan class sign spot paid prices list to₀ to = to
+μ-loop table states count scan class sign spot paid prices list to₀ hint₀ to hint = to
 
 -- the new node
 abbrev fresh : tie.Start Inv-loop μ-loop → Node
@@ -43,7 +44,7 @@ loop-holds : tie.Need-loop-holds Inv-loop μ-loop
 loop-holds c =
     let s = c .before .before .before .before .before in
     let a = s .args in
-    rw (s .pre .1 .0) (walk-start (a .states) (a .table .now) (a .scan .now) (a .count) (fresh s) (s .pre .0 .4 .grouped))
+    (rw (s .pre .1 .0) (walk-start (a .states) (a .table .now) (a .scan .now) (a .count) (fresh s) (s .pre .0 .4 .grouped)), omega arith)
 
 -- where the function starts
 abbrev start : tie.In-loop Inv-loop μ-loop → tie.Start Inv-loop μ-loop
@@ -55,7 +56,7 @@ group c = c .before .loop .to - 1
 
 -- the walk has come to it
 walked : (c : tie.In-loop Inv-loop μ-loop) → let a = start c .args in Walked (a .states) (a .table .now) (a .scan .now) (fresh (start c)) (suc (group c))
-walked c = let e : c .before .loop .to ≡ suc (group c) = omega arith in rw e at (c .before .loop .inv)
+walked c = let e : c .before .loop .to ≡ suc (group c) = omega arith in rw e at (c .before .loop .inv .0)
 
 -- it is one of the groups, of which there are at most 1,792
 below : (c : tie.In-loop Inv-loop μ-loop) → group c < groupsIn (start c .args .scan .now)
@@ -99,13 +100,18 @@ loop-again : tie.Need-loop-again Inv-loop μ-loop
 loop-again c =
     let t = c .before .before .before in
     let s = start t in
-    let a = s .args in
-    onward t
-    (lack-all (a .states) (a .table .now) (a .scan .now) (a .count) (fresh s) (s .pre .0 .4 .grouped) (s .pre .0 .2)
-    (length-take-le (a .states) (a .prices .now) (s .pre .0 .3)) (group t) (below t) (rw (s .pre .1 .1) at (told (c .before .all-lack .ensures) (c .if1 .taken))))
+    let a = s .args in (
+      onward t
+          (lack-all (a .states) (a .table .now) (a .scan .now) (a .count) (fresh s) (s .pre .0 .4 .grouped) (s .pre .0 .2)
+          (length-take-le (a .states) (a .prices .now) (s .pre .0 .3)) (group t) (below t) (rw (s .pre .1 .1) at (told (c .before .all-lack .ensures) (c .if1 .taken)))),
+      t .before .loop .inv .1,
+    )
 
 try-group-requires : tie.Need-try-group-requires Inv-loop μ-loop
-try-group-requires c κs = let t = c .before .before .before in let s = start t in (s .pre .0, (below t, s .pre .1 .1, s .pre .1 .2))
+try-group-requires c κs = let t = c .before .before .before in let s = start t in (s .pre .0, (below t, s .pre .1 .1, s .pre .1 .2, t .before .loop .inv .1))
+
+sub-result : tie.Need-sub-result Inv-loop μ-loop
+sub-result c = search needs
 
 returns : tie.Need-returns Inv-loop μ-loop
 returns c =
@@ -120,7 +126,7 @@ loop-less-2 c = back (c .before .before .before .before .before)
 loop-again-2 : tie.Need-loop-again-2 Inv-loop μ-loop
 loop-again-2 c =
     let t = c .before .before .before .before .before in
-    onward t (c .before .try-group .ensures .none (omega (arith, c .if2 .left)))
+    (onward t (c .before .try-group .ensures .none (c .if2 .left)), c .if2 .left)
 
 returns-2 : tie.Need-returns-2 Inv-loop μ-loop
 returns-2 c =
@@ -128,7 +134,7 @@ returns-2 c =
     let s = c .before .before .before .before .before .before .before in
     let a = s .args in
     let e : l .to ≡ 0 = omega arith in
-    dominator-none (a .states) (a .table .now) (a .scan .now) (a .count) (fresh s) (s .pre .0 .4 .grouped) (rw e at (l .inv))
+    dominator-none (a .states) (a .table .now) (a .scan .now) (a .count) (fresh s) (s .pre .0 .4 .grouped) (rw e at (l .inv .0))
 
 pub walk-spec : {M : Type 1} → statement M
 walk-spec =
@@ -148,6 +154,7 @@ walk-spec =
     loop-less
     loop-again
     try-group-requires
+    sub-result
     returns
     loop-less-2
     loop-again-2

@@ -83,15 +83,15 @@ module _ (S : ℕ) (T C : List ℕ) (n : ℕ) (m : Node) (r : Grouped S T C n) w
       go (inr e) = rw e d
 
   -- node u dominates
-  pub tried-found : (g u : ℕ) → u < n → dominates (nodeIn S T u) m ≡ true → Tried S T C n m g (u + 1)
+  pub tried-found : (g u : ℕ) → u < n → dominates (nodeIn S T u) m ≡ true → Tried S T C n m g (S + u + 1)
   tried-found g u l d = record {
     inside = omega arith;
     found = λ w e. let q : w ≡ u = omega arith in rw q d;
     none = λ e. absurd (omega arith);
   }
 
-  pub dominator-tried : (g x : ℕ) → Tried S T C n m g x → 0 < x → Dominator S T n m x
-  dominator-tried g x k l = record { inside = k .inside; found = k .found; none = λ e. absurd (omega arith) }
+  pub dominator-tried : (g x : ℕ) → Tried S T C n m g x → S < x → Dominator S T n m (x - S)
+  dominator-tried g x k l = record { inside = omega (arith, k .inside); found = λ u e. k .found u (omega arith); none = λ e. absurd (omega arith) }
 
   -- signatures that lack a bit: their nodes do not dominate
   module _ (rows : n * (40 + S) ≤ length T) (wide : length (m .prices) ≡ S) where
