@@ -178,11 +178,11 @@ pub fn fill_action(
 }
 
 // What each action makes of each state of each leaf, a row for each action.
-pub fn fill_rows(
+pub fn fill_rows<'a>(
     sizes: &[u8],
     factors: &[u8],
-    conditions: &[u8],
-    effects: &[u8],
+    conditions: &'a [u8],
+    effects: &'a [u8],
     bases: &[usize],
     variables: usize,
     leaves: usize,

@@ -496,7 +496,6 @@ fn start(
     let factors = task.factors;
     let initial = task.initial;
     let goal = task.goal;
-    let conditions = task.conditions;
     let spot = Centre::blank().after(factors, initial);
     let mut prices = [MARK; 1024];
     first_layer(
@@ -507,7 +506,7 @@ fn start(
         costs,
         kinds,
         factors,
-        &conditions,
+        &task.conditions,
         spot,
         starts,
         &mut prices,
@@ -541,7 +540,7 @@ fn start(
 }
 
 // One round: the least key is chosen, and where the budget is not used up its node is expanded, with `mets`, `old`, `next`, `list` and `room` to work in.
-fn next_round(
+fn next_round<'a>(
     leaves: usize,
     actions: usize,
     bases: &[usize],
@@ -549,7 +548,7 @@ fn next_round(
     costs: &[u16],
     kinds: &[u8],
     factors: [u8; 32],
-    conditions: &[u8],
+    conditions: &'a [u8],
     still: &[u8],
     stills: &[u8],
     firsts: &[u8],
@@ -557,7 +556,7 @@ fn next_round(
     ends: &[usize],
     hops: &[u16],
     ways: &[u8],
-    effects: &[u8],
+    effects: &'a [u8],
     goals: &[u16],
     goal: [u8; 32],
     nodes: usize,
@@ -683,11 +682,9 @@ pub fn explore(
     let actions = task.actions as usize;
     let factors = task.factors;
     let goal = task.goal;
-    let conditions = task.conditions;
-    let effects = task.effects;
     let stills = still_leaves(leaves, actions, bases, moves);
     let still = still_actions(leaves, actions, &stills);
-    let firsts = first_conditions(factors, &conditions, actions);
+    let firsts = first_conditions(factors, &task.conditions, actions);
     let hops = list_hops(
         leaves,
         actions,
@@ -696,8 +693,8 @@ pub fn explore(
         costs,
         kinds,
         factors,
-        &conditions,
-        &effects,
+        &task.conditions,
+        &task.effects,
         &firsts,
         &still,
     );
@@ -718,7 +715,7 @@ pub fn explore(
             costs,
             kinds,
             factors,
-            &conditions,
+            &task.conditions,
             &still,
             &stills,
             &firsts,
@@ -726,7 +723,7 @@ pub fn explore(
             ends,
             &hops,
             &ways,
-            &effects,
+            &task.effects,
             goals,
             goal,
             nodes,

@@ -83,7 +83,7 @@ fn hop_word(
 }
 
 // The word of each action.
-pub fn list_hops(
+pub fn list_hops<'a>(
     leaves: usize,
     actions: usize,
     bases: &[usize],
@@ -91,8 +91,8 @@ pub fn list_hops(
     costs: &[u16],
     kinds: &[u8],
     factors: [u8; 32],
-    conditions: &[u8],
-    effects: &[u8],
+    conditions: &'a [u8],
+    effects: &'a [u8],
     firsts: &[u8],
     still: &[u8],
 ) -> [u16; 256]

@@ -181,7 +181,6 @@ fn task_edges(
     let leaves = task.leaves as usize;
     let actions = task.actions as usize;
     let factors = task.factors;
-    let conditions = task.conditions;
     fill_edges(
         leaves,
         actions,
@@ -190,7 +189,7 @@ fn task_edges(
         costs,
         kinds,
         factors,
-        &conditions,
+        &task.conditions,
         edges,
         ends,
     );

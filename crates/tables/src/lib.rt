@@ -154,10 +154,10 @@ fn kind_of(
 }
 
 // The leaf of each action, 0 for centre actions.
-fn kinds_of(
+fn kinds_of<'a>(
     factors: &[u8],
-    conditions: &[u8],
-    effects: &[u8],
+    conditions: &'a [u8],
+    effects: &'a [u8],
     variables: usize,
     leaves: usize,
     actions: usize,
@@ -180,14 +180,12 @@ pub fn action_kinds(task: Task) -> [u8; 256]
     ensures { λ r. ⌜ Kinds task r ⌝ }
 {
     let factors = task.factors;
-    let conditions = task.conditions;
-    let effects = task.effects;
     let variables = task.variables as usize;
     let leaves = task.leaves as usize;
     kinds_of(
         &factors,
-        &conditions,
-        &effects,
+        &task.conditions,
+        &task.effects,
         variables,
         leaves,
         task.actions as usize,
@@ -206,16 +204,14 @@ pub fn fill_moves(task: Task, bases: [usize; 9], moves: &mut [u16])
 {
     let sizes = task.sizes;
     let factors = task.factors;
-    let conditions = task.conditions;
-    let effects = task.effects;
     let variables = task.variables as usize;
     let leaves = task.leaves as usize;
     let actions = task.actions as usize;
     fill_rows(
         &sizes,
         &factors,
-        &conditions,
-        &effects,
+        &task.conditions,
+        &task.effects,
         &bases,
         variables,
         leaves,

@@ -24,17 +24,17 @@ use Rattle.explore.proofs.start.Tie as tie
 abbrev board : tie.Start → Board
 board s =
     let a = s .args in
-    boardOf (a .task .leaves) (a .task .actions) (now (a .bases)) (now (a .moves)) (now (a .costs)) (now (a .kinds)) (a .task .factors) (a .task .conditions)
+    boardOf (a .t1 .leaves) (a .t1 .actions) (now (a .bases)) (now (a .moves)) (now (a .costs)) (now (a .kinds)) (a .t1 .factors) (a .t1 .conditions)
 
 -- the lengths of the task's lists
-lists : (s : tie.Start) → (length (s .args .task .factors) ≡ 32) × (length (s .args .task .conditions) ≡ 8192)
+lists : (s : tie.Start) → (length (s .args .t1 .factors) ≡ 32) × (length (s .args .t1 .conditions) ≡ 8192)
 lists s = (search needs, search needs)
 
 -- the Board is that of the task, and can be indexed
-fit : (s : tie.Start) → Suits (s .args .task) (board s) (s .args .task .effects) (now (s .args .goals)) (s .args .task .goal) × Sound (board s)
+fit : (s : tie.Start) → Suits (s .args .t1) (board s) (s .args .t1 .effects) (now (s .args .goals)) (s .args .t1 .goal) × Sound (board s)
 fit s =
     let a = s .args in
-    tables-suit (a .task) (s .pre .0) (now (a .bases)) (now (a .moves)) (now (a .costs)) (now (a .kinds)) (now (a .starts)) (now (a .goals))
+    tables-suit (a .t1) (s .pre .0) (now (a .bases)) (now (a .moves)) (now (a .costs)) (now (a .kinds)) (now (a .starts)) (now (a .goals))
     (s .pre .1 .0 .0) (s .pre .1 .0 .1) (lists s .0) (lists s .1)
 
 -- there are as many scan words after the block words are set
@@ -45,10 +45,10 @@ wide f =
     kept ∙ s .pre .1 .1 .1
 
 -- the first layer's prices are cut into leaves
-layer-cut : (c : tie.After-first-layer) → let s = c .before .before .before .before .before .before .before .before .before .before .before .before .before .before .before .before .before .before .before .before .before .before .before in
-    Cut (s .args .task .leaves) (now (s .args .bases)) (length (c .first-layer .last .1 .1 .1 .1 .1 .1 .1 .1 .1 .1 .0))
+layer-cut : (c : tie.After-first-layer) → let s = c .before .before .before .before .before .before .before .before .before .before .before .before .before .before .before .before .before .before .before .before .before .before in
+    Cut (s .args .t1 .leaves) (now (s .args .bases)) (length (c .first-layer .last .1 .1 .1 .1 .1 .1 .1 .1 .1 .1 .0))
 layer-cut c =
-    let s = c .before .before .before .before .before .before .before .before .before .before .before .before .before .before .before .before .before .before .before .before .before .before .before in
+    let s = c .before .before .before .before .before .before .before .before .before .before .before .before .before .before .before .before .before .before .before .before .before .before in
     let kept : length (c .first-layer .last .1 .1 .1 .1 .1 .1 .1 .1 .1 .1 .0) ≡ 1024 = c .first-layer .kept .1 .1 .1 .1 .1 .1 .1 .1 .1 .1 .0 in
     cut (fit s .1) (omega (arith, fit s .1 .few-all))
 
@@ -68,15 +68,12 @@ after-requires : tie.Need-after-requires
 after-requires c κs = search needs
 
 slice-aggregate-first-layer : tie.Need-slice-aggregate-first-layer
-slice-aggregate-first-layer c = sym (lists (c .before .before .before .before .before .before .before .before .before .before .before .before .before .before .before .before .before .before .before .before .before) .1)
-
-slice-aggregate-first-layer-2 : tie.Need-slice-aggregate-first-layer-2
-slice-aggregate-first-layer-2 c = search needs
+slice-aggregate-first-layer c = search needs
 
 first-layer-requires : tie.Need-first-layer-requires
 first-layer-requires c κs =
-    let s = c .before .before .before .before .before .before .before .before .before .before .before .before .before .before .before .before .before .before .before .before .before .before in
-    let t = s .args .task in
+    let s = c .before .before .before .before .before .before .before .before .before .before .before .before .before .before .before .before .before .before .before .before .before in
+    let t = s .args .t1 in
     let w = fit s in
     let h = s .pre .1 .0 .0 .is-starts in
     (w .1, w .1 .few-all, omega (arith, s .pre .0 .fields .few-leaves, h .long), start-in t (s .pre .0) (board s) (w .0 .fits) (now (s .args .starts)) h)
@@ -95,10 +92,10 @@ slice-aggregate-keep c = search needs
 
 keep-requires : tie.Need-keep-requires
 keep-requires c κs =
-    let s = c .before .before .before .before .before .before .before .before .before .before .before .before .before .before .before .before .before .before .before .before .before .before .before .before .before .before .before .before .before .before in
+    let s = c .before .before .before .before .before .before .before .before .before .before .before .before .before .before .before .before .before .before .before .before .before .before .before .before .before .before .before .before .before in
     let w = fit s in (
       (layer-cut (c .before .before .before .before .before .before .before), cut {n = length (now (s .args .goals))} (w .1) (omega (arith, w .1 .few-all, s .pre .1 .0 .1 .long))),
-      ((w .1 .few-all, omega arith, omega (arith, row-on (s .args .task) (board s) (w .0 .fits), s .pre .1 .1 .0), wide (c .before .before .before .before .before .before .before .before .before .before .before .before .before .before .before .before .before .before .before .before)), (λ e. absurd (true≢false e), c .before .before .before .class-of .ensures)),
+      ((w .1 .few-all, omega arith, omega (arith, row-on (s .args .t1) (board s) (w .0 .fits), s .pre .1 .1 .0), wide (c .before .before .before .before .before .before .before .before .before .before .before .before .before .before .before .before .before .before .before)), (λ e. absurd (true≢false e), c .before .before .before .class-of .ensures)),
     )
 
 same-length : tie.Need-same-length
@@ -106,7 +103,7 @@ same-length c = search needs
 
 same-length-2 : tie.Need-same-length-2
 same-length-2 c =
-    let f = c .before .before .before .before .before .before .before .before .before .before .before .before .before .before .before .before .before .before .before .before .before .before .before .before .before in
+    let f = c .before .before .before .before .before .before .before .before .before .before .before .before .before .before .before .before .before .before .before .before .before .before .before .before in
     let k = c .before .before .before .before .keep in
     let linked : length (k .last .1 .1 .1 .1 .1 .1 .1 .1 .1 .1 .1 .1 .1 .1 .1 .0) ≡ length (f .fresh .last .0) = k .kept .1 .1 .1 .1 .1 .1 .1 .1 .1 .1 .1 .1 .1 .1 .1 .0 in
     let cleared : length (f .fresh .last .0) ≡ length (now (f .before .before .before .before .before .before .before .before .before .before .args .scan)) = f .fresh .kept .0 in
@@ -114,15 +111,15 @@ same-length-2 c =
 
 returns : tie.Need-returns
 returns c =
-    let s = c .before .before .before .before .before .before .before .before .before .before .before .before .before .before .before .before .before .before .before .before .before .before .before .before .before .before .before .before .before .before .before .before .before .before .before in
+    let s = c .before .before .before .before .before .before .before .before .before .before .before .before .before .before .before .before .before .before .before .before .before .before .before .before .before .before .before .before .before .before .before .before .before .before in
     let a = s .args in
-    let t = a .task in
+    let t = a .t1 in
     let f = c .before .before .before .before .before .before .before .before .before .before .before .before .first-layer in
     let k = c .before .before .before .before .keep in
-    let spot = c .before .before .before .before .before .before .before .before .before .before .before .before .before .before .before .after .ensures ∙ ap (centreAfter (factor t) (initial t)) (c .before .before .before .before .before .before .before .before .before .before .before .before .before .before .before .before .blank .ensures) ∙ initial-centre t (s .pre .0) in
-    start-is t (board s) (t .effects) (now (a .goals)) (t .goal) (fit s .0) (now (a .starts)) (s .pre .1 .0 .0 .is-starts) (c .before .before .before .before .before .before .before .before .before .before .before .before .before .before .before .after .result) (drop (getD (now (a .bases)) (t .leaves) 0) (replicate 1024 mark)) (f .last .1 .1 .1 .1 .1 .1 .1 .1 .1 .1 .0)
-    spot (f .ensures) (now (a .table)) (now (a .scan)) (c .before .before .before .before .before .before .before .before .before .before .before .before .before .before .before .before .before .before .before .before .before .before .before .before .before .fresh .last .0) (k .last .1 .1 .1 .1 .1 .1 .1 .1 .1 .1 .1 .1 .1 .1 .0) (k .last .1 .1 .1 .1 .1 .1 .1 .1 .1 .1 .1 .1 .1 .1 .1 .0) (k .result)
-    (c .before .before .before .before .before .before .before .before .before .key-of .result) (s .pre .1 .1 .1) (s .pre .1 .1 .2) (c .before .before .before .before .before .before .before .before .before .before .before .before .before .before .before .before .before .before .before .before .before .before .before .before .before .fresh .ensures) (c .before .before .before .before .before .before .before .before .before .key-of .ensures) (k .ensures)
+    let spot = c .before .before .before .before .before .before .before .before .before .before .before .before .before .before .before .before .before .after .ensures ∙ ap (centreAfter (factor t) (initial t)) (c .before .before .before .before .before .before .before .before .before .before .before .before .before .before .before .before .before .before .blank .ensures) ∙ initial-centre t (s .pre .0) in
+    start-is t (board s) (t .effects) (now (a .goals)) (t .goal) (fit s .0) (now (a .starts)) (s .pre .1 .0 .0 .is-starts) (c .before .before .before .before .before .before .before .before .before .before .before .before .before .before .before .before .before .after .result) (drop (getD (now (a .bases)) (t .leaves) 0) (replicate 1024 mark)) (f .last .1 .1 .1 .1 .1 .1 .1 .1 .1 .1 .0)
+    spot (f .ensures) (now (a .table)) (now (a .scan)) (c .before .before .before .before .before .before .before .before .before .before .before .before .before .before .before .before .before .before .before .before .before .before .before .before .fresh .last .0) (k .last .1 .1 .1 .1 .1 .1 .1 .1 .1 .1 .1 .1 .1 .1 .0) (k .last .1 .1 .1 .1 .1 .1 .1 .1 .1 .1 .1 .1 .1 .1 .1 .0) (k .result)
+    (c .before .before .before .before .before .before .before .before .before .key-of .result) (s .pre .1 .1 .1) (s .pre .1 .1 .2) (c .before .before .before .before .before .before .before .before .before .before .before .before .before .before .before .before .before .before .before .before .before .before .before .before .fresh .ensures) (c .before .before .before .before .before .before .before .before .before .key-of .ensures) (k .ensures)
 
 pub start-spec : {M : Type 1} → statement M
 start-spec =
@@ -134,7 +131,6 @@ start-spec =
     blank-requires
     after-requires
     slice-aggregate-first-layer
-    slice-aggregate-first-layer-2
     first-layer-requires
     slice-aggregate-key-of
     key-of-requires

@@ -16,19 +16,13 @@ cast-leaves c = search needs
 slice-aggregate-kinds-of : tie.Need-slice-aggregate-kinds-of
 slice-aggregate-kinds-of c = search needs
 
-slice-aggregate-kinds-of-2 : tie.Need-slice-aggregate-kinds-of-2
-slice-aggregate-kinds-of-2 c = search needs
-
-slice-aggregate-kinds-of-3 : tie.Need-slice-aggregate-kinds-of-3
-slice-aggregate-kinds-of-3 c = search needs
-
 cast-kinds-of : tie.Need-cast-kinds-of
 cast-kinds-of c = search needs
 
 kinds-of-requires : tie.Need-kinds-of-requires
 kinds-of-requires c κs =
-    let ok = c .before .before .before .before .before .before .before .before .before .pre in
-    let t = c .before .before .before .before .before .before .before .before .before .args .task in
+    let ok = c .before .before .before .before .before .before .before .pre in
+    let t = c .before .before .before .before .before .before .before .args .t1 in
     let factors : length (t .factors) ≡ 32 = search needs in
     let conditions : length (t .conditions) ≡ 8192 = search needs in
     let effects : length (t .effects) ≡ 8192 = search needs in
@@ -36,8 +30,8 @@ kinds-of-requires c κs =
 
 returns : tie.Need-returns
 returns c =
-    let start = c .before .before .before .before .before .before .before .before .before .before in
-    let t = start .args .task in
+    let start = c .before .before .before .before .before .before .before .before in
+    let t = start .args .t1 in
     record {
       long = c .kinds-of .ensures .0;
       leaf = λ i a l la. kind-is t (start .pre) a la i _ (c .kinds-of .ensures .1 a la);
@@ -51,8 +45,6 @@ action-kinds-spec =
     cast-variables
     cast-leaves
     slice-aggregate-kinds-of
-    slice-aggregate-kinds-of-2
-    slice-aggregate-kinds-of-3
     cast-kinds-of
     kinds-of-requires
     returns)

@@ -11,16 +11,16 @@ use Rattle.tables.specs.Fit.{small-is}
 use Rattle.tables.proofs.fill_moves.Statement.{statement}
 use Rattle.tables.proofs.fill_moves.Tie as tie
 
-sizes-long : (s : tie.Start) → length (s .args .task .sizes) ≡ 32
+sizes-long : (s : tie.Start) → length (s .args .t1 .sizes) ≡ 32
 sizes-long s = search needs
 
-factors-long : (s : tie.Start) → length (s .args .task .factors) ≡ 32
+factors-long : (s : tie.Start) → length (s .args .t1 .factors) ≡ 32
 factors-long s = search needs
 
-conditions-long : (s : tie.Start) → length (s .args .task .conditions) ≡ 8192
+conditions-long : (s : tie.Start) → length (s .args .t1 .conditions) ≡ 8192
 conditions-long s = search needs
 
-effects-long : (s : tie.Start) → length (s .args .task .effects) ≡ 8192
+effects-long : (s : tie.Start) → length (s .args .t1 .effects) ≡ 8192
 effects-long s = search needs
 
 cast-variables : tie.Need-cast-variables
@@ -39,24 +39,18 @@ slice-aggregate-fill-rows-2 : tie.Need-slice-aggregate-fill-rows-2
 slice-aggregate-fill-rows-2 c = search needs
 
 slice-aggregate-fill-rows-3 : tie.Need-slice-aggregate-fill-rows-3
-slice-aggregate-fill-rows-3 c = sym (conditions-long (c .before .before .before .before .before .before .before .before .before .before .before))
-
-slice-aggregate-fill-rows-4 : tie.Need-slice-aggregate-fill-rows-4
-slice-aggregate-fill-rows-4 c = sym (effects-long (c .before .before .before .before .before .before .before .before .before .before .before .before))
-
-slice-aggregate-fill-rows-5 : tie.Need-slice-aggregate-fill-rows-5
-slice-aggregate-fill-rows-5 c = search needs
+slice-aggregate-fill-rows-3 c = search needs
 
 fill-rows-requires : tie.Need-fill-rows-requires
 unfolding startOf base states allStates
 fill-rows-requires c κs =
-    let s = c .before .before .before .before .before .before .before .before .before .before .before .before .before .before in
+    let s = c .before .before .before .before .before .before .before .before .before .before .before .before in
     let ok = s .pre .0 in
     let bases = s .pre .1 .0 in (
       omega (arith, sizes-long s, factors-long s, bases .long, ok .fields .few-variables, ok .fields .few-leaves, ok .fields .few-actions),
       (
         omega (arith, conditions-long s, effects-long s),
-        (s .pre .1 .1, (λ i l. bases .is i (omega arith), small-is (s .args .task) ok)),
+        (s .pre .1 .1, (λ i l. bases .is i (omega arith), small-is (s .args .t1) ok)),
       ),
     )
 
@@ -79,8 +73,6 @@ fill-moves-spec =
     slice-aggregate-fill-rows
     slice-aggregate-fill-rows-2
     slice-aggregate-fill-rows-3
-    slice-aggregate-fill-rows-4
-    slice-aggregate-fill-rows-5
     fill-rows-requires
     same-length
     returns)
