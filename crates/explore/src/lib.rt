@@ -112,7 +112,7 @@ fn turn(
         × (metOn (boardOf leaves actions (now bases) (now moves) (now costs) (now kinds) factors (now conditions)) spot a ≡ true)
         × Stills leaves actions (now bases) (now moves) (now stills) ⌝ }
     requires { ⌜ (length (now effects) ≡ 8192) × (length (now goals) ≡ 1024) × (length (now old) ≡ 1024) × (length (now next) ≡ 1024) × (u < run .count) × (a < actions)
-        × (128 ≤ getD (now bases) leaves 0 → Reaches (getD (now bases) leaves 0) (now old) (now list)) × (1024 ≤ length (now room)) ⌝ }
+        × (128 ≤ getD (now bases) leaves 0 → Reaches (getD (now bases) leaves 0) (now old) (now list)) × (5120 ≤ length (now room)) ⌝ }
     requires { ⌜ sign ≡ signOf (take (getD (now bases) leaves 0) (now old)) ⌝ }
     requires { ⌜ Room (getD (now bases) leaves 0) nodes (now table) (now scan) run ⌝ }
     ensures moved { λ r. ⌜ Moved (boardOf leaves actions (now (bases .entry)) (now (moves .entry)) (now (costs .entry)) (now (kinds .entry)) factors
@@ -241,7 +241,7 @@ fn turns(
         (length (now mets)) (λ j. getD (now mets) j 0)
         × Stills leaves actions (now bases) (now moves) (now stills) ⌝ }
     requires { ⌜ (length (now effects) ≡ 8192) × (length (now goals) ≡ 1024) × (length (now old) ≡ 1024) × (length (now next) ≡ 1024) × (u < run .count)
-        × (128 ≤ getD (now bases) leaves 0 → Reaches (getD (now bases) leaves 0) (now old) (now list)) × (1024 ≤ length (now room)) ⌝ }
+        × (128 ≤ getD (now bases) leaves 0 → Reaches (getD (now bases) leaves 0) (now old) (now list)) × (5120 ≤ length (now room)) ⌝ }
     requires { ⌜ (sign ≡ signOf (take (getD (now bases) leaves 0) (now old)))
         × Has (nodeIn (getD (now bases) leaves 0) (now table) u) spot paid (take (getD (now bases) leaves 0) (now old)) ⌝ }
     requires { ⌜ Room (getD (now bases) leaves 0) nodes (now table) (now scan) run ⌝ }
@@ -397,7 +397,7 @@ fn expand(
         × Ways actions (now hops) (now ways) ⌝ }
     requires { ⌜ (length (now effects) ≡ 8192) × (length (now goals) ≡ 1024) × (u < run .count) ⌝ }
     requires { ⌜ Room (getD (now bases) leaves 0) nodes (now table) (now scan) run ⌝ }
-    requires { ⌜ (length (now old) ≡ 1024) × (length (now next) ≡ 1024) × (1024 ≤ length (now list)) × (1024 ≤ length (now room)) ⌝ }
+    requires { ⌜ (length (now old) ≡ 1024) × (length (now next) ≡ 1024) × (1024 ≤ length (now list)) × (5120 ≤ length (now room)) ⌝ }
     ensures grown { λ r. ⌜ Grown (boardOf leaves actions (now (bases .entry)) (now (moves .entry)) (now (costs .entry)) (now (kinds .entry)) factors
         (now (conditions .entry))) nodes run (now (table .exit)) (now (scan .exit)) r ⌝ }
     ensures expanded { λ r. ⌜ Done (boardOf leaves actions (now (bases .entry)) (now (moves .entry)) (now (costs .entry)) (now (kinds .entry)) factors
@@ -484,7 +484,7 @@ fn start(
 ) -> Run
     requires { ⌜ Valid task ⌝ }
     requires { ⌜ Tabled task (now bases) (now moves) (now costs) (now kinds) (now starts) × Goals task (now goals) ⌝ }
-    requires { ⌜ (40 + allStates task ≤ length (now table)) × (length (now scan) ≡ 21792)
+    requires { ⌜ (40 + allStates task ≤ length (now table)) × (length (now scan) ≡ 17696)
         × ((h : ℕ) → h < 1025 → getD (now scan) (6144 + h) 0 ≡ 0) ⌝ }
     ensures { λ r. ⌜ (searchOf (allStates task) (now (table .exit)) (now (scan .exit)) r ≡ start task)
         × Cached task (allStates task) (now (table .exit)) (now (scan .exit)) r
@@ -581,7 +581,7 @@ fn next_round<'a>(
         × Ways actions (now hops) (now ways) ⌝ }
     requires { ⌜ (length (now effects) ≡ 8192) × (length (now goals) ≡ 1024) × (run .begun ≤ 4096) ⌝ }
     requires { ⌜ Room (getD (now bases) leaves 0) nodes (now table) (now scan) run ⌝ }
-    requires { ⌜ (length (now old) ≡ 1024) × (length (now next) ≡ 1024) × (1024 ≤ length (now list)) × (1024 ≤ length (now room)) ⌝ }
+    requires { ⌜ (length (now old) ≡ 1024) × (length (now next) ≡ 1024) × (1024 ≤ length (now list)) × (5120 ≤ length (now room)) ⌝ }
     ensures rounded { λ r. ⌜ ((t : Task) → Suits t (boardOf leaves actions (now (bases .entry)) (now (moves .entry)) (now (costs .entry)) (now (kinds .entry)) factors
         (now (conditions .entry))) (now (effects .entry)) (now (goals .entry)) goal
         → Ahead t nodes budget (allStates t) (now (table .entry)) (now (scan .entry)) run
@@ -673,7 +673,7 @@ pub fn explore(
     requires { ⌜ Tabled task (now bases) (now moves) (now costs) (now kinds) (now starts) × Goals task (now goals) ⌝ }
     requires { ⌜ Edges (boardOf (task .leaves) (task .actions) (now bases) (now moves) (now costs) (now kinds) (task .factors) (task .conditions))
         (now edges) (now ends) ⌝ }
-    requires { ⌜ (1 ≤ nodes) × (nodes ≤ 4096) × ((nodes + 1) * (40 + allStates task) ≤ length (now table)) × (length (now scan) ≡ 21792)
+    requires { ⌜ (1 ≤ nodes) × (nodes ≤ 4096) × ((nodes + 1) * (40 + allStates task) ≤ length (now table)) × (length (now scan) ≡ 17696)
         × ((h : ℕ) → h < 1025 → getD (now scan) (6144 + h) 0 ≡ 0) ⌝ }
     ensures { λ r. ⌜ (stoppedOf (allStates task) (now (table .exit)) (now (scan .exit)) r ≡ explored task nodes budget)
         × Cached task (allStates task) (now (table .exit)) (now (scan .exit)) (r .run) ⌝ }
@@ -705,7 +705,7 @@ pub fn explore(
     let mut old = [MARK; 1024];
     let mut next = [MARK; 1024];
     let mut list = [0u16; 1024];
-    let mut room = [0u16; 1024];
+    let mut room = [0u16; 5120];
     loop {
         let round = next_round(
             leaves,

@@ -1,13 +1,12 @@
--- The scan words: 21,792 words. Open keys stand at u, the words of groups at 4096 + g, heads at 6144 + h, the number of groups
+-- The scan words: 17,696 words. Open keys stand at u, the words of groups at 4096 + g, heads at 6144 + h, the number of groups
 -- at 7168, block words at 7184 + b, upper words at 7440 + b, the signatures of entries at 7456 + 4 * g + k, the nodes of entries, four in a word, at
--- 15648 + g, recent words at 17696 + k. The words 7169 to 7183 are not used.
+-- 15648 + g. The words 7169 to 7183 are not used.
 -- Nodes are chained by the class of their centre state, in groups: a group has up to four entries, each a node with its signature, so that a walk sees
 -- four signatures side by side. A link or a head is one more than a group's number, 0 for none: the link of a group is the last group before it of the
 -- same class, the head of a class is the last group of that class, to which the next node of the class goes while it has room.
 -- So only the last group of a class has room, for three entries at most: of 4,096 nodes in 1,024 classes there are at most (4096 + 3 * 1024) / 4 = 1,792
 -- groups, and there is room for 2,048.
 -- The word of a group is its link and 65,536 times the sum of 8 times its class and the number of its entries: a walk reads the link as the low 16 bits.
--- A recent word is one more than the number of a node that dominated or was kept, to be tried first. It may be any number: nothing else goes by it.
 pub mod Groups
 pub mod Laws
 pub mod Room
@@ -68,10 +67,6 @@ roomOf C (suc g) = 4 - fillAt C g
 -- how many entries the last group of class h has room for
 abbrev pub roomAt : List ℕ → ℕ → ℕ
 roomAt C h = roomOf C (headAt C h)
-
--- the place of the recent word of a class h and a signature s; any number below 4,096 is right, only speed depends on it
-unfoldable pub slotOf : ℕ → ℕ → ℕ
-slotOf h s = (h * 5 + s % 4093) % 4096
 
 -- ---- what is stored; remainders keep any number inside the words
 
@@ -152,17 +147,12 @@ pub record Grouped (S : ℕ) (T C : List ℕ) (n : ℕ) : Type 0 where
 -- the first n nodes of table T are chained, no group is without entries, the block words are those of the nodes' open keys, and their rows have their
 -- packs and their signatures
 pub record Chained (S : ℕ) (T C : List ℕ) (n : ℕ) : Type 0 where
-  pub long : length C ≡ 21792
+  pub long : length C ≡ 17696
   pub signs : (u : ℕ) → u < n → getD (rowIn S T u) 39 0 ≡ signOf (nodeIn S T u .prices)
   pub grouped : Grouped S T C n
   pub started : (g : ℕ) → g < groupsIn C → 0 < fillAt C g
   pub blocks : Blocked C n
   pub packed : (u : ℕ) → u < n → Packed (rowIn S T u)
-
--- the scan words D are those of C but for recent words
-pub record Recalled (C D : List ℕ) : Type 0 where
-  pub long : length D ≡ length C
-  pub same : (i : ℕ) → i < 17696 → getD D i 0 ≡ getD C i 0
 
 -- ---- the node that dominates
 

@@ -6,15 +6,13 @@ use task::Centre;
 ghost use mathlib.Core.Path.{_≡_};
 ghost use Prim.Native.Nat.{_+_, _*_, _≤_, _<_};
 ghost use lib.ListN.{length, take, drop};
-ghost use Rattle.loops.specs.Count.{any};
 ghost use Rattle.leaf.specs.Price.{mark};
-ghost use Rattle.search.specs.Node.{dominates};
 ghost use Rattle.rows.specs.Reach.{Reaches};
 ghost use Rattle.rows.specs.Row.{rowIn, nodeIn, nodeWith, Packed, Tested};
 ghost use Rattle.rows.specs.Sign.{classOf, signOf};
 ghost use Rattle.nodes.specs.Choice.{chooseBy};
 ghost use Rattle.nodes.specs.Block.{blockSize, leastIn, FirstOf, LeastFrom, Blocked, freshTo, loweredTo, raisedTo, retiredTo};
-ghost use Rattle.nodes.specs.Chain.{groupsIn, slotOf, lacking, allLack, hasRoom, groupFor, withGroup, openedTo, entryOf, withEntry, joinedTo, linkedTo, Chained, Recalled, Dominator, Tried};
+ghost use Rattle.nodes.specs.Chain.{groupsIn, lacking, allLack, hasRoom, groupFor, withGroup, openedTo, entryOf, withEntry, joinedTo, linkedTo, Chained, Dominator, Tried};
 
 // ---- chains
 
@@ -29,7 +27,7 @@ fn lower(scan: &mut [u64], at: usize, key: u64)
 
 // Whether the group that a head stands for has room for one entry more.
 fn has_room(scan: &[u64], head: u64) -> bool
-    requires { ⌜ length (now scan) ≡ 21792 ⌝ }
+    requires { ⌜ length (now scan) ≡ 17696 ⌝ }
     ensures { λ r. ⌜ r ≡ hasRoom (now (scan .entry)) head ⌝ }
 {
     if head == 0 {
@@ -40,7 +38,7 @@ fn has_room(scan: &[u64], head: u64) -> bool
 
 // A group without entries becomes the last of its class.
 fn add_group(scan: &mut [u64], class: usize, group: usize)
-    requires { ⌜ (length (now scan) ≡ 21792) × (class < 1024) × (group < 2048) ⌝ }
+    requires { ⌜ (length (now scan) ≡ 17696) × (class < 1024) × (group < 2048) ⌝ }
     ensures { λ _. ⌜ now (scan .exit) ≡ withGroup (now (scan .entry)) class group ⌝ }
 {
     let head = scan[6144 + class] % 65536;
@@ -51,7 +49,7 @@ fn add_group(scan: &mut [u64], class: usize, group: usize)
 
 // The group that the next node of a class goes to: the last of the class where that has room, else a new one.
 fn group_for(scan: &mut [u64], class: usize) -> usize
-    requires { ⌜ (length (now scan) ≡ 21792) × (class < 1024) ⌝ }
+    requires { ⌜ (length (now scan) ≡ 17696) × (class < 1024) ⌝ }
     ensures { λ r. ⌜ (r ≡ groupFor (now (scan .entry)) class) × (now (scan .exit) ≡ openedTo (now (scan .entry)) class) ⌝ }
 {
     let head = scan[6144 + class];
@@ -82,7 +80,7 @@ fn with_entry(nodes: u64, k: usize, node: usize) -> u64
 
 // A node with its signature as the next entry of a group.
 fn join(scan: &mut [u64], group: usize, node: usize, sign: u64)
-    requires { ⌜ (length (now scan) ≡ 21792) × (group < 2048) × (node < 4096) ⌝ }
+    requires { ⌜ (length (now scan) ≡ 17696) × (group < 2048) × (node < 4096) ⌝ }
     ensures { λ _. ⌜ now (scan .exit) ≡ joinedTo (now (scan .entry)) group node sign ⌝ }
 {
     let word = scan[4096 + group];
@@ -96,7 +94,7 @@ fn join(scan: &mut [u64], group: usize, node: usize, sign: u64)
 // A node into the scan words: its key, its block's word and the upper word no higher than its key, and the node with its signature as an entry of the last
 // group of its class.
 pub fn link(scan: &mut [u64], node: usize, key: u64, sign: u64, class: usize)
-    requires { ⌜ (length (now scan) ≡ 21792) × (node < 4096) × (class < 1024) ⌝ }
+    requires { ⌜ (length (now scan) ≡ 17696) × (node < 4096) × (class < 1024) ⌝ }
     ensures { λ _. ⌜ now (scan .exit) ≡ linkedTo (now (scan .entry)) node key sign class ⌝ }
 {
     scan[node] = key;
@@ -110,7 +108,7 @@ pub fn link(scan: &mut [u64], node: usize, key: u64, sign: u64, class: usize)
 
 // The words of all blocks to the mark, and the upper words, which stand behind them.
 pub fn fresh(scan: &mut [u64])
-    requires { ⌜ length (now scan) ≡ 21792 ⌝ }
+    requires { ⌜ length (now scan) ≡ 17696 ⌝ }
     ensures { λ _. ⌜ now (scan .exit) ≡ freshTo (now (scan .entry)) 272 ⌝ }
 {
     for b in 0..272 {
@@ -187,7 +185,7 @@ fn block_size(block: usize, count: usize) -> usize
 
 // A block's word again the least of its keys: the words begin at `at`, the keys at `from`.
 fn raise(scan: &mut [u64], from: usize, at: usize, block: usize, count: usize)
-    requires { ⌜ (length (now scan) ≡ 21792) × (from ≤ 7184) × (at ≤ 7440) × (block * 16 ≤ count) × (count ≤ 4096) ⌝ }
+    requires { ⌜ (length (now scan) ≡ 17696) × (from ≤ 7184) × (at ≤ 7440) × (block * 16 ≤ count) × (count ≤ 4096) ⌝ }
     ensures { λ _. ⌜ now (scan .exit) ≡ raisedTo (now (scan .entry)) from at count block ⌝ }
 {
     let low = least_key(scan, from + block * 16, block_size(block, count));
@@ -196,7 +194,7 @@ fn raise(scan: &mut [u64], from: usize, at: usize, block: usize, count: usize)
 
 // The mark as the open key of a node, its block's word again the least of the block, and the upper word the least of its block words.
 pub fn retire(scan: &mut [u64], node: usize, count: usize)
-    requires { ⌜ (length (now scan) ≡ 21792) × (count ≤ 4096) × (node < count) ⌝ }
+    requires { ⌜ (length (now scan) ≡ 17696) × (count ≤ 4096) × (node < count) ⌝ }
     ensures { λ _. ⌜ now (scan .exit) ≡ retiredTo (now (scan .entry)) node count ⌝ }
 {
     scan[node] = MARK;
@@ -270,7 +268,7 @@ fn lacks(sign: u64, theirs: u64) -> bool
 
 // Whether the signatures of all entries of a group lack a bit of the signature. The four words stand side by side, and nothing branches between them.
 fn all_lack(scan: &[u64], group: usize, sign: u64) -> bool
-    requires { ⌜ (length (now scan) ≡ 21792) × (group < 2048) ⌝ }
+    requires { ⌜ (length (now scan) ≡ 17696) × (group < 2048) ⌝ }
     ensures { λ r. ⌜ r ≡ allLack (now (scan .entry)) group sign ⌝ }
 {
     let from = 7456 + 4 * group;
@@ -373,16 +371,17 @@ fn walk(
     0
 }
 
-// The place of the recent word of a class and a signature.
-fn slot_of(class: usize, sign: u64) -> usize
+// The place of the recent number of a class and a signature: any number below 4,096 is right, only speed depends on it.
+pub fn slot_of(class: usize, sign: u64) -> usize
     requires { ⌜ class < 4096 ⌝ }
-    ensures { λ r. ⌜ r ≡ slotOf class sign ⌝ }
+    ensures { λ r. ⌜ r < 4096 ⌝ }
 {
     (class * 5 + (sign % 4093) as usize) % 4096
 }
 
-// The same as `walk`, but the node of the recent word is tried before.
-fn dominator(
+// The same as `walk`, but a node that dominated lately, or was kept, is tried before: `recent` is one more than its number, 0 for none. `list` has the states
+// that the prices reach where there are 128 or more.
+pub fn dominator(
     table: &[u64],
     states: usize,
     count: usize,
@@ -393,12 +392,12 @@ fn dominator(
     paid: u64,
     prices: &[u64],
     list: &[u16],
+    recent: usize,
 ) -> usize
     requires { ⌜ (states ≤ 1024) × (count ≤ 4096) × (count * (40 + states) ≤ length (now table)) × (states ≤ length (now prices)) × Chained states (now table) (now scan) count ⌝ }
     requires { ⌜ (class ≡ classOf spot) × (sign ≡ signOf (take states (now prices))) × (128 ≤ states → Reaches states (now prices) (now list)) ⌝ }
     ensures { λ r. ⌜ Dominator states (now (table .entry)) count (nodeWith spot paid (take states (now (prices .entry))) 0 0) r ⌝ }
 {
-    let recent = scan[17696 + slot_of(class, sign)] as usize;
     if recent > 0 {
         if recent <= count {
             let tried = test_at(table, states, recent - 1, spot, paid, prices, sign, list, 0);
@@ -419,51 +418,6 @@ fn dominator(
         prices,
         list,
     )
-}
-
-// The next recent word: the node that was found, as one more than its number, or else the one behind the first `count` nodes. Any word is right.
-fn recent_word(found: usize, count: usize) -> u64
-    requires { ⌜ count ≤ 4096 ⌝ }
-{
-    if found == 0 {
-        return (count + 1) as u64;
-    }
-    found as u64
-}
-
-// Whether one of the first `count` nodes dominates the node with these parts; `list` has the states that its prices reach where there are 128 or more.
-// The one that is found becomes the recent word of the class and the signature; where none is, the node itself, which is kept next if it is kept.
-pub fn is_dominated(
-    table: &[u64],
-    states: usize,
-    count: usize,
-    scan: &mut [u64],
-    class: usize,
-    sign: u64,
-    spot: Centre,
-    paid: u64,
-    prices: &[u64],
-    list: &[u16],
-) -> bool
-    requires { ⌜ (states ≤ 1024) × (count ≤ 4096) × (count * (40 + states) ≤ length (now table)) × (states ≤ length (now prices)) × Chained states (now table) (now scan) count ⌝ }
-    requires { ⌜ (class ≡ classOf spot) × (sign ≡ signOf (take states (now prices))) × (128 ≤ states → Reaches states (now prices) (now list)) ⌝ }
-    ensures { λ r. ⌜ (r ≡ any count (λ u. dominates (nodeIn states (now (table .entry)) u) (nodeWith spot paid (take states (now (prices .entry))) 0 0))) × Recalled (now (scan .entry)) (now (scan .exit)) ⌝ }
-{
-    let found = dominator(
-        table,
-        states,
-        count,
-        scan,
-        class,
-        sign,
-        spot,
-        paid,
-        prices,
-        list,
-    );
-    let place = 17696 + slot_of(class, sign);
-    scan[place] = recent_word(found, count);
-    found > 0
 }
 
 // ---- the choice
@@ -488,7 +442,7 @@ fn find(scan: &[u64], from: usize, count: usize, word: u64) -> usize
 // One more than the node with the least key below the bound, the lowest on ties; 0 for none. An upper word is picked, of those that the first `count`
 // nodes have, and it is that key. So the block is the first of its 16 blocks whose word is the same, and the node the first in the block with that key.
 pub fn choose(scan: &[u64], count: usize, bound: u64) -> usize
-    requires { ⌜ (length (now scan) ≡ 21792) × (count ≤ 4096) × (bound ≤ mark) × Blocked (now scan) count ⌝ }
+    requires { ⌜ (length (now scan) ≡ 17696) × (count ≤ 4096) × (bound ≤ mark) × Blocked (now scan) count ⌝ }
     ensures { λ r. ⌜ r ≡ chooseBy bound (now (scan .entry)) count ⌝ }
 {
     let picked = pick(scan, 7440, (count + 255) / 256, bound);

@@ -22,7 +22,7 @@ use Rattle.search.specs.Explore.Laws.{Base}
 use Rattle.search.specs.Made.{Made}
 use Rattle.rows.specs.Row.{nodeIn, nodesIn, nodeWith}
 use Rattle.rows.specs.Scan.{keyBy}
-use Rattle.nodes.specs.Chain.{Chained, Recalled}
+use Rattle.nodes.specs.Chain.{Chained}
 use Rattle.offers.specs.declared.Run.{Run}
 use Rattle.offers.specs.declared.Turned.{Turned}
 
@@ -56,7 +56,7 @@ pub record Room (S nodes : ℕ) (T O : List ℕ) (r : Run) : Type 0 where
   pub few-states : S ≤ 1024
   pub few-nodes : nodes ≤ 4096
   pub table-long : (nodes + 1) * (40 + S) ≤ length T
-  pub scan-long : length O ≡ 21792
+  pub scan-long : length O ≡ 17696
   pub count-few : r .count ≤ nodes
   pub chained : Chained S T O (r .count)
 
@@ -92,15 +92,14 @@ pub record Kept (S : ℕ) (T O : List ℕ) (r : Run) (n : Node) (opens cost : �
 
 -- ---- a turn
 
--- what a turn leaves true whatever the task: counts do not fall, the nodes stay within `nodes` and chained, and a full table leaves all as it was but
--- for recent words
+-- what a turn leaves true whatever the task: counts do not fall, the nodes stay within `nodes` and chained, and a full table leaves all as it was
 pub record Went (S nodes : ℕ) (T O : List ℕ) (r : Run) (T′ O′ : List ℕ) (w : Turned) : Type 0 where
   pub more : r .count ≤ w .run .count
   pub room : w .run .count ≤ nodes
   pub begun-is : w .run .begun ≡ r .begun
   pub chained : Chained S T O (r .count) → Chained S T′ O′ (w .run .count)
   pub table-still : w .full ≡ true → T′ ≡ T
-  pub scan-still : w .full ≡ true → Recalled O O′
+  pub scan-still : w .full ≡ true → O′ ≡ O
   pub run-still : w .full ≡ true → w .run ≡ r
 
 -- a turn came out as the search says: the search to go on with stands in the table

@@ -1,8 +1,9 @@
 // A successor is offered to the search that the lent table holds: dropped, refused for a full table, or settled and kept.
 use dominance::list_reached;
 use mets::slot_for;
-use nodes::is_dominated;
+use nodes::dominator;
 use nodes::link;
+use nodes::slot_of;
 use rows::class_of;
 use rows::goal_cost;
 use rows::sign_of;
@@ -75,7 +76,7 @@ pub fn keep(
 ) -> Run
     requires { ⌜ Cut leaves (now bases) (length (now prices)) × Cut leaves (now bases) (length (now goals)) ⌝ }
     requires { ⌜ (getD (now bases) leaves 0 ≤ 1024) × (run .count < 4096) × ((run .count + 1) * (40 + getD (now bases) leaves 0) ≤ length (now table))
-        × (length (now scan) ≡ 21792) ⌝ }
+        × (length (now scan) ≡ 17696) ⌝ }
     requires { ⌜ (swept ≡ false → sign ≡ signOf (take (getD (now bases) leaves 0) (now prices))) × (class ≡ classOf spot) ⌝ }
     ensures { λ r. ⌜ Kept (getD (now (bases .entry)) leaves 0) (now (table .entry)) (now (scan .entry)) run
         (nodeWith spot paid (take (getD (now (bases .entry)) leaves 0) (now (prices .entry))) parent action) key
@@ -195,6 +196,17 @@ fn list_of<'a>(old: &'a [u16], made: &'a [u16], still: u8) -> &'a [u16]
     old
 }
 
+// The next recent number: that of the node that was found, one more than its own, or else of the one behind the first `count` nodes, which is kept next if
+// it is kept. Any number is right.
+fn recent_next(found: usize, count: usize) -> u16
+    requires { ⌜ (found ≤ count) × (count ≤ 4096) ⌝ }
+{
+    if found == 0 {
+        return (count + 1) as u16;
+    }
+    found as u16
+}
+
 // The prices of a layer's begin, at the front of `begin`.
 fn fill_begin(old: &[u64], begin: &mut [u64], still: u8, states: usize)
     requires { ⌜ (states ≤ length (now old)) × (states ≤ length (now begin)) ⌝ }
@@ -246,7 +258,7 @@ pub fn offer(
     requires { ⌜ Cut leaves (now bases) (length (now begin)) × Cut leaves (now bases) (length (now goals)) ⌝ }
     requires { ⌜ (sign ≡ signOf (take (getD (now bases) leaves 0) (begunWords still (getD (now bases) leaves 0) (now old) (now begin))))
         × (getD (now bases) leaves 0 ≤ length (now old))
-        × (128 ≤ getD (now bases) leaves 0 → Reaches (getD (now bases) leaves 0) (now old) (now list)) × (1024 ≤ length (now room)) ⌝ }
+        × (128 ≤ getD (now bases) leaves 0 → Reaches (getD (now bases) leaves 0) (now old) (now list)) × (5120 ≤ length (now room)) ⌝ }
     requires { ⌜ Room (getD (now bases) leaves 0) nodes (now table) (now scan) run ⌝ }
     ensures offered { λ r. ⌜ Offered (boardOf leaves actions (now (bases .entry)) (now (moves .entry)) (now (costs .entry)) (now (kinds .entry)) factors
         (now (conditions .entry))) (now (goals .entry)) goal nodes (now (table .entry)) (now (scan .entry)) run spot paid
@@ -262,7 +274,9 @@ pub fn offer(
     }
     let class = class_of(spot);
     let many = list_begin(states, &begin[..], room, still);
-    if is_dominated(
+    let place = 1024 + slot_of(class, sign);
+    let recent = room[place] as usize;
+    let found = dominator(
         table,
         states,
         count,
@@ -273,7 +287,10 @@ pub fn offer(
         paid,
         read_from(old, &begin[..], still),
         list_of(list, &room[..many], still),
-    ) {
+        recent,
+    );
+    room[place] = recent_next(found, count);
+    if found > 0 {
         return Turned { full: false, run };
     }
     if count >= nodes {

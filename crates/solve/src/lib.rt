@@ -220,7 +220,7 @@ fn search_with(
     let goals = leaf_goals(task, bases);
     let mut ends: [usize; 1025] = [0; 1025];
     task_edges(task, &bases, moves, &costs, &kinds, edges, &mut ends);
-    let mut scan = [0u64; 21792];
+    let mut scan = [0u64; 17696];
     let stop = explore(
         task,
         &bases,

@@ -25,12 +25,12 @@ use Rattle.explore.proofs.explore.Tie as tie
 
 abbrev Inv-loop : tie.InvT-loop
 Inv-loop bases moves costs kinds starts goals nodes budget edges ends table₀ scan₀ task leaves actions factors goal stills still firsts hops ways run₀ known₀ mets₀ old₀ next₀ list₀ room₀ table scan run known mets old next list room =
-    (length table ≡ length table₀) × (length scan ≡ 21792)
+    (length table ≡ length table₀) × (length scan ≡ 17696)
     × AheadBy (boardOf leaves actions bases moves costs kinds factors (task .conditions)) (task .effects) goals goal nodes budget table₀ scan₀ run₀ table scan run
     × (length old ≡ 1024) × (length next ≡ 1024)
     × Known (boardOf leaves actions bases moves costs kinds factors (task .conditions)) known
     × (length mets ≡ 256)
-    × (length list ≡ 1024) × (length room ≡ 1024)
+    × (length list ≡ 1024) × (length room ≡ 5120)
 
 abbrev μ-loop : tie.MeasureT-loop
 μ-loop bases moves costs kinds starts goals nodes budget edges ends table₀ scan₀ task leaves actions factors goal stills still firsts hops ways run₀ known₀ mets₀ old₀ next₀ list₀ room₀ table scan run known mets old next list room =

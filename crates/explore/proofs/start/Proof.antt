@@ -38,7 +38,7 @@ fit s =
     (s .pre .1 .0 .0) (s .pre .1 .0 .1) (lists s .0) (lists s .1)
 
 -- there are as many scan words after the block words are set
-wide : (f : tie.After-fresh) → length (f .fresh .last .0) ≡ 21792
+wide : (f : tie.After-fresh) → length (f .fresh .last .0) ≡ 17696
 wide f =
     let s = f .before .before .before .before .before .before .before .before .before .before in
     let kept : length (f .fresh .last .0) ≡ length (now (s .args .scan)) = f .fresh .kept .0 in

@@ -85,7 +85,7 @@ module _ (t : Task) (b : Board) (effects goals goalPairs : List ℕ) (suits : Su
       rw (e, isSpot)
 
   -- node 0 is kept, in the scan words O with all block words at the mark: the search at its start
-  pub start-is : (T O F T′ O′ : List ℕ) (r′ : Run) (opens : ℕ) → length O ≡ 21792 → ((h : ℕ) → h < 1025 → getD O (6144 + h) 0 ≡ 0) → F ≡ freshTo O 272
+  pub start-is : (T O F T′ O′ : List ℕ) (r′ : Run) (opens : ℕ) → length O ≡ 17696 → ((h : ℕ) → h < 1025 → getD O (6144 + h) 0 ≡ 0) → F ≡ freshTo O 272
       → opens ≡ keyBy (b .leaves) (b .bases) 0 P
       → Kept (rowOn b) T F noRun (nodeWith spot 0 (take (rowOn b) P) 0 0) opens
       (goalCostBy (b .leaves) (b .bases) goals (b .factors) goalPairs spot 0 P) T′ O′ r′
@@ -99,7 +99,7 @@ module _ (t : Task) (b : Board) (effects goals goalPairs : List ℕ) (suits : Su
       let isCost = goal-is t (b .leaves) (b .bases) goals (b .factors) goalPairs scans 0 n (omega arith) m P refl in
       let small : key t n < mark = omega (arith, made-key t (suits .valid) 0 n (omega arith) m) in
       let cheap : isGoal t n ≡ true → goalCost t n < mark = λ g. omega (arith, made-goal t (suits .valid) 0 n (omega arith) m g) in
-      let wide : length F ≡ 21792 = ap length isFresh ∙ fresh-length O 272 ∙ long in
+      let wide : length F ≡ 17696 = ap length isFresh ∙ fresh-length O 272 ∙ long in
       let chains : Chained (rowOn b) T F 0 = rw isFresh (chained-fresh (rowOn b) T O long heads) in
       let v = none-base t (rowOn b) T F in
       let held = none-cached t (rowOn b) T F in

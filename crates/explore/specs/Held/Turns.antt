@@ -43,7 +43,7 @@ use Rattle.hops.specs.Hops.{HopOn}
 use Rattle.explore.specs.Held.{Suits, expandedOf, Aside, Useful, Moved, Grown, Done}
 use Rattle.offers.specs.Held.{searchOf, Cached, Scans, Room, Has, Stands, settledWords, begunNode, settledNode, Alike, Offered}
 use Rattle.offers.specs.Held.Offers.{went-same}
-use Rattle.offers.specs.Held.Laws.{kept-length, node-at, below-is, key-any, goal-is, search-recalled}
+use Rattle.offers.specs.Held.Laws.{kept-length, node-at, below-is, key-any, goal-is}
 
 -- ---- turn
 
@@ -410,8 +410,7 @@ module _ (b : Board) (effects goals goalPairs : List ℕ) (nodes u opens : ℕ) 
       ended e = (
         before .whole
             ∙ expand-full t nodes u (t .actions) a (searchOf (rowOn b) T O r) one (rw e at (gave .said))
-            ∙ rw (e, m .went .table-still e, m .went .run-still e)
-            (ap filled (sym (search-recalled (rowOn b) T O O′ r (omega (arith, l .room .count-few, l .room .few-nodes)) (m .went .scan-still e)))),
+            ∙ rw (e, m .went .table-still e, m .went .scan-still e, m .went .run-still e),
         gave .held,
       )
 

@@ -21,7 +21,7 @@ lower-requires : tie.Need-lower-requires
 lower-requires c κs = simp length-set (omega arith)
 
 -- there are as many scan words after the block's word is lowered
-first : (c : tie.After-lower) → length (c .lower .last .0) ≡ 21792
+first : (c : tie.After-lower) → length (c .lower .last .0) ≡ 17696
 first c =
     let s = c .before .before .before in
     let kept : length (c .lower .last .0) ≡ length (s .args .scan .now) = c .lower .kept .0 ∙ simp length-set in
@@ -34,7 +34,7 @@ lower-requires-2 : tie.Need-lower-requires-2
 lower-requires-2 c κs = omega (arith, first (c .before .before .before))
 
 -- after the upper word is
-second : (c : tie.After-lower2) → length (c .lower2 .last .0) ≡ 21792
+second : (c : tie.After-lower2) → length (c .lower2 .last .0) ≡ 17696
 second c =
     let kept : length (c .lower2 .last .0) ≡ length (c .before .before .before .before .lower .last .0) = c .lower2 .kept .0 in
     kept ∙ first (c .before .before .before .before)
@@ -43,7 +43,7 @@ group-for-requires : tie.Need-group-for-requires
 group-for-requires c κs = (second (c .before .before .before), search needs)
 
 -- and after the group is found
-third : (c : tie.After-group-for) → length (c .group-for .last .0) ≡ 21792
+third : (c : tie.After-group-for) → length (c .group-for .last .0) ≡ 17696
 third c =
     let kept : length (c .group-for .last .0) ≡ length (c .before .before .before .before .lower2 .last .0) = c .group-for .kept .0 in
     kept ∙ second (c .before .before .before .before)

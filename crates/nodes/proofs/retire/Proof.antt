@@ -17,7 +17,7 @@ raise-requires : tie.Need-raise-requires
 raise-requires c κs = search needs
 
 -- there are as many scan words after the block's word is stored
-kept : (c : tie.After-raise) → length (c .raise .last .0) ≡ 21792
+kept : (c : tie.After-raise) → length (c .raise .last .0) ≡ 17696
 kept c =
     let s = c .before .before .before in
     let same : length (c .raise .last .0) ≡ length (s .args .scan .now) = c .raise .kept .0 ∙ simp length-set in

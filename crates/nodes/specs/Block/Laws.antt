@@ -399,7 +399,7 @@ module _ (C : List ℕ) (u n : ℕ) where
   pub retired-behind : (i : ℕ) → u < 4096 → 7456 ≤ i → getD (retiredTo C u n) i 0 ≡ getD C i 0
   retired-behind i l b = retired-but i (λ e. omega arith) (λ e. omega arith) ∙ getD-set-other C u i mark 0 (λ e. omega arith)
 
-module _ (C : List ℕ) (u n : ℕ) (long : length C ≡ 21792) (few : n ≤ 4096) (inside : u < n) where
+module _ (C : List ℕ) (u n : ℕ) (long : length C ≡ 17696) (few : n ≤ 4096) (inside : u < n) where
   -- the scan words after it
   abbrev D : List ℕ
   D = retiredTo C u n

@@ -210,7 +210,7 @@ grouped-same S T T′ C n s r = record {
 
 -- ---- a group is opened
 
-module _ (S : ℕ) (T C : List ℕ) (n h : ℕ) (long : length C ≡ 21792) (few : groupsIn C < 2048) (small : h < 1024) (r : Grouped S T C n) where
+module _ (S : ℕ) (T C : List ℕ) (n h : ℕ) (long : length C ≡ 17696) (few : groupsIn C < 2048) (small : h < 1024) (r : Grouped S T C n) where
   abbrev g : ℕ
   g = groupsIn C
 
@@ -369,7 +369,7 @@ module _ (S : ℕ) (T C : List ℕ) (n h : ℕ) (long : length C ≡ 21792) (few
 
 -- ---- node n joins group g, the last of its class, which has room
 
-module _ (S : ℕ) (T C : List ℕ) (n g : ℕ) (inside : n < 4096) (long : length C ≡ 21792) (few : groupsIn C ≤ 2048) (known : g < groupsIn C)
+module _ (S : ℕ) (T C : List ℕ) (n g : ℕ) (inside : n < 4096) (long : length C ≡ 17696) (few : groupsIn C ≤ 2048) (known : g < groupsIn C)
     (room : fillAt C g < 4) (own : classAt C g ≡ classOf (nodeIn S T n .spot)) (r : Grouped S T C n) where
   abbrev s : ℕ
   s = signOf (nodeIn S T n .prices)

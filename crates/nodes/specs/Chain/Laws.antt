@@ -17,14 +17,14 @@ use Rattle.rows.specs.Sign.{classOf, signOf}
 use Rattle.rows.specs.Sign.Laws.{class-lt}
 use Rattle.nodes.specs.Block.{blockWords, upperWords, Blocked, freshTo, loweredTo, retiredTo}
 use Rattle.nodes.specs.Block.Laws.{under-same, under-lowered, blocked-none, fresh-length, fresh-other, fresh-block, drop-same, lowered-length, lowered-other, lowered-here, retired-length, retired-key, retired-behind, blocked-retire}
-use Rattle.nodes.specs.Chain.{headAt, groupsIn, wordAt, classAt, fillAt, nodesAt, slotOf, hasRoom, groupFor, withGroup, openedTo, withEntry, joinedTo, blockedTo, linkedTo, Grouped, Chained, Recalled}
+use Rattle.nodes.specs.Chain.{headAt, groupsIn, wordAt, classAt, fillAt, nodesAt, hasRoom, groupFor, withGroup, openedTo, withEntry, joinedTo, blockedTo, linkedTo, Grouped, Chained}
 use Rattle.nodes.specs.Chain.Groups.{room-some, room-head, group-last, group-new, SameGroups, grouped-none, grouped-words, grouped-same, open-other, open-groups, open-head, open-word, open-length, word-old, grouped-open, join-length, join-before, join-between, started-join, grouped-join}
 use Rattle.nodes.specs.Chain.Room.{free-full, groups-few}
 
 -- ---- chains
 
 -- no node
-pub chained-none : (S : ℕ) (T C : List ℕ) → length C ≡ 21792 → ((h : ℕ) → h < 1025 → headAt C h ≡ 0) → ((b : ℕ) → b < 272 → getD C (7184 + b) 0 ≡ mark)
+pub chained-none : (S : ℕ) (T C : List ℕ) → length C ≡ 17696 → ((h : ℕ) → h < 1025 → headAt C h ≡ 0) → ((b : ℕ) → b < 272 → getD C (7184 + b) 0 ≡ mark)
     → Chained S T C 0
 chained-none S T C l z m = record {
   long = l;
@@ -36,7 +36,7 @@ chained-none S T C l z m = record {
 }
 
 -- no node, after all block words are set to the mark
-pub chained-fresh : (S : ℕ) (T C : List ℕ) → length C ≡ 21792 → ((h : ℕ) → h < 1025 → headAt C h ≡ 0) → Chained S T (freshTo C 272) 0
+pub chained-fresh : (S : ℕ) (T C : List ℕ) → length C ≡ 17696 → ((h : ℕ) → h < 1025 → headAt C h ≡ 0) → Chained S T (freshTo C 272) 0
 chained-fresh S T C l z =
     chained-none S T (freshTo C 272) (fresh-length C 272 ∙ l) (λ h b. fresh-other C 272 (6144 + h) (omega arith) ∙ z h b)
     (λ b k. fresh-block C 272 b (omega arith) k)
@@ -61,42 +61,6 @@ chained-retire S T C n u few inside r =
     chained-words S T C (retiredTo C u n) n few (retired-length C u n)
     (λ i l h. retired-key C u n i h ∙ getD-set-other C u i mark 0 (λ e. omega arith)) (λ i l h. retired-behind C u n i (omega arith) l)
     (blocked-retire C u n (r .long) few inside (r .blocks)) r
-
--- ---- recent words
-
--- the words as they were
-pub recalled-none : (C : List ℕ) → Recalled C C
-recalled-none C = record { long = refl; same = λ i l. refl }
-
--- one step after the other
-pub recalled-both : (C D E : List ℕ) → Recalled C D → Recalled D E → Recalled C E
-recalled-both C D E r s = record { long = s .long ∙ r .long; same = λ i l. s .same i l ∙ r .same i l }
-
--- one recent word is stored
-pub recalled-set : (C : List ℕ) (i v : ℕ) → 17696 ≤ i → Recalled C (set C i v)
-recalled-set C i v h = record { long = length-set C i v; same = λ k l. getD-set-other C i k v 0 (λ e. omega arith) }
-
--- the block words do not go by recent words
-pub blocked-recalled : (C D : List ℕ) (n : ℕ) → n ≤ 4096 → Recalled C D → Blocked C n → Blocked D n
-blocked-recalled C D n few k r = record {
-  keys = under-same C (blockWords C) D (blockWords D) 256 n (omega arith) (λ u l. k .same u (omega arith)) (λ b l. word 7184 b (omega arith)) (r .keys);
-  words =
-      under-same (blockWords C) (upperWords C) (blockWords D) (upperWords D) 16 256 (omega arith) (λ b l. word 7184 b (omega arith))
-      (λ g l. word 7440 g (omega arith)) (r .words);
-}
-  where
-    word : (at b : ℕ) → at + b < 17696 → getD (drop at D) b 0 ≡ getD (drop at C) b 0
-    word at b l = drop-same C D at b (k .same (at + b) l)
-
--- nor do the chains
-pub chained-recalled : (S : ℕ) (T C D : List ℕ) (n : ℕ) → n ≤ 4096 → Recalled C D → Chained S T C n → Chained S T D n
-chained-recalled S T C D n few k r =
-    chained-words S T C D n few (k .long) (λ i l h. k .same i (omega arith)) (λ i l h. k .same i h) (blocked-recalled C D n few k (r .blocks)) r
-
--- the place of a recent word is below 4,096
-pub slot-lt : (h s : ℕ) → slotOf h s < 4096
-unfolding slotOf
-slot-lt h s = omega arith
 
 -- ---- another table
 
@@ -140,7 +104,7 @@ module _ (C : List ℕ) (n key : ℕ) where
   pub block-key : (u : ℕ) → u < 4096 → getD B u 0 ≡ getD (set C n key) u 0
   block-key u b = block-but u (λ e. omega arith) (λ e. omega arith)
 
-  module _ (long : length C ≡ 21792) (few : n < 4096) where
+  module _ (long : length C ≡ 17696) (few : n < 4096) where
     block-old : (i : ℕ) → 4096 ≤ i → (i ≡ 7184 + n / 16 → ⊥) → (i ≡ 7440 + n / 16 / 16 → ⊥) → getD B i 0 ≡ getD C i 0
     block-old i b d f = block-but i d f ∙ getD-set-other C n i key 0 (λ e. omega arith)
 
@@ -218,7 +182,7 @@ pub record Ready (S : ℕ) (T C : List ℕ) (n h : ℕ) (D : List ℕ) (g : ℕ)
   pub others : (f : ℕ) → f < groupsIn D → (f ≡ g → ⊥) → 0 < fillAt D f
   pub grouped : Grouped S T D n
 
-module _ (S : ℕ) (T C : List ℕ) (n h : ℕ) (long : length C ≡ 21792) (few : groupsIn C < 2048) (small : h < 1024) (r : Grouped S T C n)
+module _ (S : ℕ) (T C : List ℕ) (n h : ℕ) (long : length C ≡ 17696) (few : groupsIn C < 2048) (small : h < 1024) (r : Grouped S T C n)
     (started : (f : ℕ) → f < groupsIn C → 0 < fillAt C f) where
   -- it is the last of the class
   ready-last : hasRoom C (headAt C h) ≡ true → Ready S T C n h C ((headAt C h - 1) % 2048)
@@ -308,7 +272,7 @@ module _ (S : ℕ) (T C : List ℕ) (n key : ℕ) (few : n < 4096) (own : Packed
   abbrev mid : List ℕ
   mid = blockedTo C n key
 
-  mid-long : length mid ≡ 21792
+  mid-long : length mid ≡ 17696
   mid-long = block-length C n key ∙ r .long
 
   mid-groups : groupsIn mid ≡ groupsIn C
@@ -330,7 +294,7 @@ module _ (S : ℕ) (T C : List ℕ) (n key : ℕ) (few : n < 4096) (own : Packed
   abbrev g : ℕ
   g = groupFor mid class
 
-  E-long : length E ≡ 21792
+  E-long : length E ≡ 17696
   E-long = got .kept ∙ mid-long
 
   E-few : groupsIn E ≤ 1793

@@ -35,8 +35,8 @@ use Rattle.rows.specs.Row.{spotOf, nodeOf, nodeIn, nodesIn, Packed}
 use Rattle.rows.specs.Row.Laws.{row-lent, row-word, row-kept, row-written, nodesIn-length, nodesIn-at}
 use Rattle.rows.specs.Scan.{Cut, partBy, goalsBy, keyBy, goalSumBy, goalCostBy}
 use Rattle.rows.specs.Sign.{signOf, classOf}
-use Rattle.nodes.specs.Chain.{linkedTo, Recalled}
-use Rattle.nodes.specs.Chain.Laws.{linked-key, chained-recalled, chained-more}
+use Rattle.nodes.specs.Chain.{linkedTo}
+use Rattle.nodes.specs.Chain.Laws.{linked-key, chained-more}
 use Rattle.offers.specs.declared.Run.{Run}
 use Rattle.offers.specs.Held.{searchOf, Cached, Scans, Room, Has, keptRun, Kept}
 
@@ -266,33 +266,6 @@ module _ (S : ℕ) (T O : List ℕ) (r : Run) (n : Node) (opens cost : ℕ) (Q r
 -- 1 once the node's expansion has begun
 abbrev flag : List ℕ → ℕ → ℕ
 flag O u = cond (eqb (getD O u 0) mark) 1 0
-
--- the scan words O′ are those of O but for recent words
-module _ (S : ℕ) (T O O′ : List ℕ) (r : Run) (few : r .count ≤ 4096) (k : Recalled O O′) where
-  -- the search is the same
-  pub search-recalled : searchOf S T O′ r ≡ searchOf S T O r
-  unfolding searchOf
-  search-recalled = rw (list-ext (r .count) (flag O′) (flag O) (λ u l. rw (k .same u (omega arith))))
-
-  -- its open keys and its best cost are those of its nodes still
-  pub cached-recalled : (t : Task) → Cached t S T O r → Cached t S T O′ r
-  cached-recalled t c = record { keys = λ u l. rw (k .same u (omega arith)) (c .keys u l); none = c .none; some = c .some }
-
-  -- a node kept behind O′ is kept behind O
-  pub kept-recalled : (n : Node) (opens cost : ℕ) (T″ O″ : List ℕ) (r′ : Run) → r .count < length O
-      → Kept S T O′ r n opens cost T″ O″ r′ → Kept S T O r n opens cost T″ O″ r′
-  kept-recalled n opens cost T″ O″ r′ wide kept =
-      record {
-        old = kept .old;
-        new = kept .new;
-        keyed = λ u l. kept .keyed u l ∙ same u l (ℕ-discrete u (r .count));
-        counted = kept .counted;
-        linked = λ c. kept .linked (chained-recalled S T O O′ (r .count) few k c);
-      }
-    where
-      same : (u : ℕ) → u < 4096 → Dec (u ≡ r .count) → getD (set O′ (r .count) opens) u 0 ≡ getD (set O (r .count) opens) u 0
-      same u l (yes e) = rw (e, getD-set-same O (r .count) opens 0 wide) (getD-set-same O′ (r .count) opens 0 (omega (arith, k .long)))
-      same u l (no d) = rw (getD-set-other O (r .count) u opens 0 d, getD-set-other O′ (r .count) u opens 0 d) (k .same u (omega arith))
 
 module _ (t : Task) (nodes S : ℕ) (T O : List ℕ) (r : Run) (n : Node) (opens cost : ℕ) (T′ O′ : List ℕ) (r′ : Run)
     (b : Base t nodes (searchOf S T O r)) (held : Cached t S T O r) (kept : Kept S T O r n opens cost T′ O′ r′)

@@ -19,11 +19,9 @@ use Rattle.search.specs.Explore.{Search, nodeAt, belowBest, keep, on, full, off
 use Rattle.search.specs.Explore.Laws.{Base}
 use Rattle.rows.specs.Row.{nodeIn, nodeWith}
 use Rattle.rows.specs.Scan.{keyBy, goalCostBy}
-use Rattle.nodes.specs.Chain.{Recalled}
-use Rattle.nodes.specs.Chain.Laws.{recalled-none, chained-recalled}
 use Rattle.offers.specs.declared.Run.{Run}
 use Rattle.offers.specs.Held.{searchOf, Cached, Scans, Kept, Went, Stands, settledWords, begunNode, settledNode, Alike, Offered}
-use Rattle.offers.specs.Held.Laws.{kept-length, below-is, best-cap, key-any, goal-is, dominated-is, search-recalled, cached-recalled, kept-recalled, keep-is, keep-cached}
+use Rattle.offers.specs.Held.Laws.{kept-length, below-is, best-cap, key-any, goal-is, dominated-is, keep-is, keep-cached}
 
 -- a turn that changes nothing
 pub went-same : (S nodes : ℕ) (T O : List ℕ) (r : Run) (f : Bool) → r .count ≤ nodes → Went S nodes T O r T O (record { full = f; run = r })
@@ -34,21 +32,7 @@ went-same S nodes T O r f h =
       begun-is = refl;
       chained = λ c. c;
       table-still = λ _. refl;
-      scan-still = λ _. recalled-none O;
-      run-still = λ _. refl;
-    }
-
--- a turn that changes recent words only
-went-recalled : (S nodes : ℕ) (T O O′ : List ℕ) (r : Run) (f : Bool) → nodes ≤ 4096 → r .count ≤ nodes → Recalled O O′
-    → Went S nodes T O r T O′ (record { full = f; run = r })
-went-recalled S nodes T O O′ r f few h k =
-    record {
-      more = omega arith;
-      room = h;
-      begun-is = refl;
-      chained = chained-recalled S T O O′ (r .count) (omega arith) k;
-      table-still = λ _. refl;
-      scan-still = λ _. k;
+      scan-still = λ _. refl;
       run-still = λ _. refl;
     }
 
@@ -117,7 +101,7 @@ module _ (b : Board) (goals goalPairs : List ℕ) (nodes : ℕ) (T O : List ℕ)
           unfolding offer
           said-kept k = rw (below ∙ lt-ltb _ _ h, sym dominated ∙ d, kept-length S T O r, lt-ltb (r .count) nodes k, offer)
 
-  -- what the code has found: what is lent as the key, whether the node is dominated, and the scan words M with the node found as a recent word
+  -- what the code has found: what is lent as the key, and whether the node is dominated
   module _ (opens : ℕ) where
     abbrev IsKey : Type 0
     IsKey = opens ≡ keyBy (b .leaves) (b .bases) paid P
@@ -131,46 +115,36 @@ module _ (b : Board) (goals goalPairs : List ℕ) (nodes : ℕ) (T O : List ℕ)
           dropped = λ t scans v held isKey e. record { said = refl; held = held };
         }
 
-    module _ (h : opens < r .«best_cost») (found : Bool) (isFound : found ≡ beaten) (M : List ℕ) (recalled : Recalled O M) where
-      -- the search with them
-      same-search : searchOf S T M r ≡ search
-      same-search = search-recalled S T O M r (omega arith) recalled
-
+    module _ (h : opens < r .«best_cost») (found : Bool) (isFound : found ≡ beaten) where
       -- a key below best is below the mark
       unblocked : (t : Task) → Scans t (b .leaves) (b .bases) goals (b .factors) goalPairs → Base t nodes search → Cached t S T O r → IsKey
           → mark ≤ key t early → ⊥
       unblocked t scans v held isKey e = omega (arith, its-key t scans v held, cap t scans v held)
 
       -- a node kept dominates it: dropped
-      pub offered-dominated : found ≡ true → Offered b goals goalPairs nodes T O r spot paid P parent action opens T M (record { full = false; run = r })
+      pub offered-dominated : found ≡ true → Offered b goals goalPairs nodes T O r spot paid P parent action opens T O (record { full = false; run = r })
       offered-dominated d =
           record {
-            went = went-recalled S nodes T O M r false few room recalled;
+            went = went-same S nodes T O r false room;
             offered = λ t scans v held isKey m alike.
-                record {
-                  said = said-dominated t scans v held m alike (omega arith) (sym isFound ∙ d) ∙ ap on (sym same-search);
-                  held = cached-recalled S T O M r (omega arith) recalled t held;
-                };
+                record { said = said-dominated t scans v held m alike (omega arith) (sym isFound ∙ d); held = held };
             dropped = λ t scans v held isKey e. absurd (unblocked t scans v held isKey e);
           }
 
       module _ (d : found ≡ false) where
         -- the table is full
-        pub offered-full : nodes ≤ r .count → Offered b goals goalPairs nodes T O r spot paid P parent action opens T M (record { full = true; run = r })
+        pub offered-full : nodes ≤ r .count → Offered b goals goalPairs nodes T O r spot paid P parent action opens T O (record { full = true; run = r })
         offered-full k =
             record {
-              went = went-recalled S nodes T O M r true few room recalled;
+              went = went-same S nodes T O r true room;
               offered = λ t scans v held isKey m alike.
-                  record {
-                    said = said-full t scans v held m alike (omega arith) (sym isFound ∙ d) k;
-                    held = cached-recalled S T O M r (omega arith) recalled t held;
-                  };
+                  record { said = said-full t scans v held m alike (omega arith) (sym isFound ∙ d) k; held = held };
               dropped = λ t scans v held isKey e. absurd (unblocked t scans v held isKey e);
             }
 
         -- it is settled and kept
-        pub offered-kept : r .count < nodes → length O ≡ 21792 → (P′ : List ℕ) → P′ ≡ settledWords b spot P → (T′ O′ : List ℕ) (r′ : Run)
-            → Kept S T M r (nodeWith spot paid (take S P′) parent action) opens (goalCostBy (b .leaves) (b .bases) goals (b .factors) goalPairs spot paid P′) T′ O′ r′
+        pub offered-kept : r .count < nodes → length O ≡ 17696 → (P′ : List ℕ) → P′ ≡ settledWords b spot P → (T′ O′ : List ℕ) (r′ : Run)
+            → Kept S T O r (nodeWith spot paid (take S P′) parent action) opens (goalCostBy (b .leaves) (b .bases) goals (b .factors) goalPairs spot paid P′) T′ O′ r′
             → Offered b goals goalPairs nodes T O r spot paid P parent action opens T′ O′ (record { full = false; run = r′ })
         offered-kept k long P′ isWords T′ O′ r′ given =
             record {
@@ -189,7 +163,7 @@ module _ (b : Board) (goals goalPairs : List ℕ) (nodes : ℕ) (T O : List ℕ)
             }
           where
             kept : Kept S T O r node opens (goalCostBy (b .leaves) (b .bases) goals (b .factors) goalPairs spot paid (settledWords b spot P)) T′ O′ r′
-            kept = kept-recalled S T O M r (omega arith) recalled node _ _ T′ O′ r′ (omega arith) (rw isWords at given)
+            kept = rw isWords at given
 
             stands : (t : Task) → Scans t (b .leaves) (b .bases) goals (b .factors) goalPairs → Base t nodes search → Cached t S T O r → IsKey
                 → Made t (r .count) node → Alike t S T (r .count) early node → Stands t S T′ O′ (record { full = false; run = r′ }) (offer t nodes search node)

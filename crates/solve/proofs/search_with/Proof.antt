@@ -96,7 +96,7 @@ explore-requires c κs =
     let g = c .before .before .before .before .before .before .before .before .before .before .before .before .before .before .before .before .before .before .before .before in
     let s = c .before .before .before .before .before .before .before .before .before .before .before .before .before .before .before .before .before .before .before .before .before .before .before .before .before .before .before .before .before .before .before .before in
     let e = c .before .before .before .before .before .before .before .before .before .before .before .before .before .task-edges .ensures in
-    (s .pre .0, ((tabled g, g .leaf-goals .ensures), (e, (s .pre .1 .1, s .pre .1 .2, s .pre .1 .3, refl, λ h _. replicate-at 21792 0 (6144 + h)))))
+    (s .pre .0, ((tabled g, g .leaf-goals .ensures), (e, (s .pre .1 .1, s .pre .1 .2, s .pre .1 .3, refl, λ h _. replicate-at 17696 0 (6144 + h)))))
 
 slice-aggregate-answer-of : tie.Need-slice-aggregate-answer-of
 slice-aggregate-answer-of c = sym (c .before .before .before .before .before .before .before .before .before .before .before .before .before .before .before .before .before .before .before .before .before .before .before .before .before .before .before .before .before .before .before .before .before .before .before .before .before .pre .1 .0 .long)
