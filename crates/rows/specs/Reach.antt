@@ -12,7 +12,7 @@ use lib.ListN.{length, getD, set, take}
 use lib.Seq.{length-take-le, getD-take, getD-set-same, getD-set-other}
 use Rattle.loops.specs.Count.Laws.{below-cases}
 use Rattle.leaf.specs.Price.{mark}
-use Rattle.rows.specs.Row.{NotAbove, Above}
+use Rattle.rows.specs.Row.{Above}
 
 -- x is the word of L at a place
 pub record Listed (L : List ℕ) (x : ℕ) : Type 0 where

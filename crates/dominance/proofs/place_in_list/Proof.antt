@@ -1,5 +1,4 @@
 -- `dominance::place_in_list` meets its contract. The invariant: no price at the states of the list so far is higher. Assumes nothing.
-use mathlib.Core.Path.{_≡_}
 use Prim.Native.Nat.{ℕ, _+_, _-_, _≤_, _<_}
 use native.Mathlib.Nat.{not-suc-le-zero}
 use native.Mathlib.Omega.{arith}

@@ -1,5 +1,5 @@
 -- `explore::start` meets its contract: the first layer's prices by tables are node 0's, and node 0 is kept. Assumes nothing.
-use mathlib.Core.Path.{_≡_, ap, sym, _∙_}
+use mathlib.Core.Path.{_≡_, ap, _∙_}
 use mathlib.Core.Bool.{true≢false}
 use native.Mathlib.Omega.{arith}
 use denote.Ref.{now}

@@ -1,5 +1,5 @@
 -- `tables::fill_moves` meets its contract: the rows are those of the task, by the definitions. Assumes nothing.
-use mathlib.Core.Path.{_≡_, sym}
+use mathlib.Core.Path.{_≡_}
 use native.Mathlib.Omega.{arith}
 use lib.ListN.{length}
 use borrow.Author.Needs.{needs}
