@@ -68,6 +68,10 @@ roomOf C (suc g) = 4 - fillAt C g
 abbrev pub roomAt : List ℕ → ℕ → ℕ
 roomAt C h = roomOf C (headAt C h)
 
+-- the place of the recent number of a class h and a signature s; any number below 4,096 is right, only speed depends on it
+unfoldable pub slotOf : ℕ → ℕ → ℕ
+slotOf h s = (h * 5 + s % 4093) % 4096
+
 -- ---- what is stored; remainders keep any number inside the words
 
 -- whether the group that a head stands for has room

@@ -12,7 +12,7 @@ ghost use Rattle.rows.specs.Row.{rowIn, nodeIn, nodeWith, Packed, Tested};
 ghost use Rattle.rows.specs.Sign.{classOf, signOf};
 ghost use Rattle.nodes.specs.Choice.{chooseBy};
 ghost use Rattle.nodes.specs.Block.{blockSize, leastIn, FirstOf, LeastFrom, Blocked, freshTo, loweredTo, raisedTo, retiredTo};
-ghost use Rattle.nodes.specs.Chain.{groupsIn, lacking, allLack, hasRoom, groupFor, withGroup, openedTo, entryOf, withEntry, joinedTo, linkedTo, Chained, Dominator, Tried};
+ghost use Rattle.nodes.specs.Chain.{groupsIn, slotOf, lacking, allLack, hasRoom, groupFor, withGroup, openedTo, entryOf, withEntry, joinedTo, linkedTo, Chained, Dominator, Tried};
 
 // ---- chains
 
@@ -371,10 +371,10 @@ fn walk(
     0
 }
 
-// The place of the recent number of a class and a signature: any number below 4,096 is right, only speed depends on it.
+// The place of the recent number of a class and a signature.
 pub fn slot_of(class: usize, sign: u64) -> usize
     requires { ⌜ class < 4096 ⌝ }
-    ensures { λ r. ⌜ r < 4096 ⌝ }
+    ensures { λ r. ⌜ r ≡ slotOf class sign ⌝ }
 {
     (class * 5 + (sign % 4093) as usize) % 4096
 }

@@ -219,7 +219,8 @@ fn fill_begin(old: &[u64], begin: &mut [u64], still: u8, states: usize)
 }
 
 // A successor of node `parent` by `action`, from its layer's begin, which is `old` where `still` is not 0: dropped, refused for a full table, or settled
-// and kept under the next number. `list` has the states that `old` reaches where there are 128 or more, and `room` is for another such list.
+// and kept under the next number. `list` has the states that `old` reaches where there are 128 or more; `room` is for another such list, and
+// has the recent numbers behind its first 1,024 words.
 pub fn offer(
     leaves: usize,
     actions: usize,

@@ -1,6 +1,7 @@
--- `nodes::slot_of` meets its contract: a remainder by 4,096 is below that. Assumes nothing.
-use native.Mathlib.Omega.{arith}
+-- `nodes::slot_of` meets its contract. Assumes nothing.
+use mathlib.Core.Path.{refl}
 use borrow.Author.Needs.{needs}
+use Rattle.nodes.specs.Chain.{slotOf}
 use Rattle.nodes.proofs.slot_of.Statement.{statement}
 use Rattle.nodes.proofs.slot_of.Tie as tie
 
@@ -11,7 +12,8 @@ add-result : tie.Need-add-result
 add-result c = search needs
 
 returns : tie.Need-returns
-returns c = omega arith
+unfolding slotOf
+returns c = refl
 
 pub slot-of-spec : {M : Type 1} → statement M
 slot-of-spec = tie.close (tie.spec mul-result add-result returns)

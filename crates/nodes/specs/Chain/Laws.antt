@@ -17,7 +17,7 @@ use Rattle.rows.specs.Sign.{classOf, signOf}
 use Rattle.rows.specs.Sign.Laws.{class-lt}
 use Rattle.nodes.specs.Block.{blockWords, upperWords, Blocked, freshTo, loweredTo, retiredTo}
 use Rattle.nodes.specs.Block.Laws.{under-same, under-lowered, blocked-none, fresh-length, fresh-other, fresh-block, drop-same, lowered-length, lowered-other, lowered-here, retired-length, retired-key, retired-behind, blocked-retire}
-use Rattle.nodes.specs.Chain.{headAt, groupsIn, wordAt, classAt, fillAt, nodesAt, hasRoom, groupFor, withGroup, openedTo, withEntry, joinedTo, blockedTo, linkedTo, Grouped, Chained}
+use Rattle.nodes.specs.Chain.{headAt, groupsIn, wordAt, classAt, fillAt, nodesAt, slotOf, hasRoom, groupFor, withGroup, openedTo, withEntry, joinedTo, blockedTo, linkedTo, Grouped, Chained}
 use Rattle.nodes.specs.Chain.Groups.{room-some, room-head, group-last, group-new, SameGroups, grouped-none, grouped-words, grouped-same, open-other, open-groups, open-head, open-word, open-length, word-old, grouped-open, join-length, join-before, join-between, started-join, grouped-join}
 use Rattle.nodes.specs.Chain.Room.{free-full, groups-few}
 
@@ -61,6 +61,13 @@ chained-retire S T C n u few inside r =
     chained-words S T C (retiredTo C u n) n few (retired-length C u n)
     (λ i l h. retired-key C u n i h ∙ getD-set-other C u i mark 0 (λ e. omega arith)) (λ i l h. retired-behind C u n i (omega arith) l)
     (blocked-retire C u n (r .long) few inside (r .blocks)) r
+
+-- ---- recent numbers
+
+-- the place of one is below 4,096
+pub slot-lt : (h s : ℕ) → slotOf h s < 4096
+unfolding slotOf
+slot-lt h s = omega arith
 
 -- ---- another table
 

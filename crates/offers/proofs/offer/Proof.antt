@@ -16,6 +16,7 @@ use Rattle.rows.specs.Reach.{Reaches, reaches-front}
 use Rattle.rows.specs.Row.{nodeIn, nodeWith}
 use Rattle.rows.specs.Sign.{signOf}
 use Rattle.rows.specs.Sign.Laws.{class-lt}
+use Rattle.nodes.specs.Chain.Laws.{slot-lt}
 use Rattle.nodes.specs.Chain.Walk.{dominator-tells}
 use Rattle.offers.specs.Held.Laws.{rows-fit, cut}
 use Rattle.offers.specs.Held.Offers.{offered-above, offered-dominated, offered-full, offered-kept}
@@ -59,18 +60,22 @@ list-begin-requires c κs = let s = c .before .before .before .before .before .b
 slot-of-requires : tie.Need-slot-of-requires
 slot-of-requires c κs = omega (arith, class-lt (c .before .before .before .before .before .before .before .before .before .before .before .before .before .before .before .before .before .before .before .before .before .before .before .before .before .args .spot), c .before .before .before .before .before .class-of .ensures)
 
+-- the place is below 4,096
+small : (c : tie.After-slot-of) → c .slot-of .result < 4096
+small c = let a = c .before .before .before .before .before .before .before .before .before .before .before .before .before .before .before .before .before .before .before .before .before .before .before .before .before .before .args in rw (c .slot-of .ensures) (slot-lt (c .before .before .before .before .before .before .class-of .result) (a .sign))
+
 add-place : tie.Need-add-place
-add-place c = omega (arith, c .slot-of .ensures)
+add-place c = omega (arith, small c)
 
 mul-recent : tie.Need-mul-recent
-mul-recent c = omega (arith, c .slot-of .ensures)
+mul-recent c = omega (arith, small c)
 
 slice-read-recent : tie.Need-slice-read-recent
 slice-read-recent c =
     let s = c .before .before .before .before .before .before .before .before .before .before .before .before .before .before .before .before .before .before .before .before .before .before .before .before .before .before .before in
     let b = c .before .before .before .before .list-begin in
     let kept : length (b .last .1 .1 .0) ≡ length (now (s .args .room)) = b .kept .1 .1 .0 in
-    omega (arith, c .before .slot-of .ensures, s .pre .1 .1 .1 .0 .3)
+    omega (arith, small (c .before), s .pre .1 .1 .1 .0 .3)
 
 cast-recent : tie.Need-cast-recent
 cast-recent c = omega (arith, c .slice-known7 .given (1024 + c .before .slot-of .result))
@@ -159,10 +164,10 @@ placed : (c : tie.After-read-from) → 1024 + c .before .before .before .before 
 placed c =
     let b = c .before .before .before .before .before .before .before .before in
     let kept : length (made b) ≡ length (now (from-read c .args .room)) = b .list-begin .kept .1 .1 .0 in
-    omega (arith, c .before .before .before .before .before .slot-of .ensures, from-read c .pre .1 .1 .1 .0 .3)
+    omega (arith, small (c .before .before .before .before .before), from-read c .pre .1 .1 .1 .0 .3)
 
 mul-room : tie.Need-mul-room
-mul-room c = omega (arith, c .before .before .before .before .before .before .before .before .before .slot-of .ensures)
+mul-room c = omega (arith, small (c .before .before .before .before .before .before .before .before .before))
 
 slice-write-room : tie.Need-slice-write-room
 slice-write-room c = placed (c .before .before .before .before)
