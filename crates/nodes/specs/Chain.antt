@@ -22,7 +22,7 @@ use Rattle.loops.specs.Count.{any, sum}
 use Rattle.search.specs.Node.{Node, dominates}
 use Rattle.rows.specs.Row.{rowIn, nodeIn, Packed}
 use Rattle.rows.specs.Sign.{classOf, signOf}
-use Rattle.nodes.specs.Block.{loweredTo, Blocked}
+use Rattle.blocks.specs.Block.{Blocked, blockedTo}
 
 -- the head of class h, of which there are 1,024
 abbrev pub headAt : List ℕ → ℕ → ℕ
@@ -99,10 +99,6 @@ withEntry w k n = w % 2 ^ (16 * k) + n * 2 ^ (16 * k)
 unfoldable pub joinedTo : List ℕ → ℕ → ℕ → ℕ → List ℕ
 joinedTo C g n s =
     set (set (set C (7456 + 4 * g + wordAt C g / 65536 % 4) s) (15648 + g) (withEntry (nodesAt C g) (wordAt C g / 65536 % 4) n)) (4096 + g) (wordAt C g % 4294967296 + 65536)
-
--- its key is stored, and its block's word is no higher than its key, nor is the upper word
-unfoldable pub blockedTo : List ℕ → ℕ → ℕ → List ℕ
-blockedTo C n key = loweredTo (loweredTo (set C n key) (7184 + n / 16) key) (7440 + n / 16 / 16) key
 
 -- the scan words after node n, of class h, is linked
 unfoldable pub linkedTo : List ℕ → ℕ → ℕ → ℕ → ℕ → List ℕ

@@ -1,3 +1,1 @@
-pub mod Choice
-pub mod Block
 pub mod Chain

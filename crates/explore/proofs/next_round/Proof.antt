@@ -10,7 +10,7 @@ use Rattle.leaf.specs.Price.{mark}
 use Rattle.layer.specs.Board.{Board, rowOn}
 use Rattle.layer.specs.Board.Laws.{row-on}
 use Rattle.layer.specs.Lent.{boardOf}
-use Rattle.nodes.specs.Choice.{chooseBy}
+use Rattle.blocks.specs.Choice.{chooseBy}
 use Rattle.offers.specs.Held.{Room}
 use Rattle.explore.specs.Held.Rounds.{begun, choice-in, retired-keyed, retired-room, ahead-finished, ahead-spent, ahead-full, ahead-on}
 use borrow.Author.Needs.{needs}

@@ -27,11 +27,11 @@ use Rattle.search.specs.Plan.Real.{Rooted}
 use Rattle.search.specs.Plan.Found.{start-rooted, round-through}
 use Rattle.search.specs.Explore.Detours.{Sprung, sprung-begin}
 use Rattle.rows.specs.Row.{nodeIn, nodesIn}
-use Rattle.nodes.specs.Block.{retiredTo}
-use Rattle.nodes.specs.Block.Laws.{retired-length, retired-key}
+use Rattle.blocks.specs.Block.{retiredTo}
+use Rattle.blocks.specs.Block.Laws.{retired-length, retired-key}
 use Rattle.nodes.specs.Chain.{Chained}
 use Rattle.nodes.specs.Chain.Laws.{chained-retire}
-use Rattle.nodes.specs.Choice.{keyOf, chooseBy}
+use Rattle.blocks.specs.Choice.{keyOf, chooseBy}
 use Rattle.offers.specs.declared.Run.{Run}
 use Rattle.offers.specs.declared.Turned.{Turned}
 use Rattle.explore.specs.declared.Round.{Round}

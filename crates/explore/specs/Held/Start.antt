@@ -29,8 +29,8 @@ use Rattle.search.specs.Explore.Laws.{Base}
 use Rattle.search.specs.Explore.Rounds.{base-none}
 use Rattle.rows.specs.Row.{nodesIn, nodeWith}
 use Rattle.rows.specs.Scan.{keyBy, goalCostBy}
-use Rattle.nodes.specs.Block.{freshTo}
-use Rattle.nodes.specs.Block.Laws.{fresh-length}
+use Rattle.blocks.specs.Block.{freshTo}
+use Rattle.blocks.specs.Block.Laws.{fresh-length}
 use Rattle.nodes.specs.Chain.{Chained}
 use Rattle.nodes.specs.Chain.Laws.{chained-fresh}
 use Rattle.offers.specs.declared.Run.{Run}

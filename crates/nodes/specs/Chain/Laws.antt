@@ -1,4 +1,4 @@
--- Laws of the scan words: chains as nodes are linked and retired, and recent words. Assumes nothing.
+-- Laws of the scan words: chains as nodes are linked and retired, and recent numbers. Assumes nothing.
 use mathlib.Core.Path.{_≡_, refl, sym, ap, _∙_}
 use mathlib.Core.Logic.{_⊎_, inl, inr}
 use mathlib.Core.Bool.{true, false}
@@ -15,9 +15,10 @@ use Rattle.leaf.specs.Price.{mark}
 use Rattle.rows.specs.Row.{rowIn, nodeIn, Packed}
 use Rattle.rows.specs.Sign.{classOf, signOf}
 use Rattle.rows.specs.Sign.Laws.{class-lt}
-use Rattle.nodes.specs.Block.{blockWords, upperWords, Blocked, freshTo, loweredTo, retiredTo}
-use Rattle.nodes.specs.Block.Laws.{under-same, under-lowered, blocked-none, fresh-length, fresh-other, fresh-block, drop-same, lowered-length, lowered-other, lowered-here, retired-length, retired-key, retired-behind, blocked-retire}
-use Rattle.nodes.specs.Chain.{headAt, groupsIn, wordAt, classAt, fillAt, nodesAt, slotOf, hasRoom, groupFor, withGroup, openedTo, withEntry, joinedTo, blockedTo, linkedTo, Grouped, Chained}
+use Rattle.blocks.specs.Block.{blockWords, upperWords, Blocked, freshTo, blockedTo, retiredTo}
+use Rattle.blocks.specs.Block.Laws.{under-same, blocked-none, fresh-length, fresh-other, fresh-block, drop-same, retired-length, retired-key, retired-behind, blocked-retire}
+use Rattle.blocks.specs.Block.Stored.{block-length, block-key, block-old, blocked-link}
+use Rattle.nodes.specs.Chain.{headAt, groupsIn, wordAt, classAt, fillAt, nodesAt, slotOf, hasRoom, groupFor, withGroup, openedTo, withEntry, joinedTo, linkedTo, Grouped, Chained}
 use Rattle.nodes.specs.Chain.Groups.{room-some, room-head, group-last, group-new, SameGroups, grouped-none, grouped-words, grouped-same, open-other, open-groups, open-head, open-word, open-length, word-old, grouped-open, join-length, join-before, join-between, started-join, grouped-join}
 use Rattle.nodes.specs.Chain.Room.{free-full, groups-few}
 
@@ -84,95 +85,12 @@ chained-same S T T′ C n s r = record {
 
 -- ---- a node's key is stored
 
-module _ (C : List ℕ) (n key : ℕ) where
-  abbrev stored : List ℕ
-  stored = set C n key
-
-  abbrev half : List ℕ
-  half = loweredTo stored (7184 + n / 16) key
-
-  abbrev B : List ℕ
-  B = blockedTo C n key
-
-  half-length : length half ≡ length C
-  half-length = lowered-length stored (7184 + n / 16) key ∙ simp length-set
-
-  -- the scan words stay as many
-  pub block-length : length B ≡ length C
-  unfolding blockedTo
-  block-length = lowered-length half (7440 + n / 16 / 16) key ∙ half-length
-
-  -- but for the key, its block's word and the upper word they are the same
-  block-but : (i : ℕ) → (i ≡ 7184 + n / 16 → ⊥) → (i ≡ 7440 + n / 16 / 16 → ⊥) → getD B i 0 ≡ getD stored i 0
-  unfolding blockedTo
-  block-but i d f = lowered-other half (7440 + n / 16 / 16) key i f ∙ lowered-other stored (7184 + n / 16) key i d
-
-  -- of the open keys only the node's is stored
-  pub block-key : (u : ℕ) → u < 4096 → getD B u 0 ≡ getD (set C n key) u 0
-  block-key u b = block-but u (λ e. omega arith) (λ e. omega arith)
-
-  module _ (long : length C ≡ 17696) (few : n < 4096) where
-    block-old : (i : ℕ) → 4096 ≤ i → (i ≡ 7184 + n / 16 → ⊥) → (i ≡ 7440 + n / 16 / 16 → ⊥) → getD B i 0 ≡ getD C i 0
-    block-old i b d f = block-but i d f ∙ getD-set-other C n i key 0 (λ e. omega arith)
-
-    -- groups are as they were
-    same-groups : SameGroups C B
-    same-groups = record {
-      chains = λ i a b. block-old i (omega arith) (λ e. omega arith) (λ e. omega arith);
-      members = λ i a b. block-old i (omega arith) (λ e. omega arith) (λ e. omega arith);
-    }
-
-    -- the other words of blocks and upper words, as those from a place on
-    block-at : (at b : ℕ) → 7184 ≤ at → at + b < 7456 → (at + b ≡ 7184 + n / 16 → ⊥) → (at + b ≡ 7440 + n / 16 / 16 → ⊥)
-        → getD (drop at B) b 0 ≡ getD (drop at C) b 0
-    block-at at b l i d f = drop-same C B at b (block-old (at + b) (omega arith) d f)
-
-    -- so the words of the other blocks
-    block-words : (b : ℕ) → b < 256 → (b ≡ n / 16 → ⊥) → getD (blockWords B) b 0 ≡ getD (blockWords C) b 0
-    block-words b l d = block-at 7184 b (omega arith) (omega arith) (λ e. d (omega arith)) (λ e. omega arith)
-
-    -- a word from the block words on, before it is lowered
-    stored-word : (at b : ℕ) → 7184 ≤ at → getD stored (at + b) 0 ≡ getD (drop at C) b 0
-    stored-word at b l =
-        getD-set-other C n (at + b) key 0 (λ e. omega arith) ∙ sym (getD-drop at C b 0)
-
-    -- the word of its block
-    block-word : getD (blockWords B) (n / 16) 0 ≡ min (getD (blockWords C) (n / 16) 0) key
-    unfolding blockedTo
-    block-word =
-        getD-drop 7184 B (n / 16) 0
-        ∙ lowered-other half (7440 + n / 16 / 16) key (7184 + n / 16) (λ e. omega arith)
-        ∙ lowered-here stored (7184 + n / 16) key (simp length-set (omega arith))
-        ∙ ap (λ (i : ℕ). min i key) (stored-word 7184 (n / 16) (omega arith))
-
-    -- the upper word
-    block-upper : getD (upperWords B) (n / 16 / 16) 0 ≡ min (getD (upperWords C) (n / 16 / 16) 0) key
-    unfolding blockedTo
-    block-upper =
-        getD-drop 7440 B (n / 16 / 16) 0
-        ∙ lowered-here half (7440 + n / 16 / 16) key (omega (arith, half-length))
-        ∙ ap (λ (i : ℕ). min i key)
-        (lowered-other stored (7184 + n / 16) key (7440 + n / 16 / 16) (λ e. omega arith) ∙ stored-word 7440 (n / 16 / 16) (omega arith))
-
-    -- the open keys of the nodes before it, and its own
-    key-old : (u : ℕ) → u < n → getD B u 0 ≡ getD C u 0
-    key-old u l = block-key u (omega arith) ∙ getD-set-other C n u key 0 (λ e. omega arith)
-
-    key-new : getD B n 0 ≡ key
-    key-new = block-key n few ∙ getD-set-same C n key 0 (omega arith)
-
-    -- the block words are right again
-    pub blocked-link : Blocked C n → Blocked B (suc n)
-    blocked-link r = record {
-      keys =
-          under-lowered C (blockWords C) B (blockWords B) 256 n (suc n) n
-          (record { keys = λ u l d. key-old u (omega arith); words = block-words; old = λ u l d. omega arith; kept = omega arith; few = omega arith })
-          (r .keys) key (omega arith) block-word (λ l. absurd (omega arith)) (λ _. key-new);
-      words =
-          under-lowered (blockWords C) (upperWords C) (blockWords B) (upperWords B) 16 256 256 (n / 16)
-          (record { keys = block-words; words = λ g l d. block-at 7440 g (omega arith) (omega arith) (λ e. omega arith) (λ e. d (omega arith)); old = λ u l d. l; kept = omega arith; few = omega arith })
-          (r .words) key (omega arith) block-upper (λ _. block-word) (λ l. absurd (omega arith));
-    }
+-- groups are as they were
+same-groups : (C : List ℕ) (n key : ℕ) → length C ≡ 17696 → n < 4096 → SameGroups C (blockedTo C n key)
+same-groups C n key long few = record {
+  chains = λ i a b. block-old C n key long few i (omega arith) (λ e. omega arith) (λ e. omega arith);
+  members = λ i a b. block-old C n key long few i (omega arith) (λ e. omega arith) (λ e. omega arith);
+}
 
 -- ---- the group that it goes to
 
