@@ -14,7 +14,7 @@ use Rattle.mets.specs.Known.{Known, known-none}
 use Rattle.rows.specs.Scan.{Cut}
 use Rattle.begins.specs.Still.{Still}
 use Rattle.explore.specs.declared.Round.the-variants.{Goes}
-use Rattle.explore.specs.Held.{Suits}
+use Rattle.expand.specs.Held.{Suits}
 use Rattle.offers.specs.Held.{Room}
 use Rattle.offers.specs.Held.Laws.{cut}
 use Rattle.explore.specs.Held.Start.{tables-suit}

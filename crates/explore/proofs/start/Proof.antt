@@ -14,7 +14,7 @@ use Rattle.layer.specs.Board.Laws.{row-on}
 use Rattle.layer.specs.Lent.{boardOf}
 use Rattle.tables.specs.Fit.{start-in}
 use Rattle.rows.specs.Scan.{Cut}
-use Rattle.explore.specs.Held.{Suits}
+use Rattle.expand.specs.Held.{Suits}
 use Rattle.offers.specs.Held.Laws.{cut}
 use Rattle.explore.specs.Held.Start.{tables-suit, start-is}
 use Rattle.explore.proofs.start.Statement.{statement}

@@ -36,7 +36,8 @@ use Rattle.offers.specs.declared.Run.{Run}
 use Rattle.offers.specs.declared.Turned.{Turned}
 use Rattle.explore.specs.declared.Round.{Round}
 use Rattle.explore.specs.declared.Round.the-variants.{Stops, Goes}
-use Rattle.explore.specs.Held.{Suits, expandedOf, stoppedOf}
+use Rattle.expand.specs.Held.{Suits, expandedOf}
+use Rattle.explore.specs.Held.{stoppedOf}
 use Rattle.offers.specs.Held.{searchOf, Cached, Room}
 use Rattle.offers.specs.Held.Laws.{kept-length, node-at, below-is, best-cap}
 

@@ -34,10 +34,10 @@ use Rattle.blocks.specs.Block.Laws.{fresh-length}
 use Rattle.nodes.specs.Chain.{Chained}
 use Rattle.nodes.specs.Chain.Laws.{chained-fresh}
 use Rattle.offers.specs.declared.Run.{Run}
-use Rattle.explore.specs.Held.{Suits}
+use Rattle.expand.specs.Held.{Suits}
 use Rattle.offers.specs.Held.{searchOf, Cached, Kept}
 use Rattle.offers.specs.Held.Laws.{key-is, goal-is, keep-is, keep-cached}
-use Rattle.explore.specs.Held.Turns.{suits-scans}
+use Rattle.expand.specs.Held.Turns.{suits-scans}
 
 -- ---- the tables
 

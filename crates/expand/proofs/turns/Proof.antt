@@ -1,4 +1,4 @@
--- `explore::turns` meets its contract. The invariant: what is left of the expansion from behind the last action that had its turn is the whole. Assumes nothing.
+-- `expand::turns` meets its contract. The invariant: what is left of the expansion from behind the last action that had its turn is the whole. Assumes nothing.
 use mathlib.Core.Path.{_≡_, refl, sym, _∙_}
 use Prim.Native.Nat.{ℕ, _-_, _≤_, _<_}
 use native.Mathlib.Omega.{arith}
@@ -8,10 +8,10 @@ use Rattle.layer.specs.Board.{Board}
 use Rattle.layer.specs.Lent.{boardOf}
 use Rattle.mets.specs.Listed.{past, past-more}
 use Rattle.mets.specs.Known.{Known}
-use Rattle.explore.specs.Held.Turns.{Passed, passed-none, passed-more, passed-full, passed-next, passed-last, passed-all}
+use Rattle.expand.specs.Held.Turns.{Passed, passed-none, passed-more, passed-full, passed-next, passed-last, passed-all}
 use borrow.Author.Needs.{needs}
-use Rattle.explore.proofs.turns.Statement.{statement}
-use Rattle.explore.proofs.turns.Tie as tie
+use Rattle.expand.proofs.turns.Statement.{statement}
+use Rattle.expand.proofs.turns.Tie as tie
 
 abbrev Inv-loop : tie.InvT-loop
 Inv-loop leaves actions bases moves costs kinds factors conditions still stills firsts edges ends effects goals goal nodes spot paid key sign mets old u next₀ table₀ scan₀ known₀ list room₀ going₀ j₀ j-end next table scan known room going j =

@@ -1,4 +1,4 @@
--- `explore::list_turns` meets its contract: all actions whose conditions hold are listed, and detours are left out where a hop made the node. Assumes nothing.
+-- `expand::list_turns` meets its contract: all actions whose conditions hold are listed, and detours are left out where a hop made the node. Assumes nothing.
 use mathlib.Core.Path.{_≡_, sym, ap, _∙_}
 use Prim.Native.Nat.{ℕ, _+_, _*_, _≤_, _<_}
 use native.Mathlib.Omega.{arith}
@@ -10,10 +10,10 @@ use Rattle.mets.specs.Known.{firsts-asks, known-asks, asks-known}
 use Rattle.rows.specs.Row.{nodeIn}
 use Rattle.rows.specs.Sign.Laws.{class-lt}
 use Rattle.hops.specs.Hops.Laws.{action-word}
-use Rattle.explore.specs.Held.Lists.{useful-all, useful-dropped}
+use Rattle.expand.specs.Held.Lists.{useful-all, useful-dropped}
 use borrow.Author.Needs.{needs}
-use Rattle.explore.proofs.list_turns.Statement.{statement}
-use Rattle.explore.proofs.list_turns.Tie as tie
+use Rattle.expand.proofs.list_turns.Statement.{statement}
+use Rattle.expand.proofs.list_turns.Tie as tie
 
 -- the Board that is lent
 abbrev board : tie.Start → Board

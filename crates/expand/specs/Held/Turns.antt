@@ -40,7 +40,7 @@ use Rattle.offers.specs.declared.Run.{Run}
 use Rattle.offers.specs.declared.Turned.{Turned}
 use Rattle.begins.specs.Still.{key-rises}
 use Rattle.hops.specs.Hops.{HopOn}
-use Rattle.explore.specs.Held.{Suits, expandedOf, Aside, Useful, Moved, Grown, Done}
+use Rattle.expand.specs.Held.{Suits, expandedOf, Aside, Useful, Moved, Grown, Done}
 use Rattle.offers.specs.Held.{searchOf, Cached, Scans, Room, Has, Stands, settledWords, begunNode, settledNode, Alike, Offered}
 use Rattle.offers.specs.Held.Offers.{went-same}
 use Rattle.offers.specs.Held.Laws.{kept-length, node-at, below-is, key-any, goal-is}

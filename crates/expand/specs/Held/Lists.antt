@@ -14,7 +14,7 @@ use Rattle.layer.specs.Board.{Board, rowOn, metOn}
 use Rattle.mets.specs.Listed.{Listed, listed-front}
 use Rattle.rows.specs.Row.{nodeIn}
 use Rattle.hops.specs.Hops.{HopOn, Hops, Ways, detours}
-use Rattle.explore.specs.Held.{Aside, Useful}
+use Rattle.expand.specs.Held.{Aside, Useful}
 
 -- the word of the hop from the value that the first leaves to the one that the second takes has the variable and the values of those
 way-parts : (h m n : ℕ) → n ≡ (h - 1) / 16 * 16 + (m - 1) % 16 + 1

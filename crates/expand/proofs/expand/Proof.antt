@@ -1,4 +1,4 @@
--- `explore::expand` meets its contract: the node's parts are read, the actions that need a turn are listed, and these have their turns. Assumes nothing.
+-- `expand::expand` meets its contract: the node's parts are read, the actions that need a turn are listed, and these have their turns. Assumes nothing.
 use mathlib.Core.Path.{_≡_, sym, ap, _∙_}
 use Prim.Native.Nat.{_+_, _*_, _≤_, _<_}
 use native.Mathlib.Omega.{arith}
@@ -7,14 +7,14 @@ use lib.ListN.{length, length-take, length-drop}
 use lib.Seq.{length-take-le}
 use Rattle.layer.specs.Board.{Board, rowOn}
 use Rattle.layer.specs.Lent.{boardOf}
-use Rattle.explore.specs.Held.Lists.{useful-front}
+use Rattle.expand.specs.Held.Lists.{useful-front}
 use Rattle.rows.specs.Reach.{reaches-front}
 use Rattle.rows.specs.Row.Laws.{row-in, row-word}
 use Rattle.rows.specs.Sign.{signOf}
 use Rattle.offers.specs.Held.Laws.{row-has}
 use borrow.Author.Needs.{needs}
-use Rattle.explore.proofs.expand.Statement.{statement}
-use Rattle.explore.proofs.expand.Tie as tie
+use Rattle.expand.proofs.expand.Statement.{statement}
+use Rattle.expand.proofs.expand.Tie as tie
 
 -- the Board that is lent, and node u's row, which lies within the table
 abbrev board : tie.Start → Board

@@ -1,4 +1,4 @@
--- `explore::turn` meets its contract: the tables say whether the action is a centre action, and its layer's begin is offered. Assumes nothing.
+-- `expand::turn` meets its contract: the tables say whether the action is a centre action, and its layer's begin is offered. Assumes nothing.
 use mathlib.Core.Path.{_≡_, refl, sym, _∙_}
 use mathlib.Core.Bool.{true}
 use native.Mathlib.Omega.{arith}
@@ -10,10 +10,10 @@ use Rattle.rows.specs.Begun.{begunWords}
 use Rattle.rows.specs.Scan.{keyBy}
 use Rattle.begins.specs.Still.{key-more}
 use Rattle.offers.specs.Held.Laws.{cut}
-use Rattle.explore.specs.Held.Turns.{moved-leaf, moved-above, moved-stuck, moved-offered}
+use Rattle.expand.specs.Held.Turns.{moved-leaf, moved-above, moved-stuck, moved-offered}
 use borrow.Author.Needs.{needs}
-use Rattle.explore.proofs.turn.Statement.{statement}
-use Rattle.explore.proofs.turn.Tie as tie
+use Rattle.expand.proofs.turn.Statement.{statement}
+use Rattle.expand.proofs.turn.Tie as tie
 
 -- the Board that is lent
 abbrev board : tie.Start → Board
