@@ -32,8 +32,8 @@ use Rattle.price.specs.Sums.{sum-le}
 use Rattle.search.specs.Node.{Node, nextNode, leastOf, key}
 use Rattle.search.specs.Node.Laws.{leastOf-le, leastOf-cap, leastOf-ge}
 use Rattle.search.specs.Begin.{pass-still, beginNode, part-begin, key-begin}
-use Rattle.rows.specs.Scan.{Cut, keyBy}
-use Rattle.rows.specs.Scan.Laws.{cut-in}
+use Rattle.keys.specs.Scan.{Cut, keyBy}
+use Rattle.keys.specs.Scan.Laws.{cut-in}
 use Rattle.rows.specs.Sign.{signOf}
 
 -- an action whose moves begin at `from` leaves each state of the leaf behind i leaves as it is

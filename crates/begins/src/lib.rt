@@ -1,8 +1,8 @@
 // The begin of a layer behind a centre action, and what makes it cheap: actions that leave all leaf states as they are, and actions that are stuck.
+use keys::least;
 use leaf::add_price;
 use leaf::pass;
 use leaf::passes;
-use rows::least;
 use rows::sign_of;
 use task::Centre;
 use words::copy_words;
@@ -17,7 +17,7 @@ ghost use Rattle.layer.specs.Board.{Sound, beginOn, appliesOn};
 ghost use Rattle.layer.specs.Lent.{boardOf};
 ghost use Rattle.search.specs.Node.{leastOf};
 ghost use Rattle.rows.specs.Begun.{begunWords};
-ghost use Rattle.rows.specs.Scan.{Cut, keyBy};
+ghost use Rattle.keys.specs.Scan.{Cut, keyBy};
 ghost use Rattle.rows.specs.Sign.{signOf};
 ghost use Rattle.begins.specs.Still.{StaysIn, Still, Stills, Marked, StuckIn};
 

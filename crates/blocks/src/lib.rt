@@ -1,6 +1,6 @@
 // The blocks of open keys: keys are stored and retired, and the next node is chosen.
+use keys::lesser;
 use leaf::MARK;
-use rows::lesser;
 ghost use mathlib.Core.Path.{_≡_};
 ghost use Prim.Native.Nat.{_+_, _*_, _≤_, _<_};
 ghost use lib.ListN.{length, drop};

@@ -20,7 +20,7 @@ use Rattle.search.specs.Explore.{Search, turn, Expanded, through, filled, expan
 use Rattle.search.specs.Explore.Laws.{Base}
 use Rattle.search.specs.Explore.Detours.{Sprung}
 use Rattle.rows.specs.Row.{nodeIn}
-use Rattle.rows.specs.Scan.{keyBy}
+use Rattle.keys.specs.Scan.{keyBy}
 use Rattle.nodes.specs.Chain.{Chained}
 use Rattle.hops.specs.Hops.{HopOn}
 use Rattle.offers.specs.declared.Run.{Run}

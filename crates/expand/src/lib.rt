@@ -1,9 +1,9 @@
 // One node's expansion over the lent table: the actions that need a turn, and their turns.
 use begins::begin_of;
 use begins::is_stuck;
+use detours::drop_detours;
+use detours::hop_behind;
 use dominance::list_reached;
-use hops::drop_detours;
-use hops::hop_behind;
 use layer::pairs_of;
 use leaf::add_price;
 use mets::list_mets;

@@ -1,11 +1,9 @@
--- Hops by tables: which centre actions move one centre variable and leave all leaves alone, which of them goes from one value to another, and which hops
--- behind a hop are detours. Nobody but the code and its proof looks at these.
+-- Hops by tables: which centre actions move one centre variable and leave all leaves alone, and which of them goes from one value to another. Nobody but
+-- the code and its proof looks at these.
 pub mod Laws
 use mathlib.Core.Path.{_≡_}
-use mathlib.Core.Bool.{Bool, not, _&&_, _||_}
 use mathlib.Core.List.{List}
 use Prim.Native.Nat.{ℕ, _+_, _-_, _*_, _/_, _%_, _≤_, _<_}
-use lib.Dec.{leb, eqb}
 use lib.ListN.{length, getD}
 use Rattle.layer.specs.Board.{Board, rowOn}
 use Rattle.begins.specs.Still.{Stays}
@@ -53,19 +51,3 @@ pub record Hops (n : ℕ) (b : Board) (effects hops : List ℕ) : Type 0 where
 pub record Ways (n : ℕ) (hops ways : List ℕ) : Type 0 where
   pub long : length ways ≡ 8192
   pub way : (g : ℕ) → g < 8192 → (getD ways g 0 ≡ 0 → ⊥) → (getD ways g 0 - 1 < n) × (getD hops (getD ways g 0 - 1) 0 ≡ g + 1)
-
--- action k behind a hop of word h, which costs c, is a detour: a hop of the same variable that goes back, or in place of which one hop goes all the way at no higher cost
-unfoldable pub detours : (hops ways costs : List ℕ) (h c k : ℕ) → Bool
-detours hops ways costs h c k =
-    let m = getD hops k 0 in
-    let d = getD ways ((h - 1) / 16 * 16 + (m - 1) % 16) 0 in
-    not (eqb m 0) && (eqb ((h - 1) / 256) ((m - 1) / 256)
-    && (eqb ((h - 1) / 16 % 16) ((m - 1) % 16) || (not (eqb d 0) && leb (getD costs (d - 1) 0) (c + getD costs k 0))))
-
--- the same where `from` is 16 times the hop's variable plus the value that it left
-unfoldable pub detoursFrom : (hops ways costs : List ℕ) (from c k : ℕ) → Bool
-detoursFrom hops ways costs from c k =
-    let m = getD hops k 0 in
-    let d = getD ways (from * 16 + (m - 1) % 16) 0 in
-    not (eqb m 0) && (eqb (from / 16) ((m - 1) / 256)
-    && (eqb (from % 16) ((m - 1) % 16) || (not (eqb d 0) && leb (getD costs (d - 1) 0) (c + getD costs k 0))))

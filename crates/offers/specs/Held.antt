@@ -21,7 +21,7 @@ use Rattle.search.specs.Explore.{Search, Turn, on, full, offer}
 use Rattle.search.specs.Explore.Laws.{Base}
 use Rattle.search.specs.Made.{Made}
 use Rattle.rows.specs.Row.{nodeIn, nodesIn, nodeWith}
-use Rattle.rows.specs.Scan.{keyBy}
+use Rattle.keys.specs.Scan.{keyBy}
 use Rattle.nodes.specs.Chain.{Chained}
 use Rattle.offers.specs.declared.Run.{Run}
 use Rattle.offers.specs.declared.Turned.{Turned}

@@ -1,11 +1,11 @@
 // A successor is offered to the search that the lent table holds: dropped, refused for a full table, or settled and kept.
 use dominance::list_reached;
+use keys::goal_cost;
 use mets::slot_for;
 use nodes::dominator;
 use nodes::link;
 use nodes::slot_of;
 use rows::class_of;
-use rows::goal_cost;
 use rows::sign_of;
 use rows::write_row;
 use sweeps::settle_edges;
@@ -24,7 +24,7 @@ ghost use Rattle.edges.specs.Edges.{Edges};
 ghost use Rattle.rows.specs.Begun.{readFrom, begunWords};
 ghost use Rattle.rows.specs.Reach.{Reaches, ReachesIn};
 ghost use Rattle.rows.specs.Row.{nodeWith};
-ghost use Rattle.rows.specs.Scan.{Cut, goalCostBy};
+ghost use Rattle.keys.specs.Scan.{Cut, goalCostBy};
 ghost use Rattle.rows.specs.Sign.{classOf, signOf};
 ghost use Rattle.offers.specs.Held.{Room, Kept, Offered};
 

@@ -25,7 +25,7 @@ use Rattle.search.specs.Plan.{goalState, planOf}
 use Rattle.search.specs.Plan.Backwards.{planBack, planBack-ext, plan-back}
 use Rattle.search.specs.Plan.Laid.{laid, laid-none, laid-all}
 use Rattle.search.specs.Plan.Reaches.{goalState-is}
-use Rattle.rows.specs.Scan.{partBy, goalsBy}
+use Rattle.keys.specs.Scan.{partBy, goalsBy}
 use Rattle.plans.specs.Walk.{nodeOn, goalOn, written}
 use Rattle.plans.specs.Fit.{Grounds, searchOn, prices-on, prices-length}
 use Rattle.plans.specs.Steps.{Priced}

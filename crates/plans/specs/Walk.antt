@@ -14,7 +14,7 @@ use Rattle.search.specs.Explore.{Search}
 use Rattle.search.specs.Plan.{lowest, Back}
 use Rattle.search.specs.Plan.Laid.{put, laid}
 use Rattle.rows.specs.Row.{nodeIn, nodesIn}
-use Rattle.rows.specs.Scan.{partBy, goalsBy}
+use Rattle.keys.specs.Scan.{partBy, goalsBy}
 use Rattle.wayback.specs.Steps.{tableBack, Walkable}
 use Rattle.plans.specs.Kept.{bare}
 

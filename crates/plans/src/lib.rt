@@ -1,8 +1,8 @@
 // The plan of a node of the lent table, walked back node by node and written into the lent buffer.
+use keys::least_goal;
 use layer::enabled;
 use leaf::MARK;
 use leaf::pass;
-use rows::least_goal;
 use rows::read_spot;
 use task::Task;
 use wayback::Ended;
@@ -31,7 +31,7 @@ ghost use Rattle.search.specs.Plan.Backwards.{planBack};
 ghost use Rattle.search.specs.Plan.Laid.{laid};
 ghost use Rattle.search.specs.Plan.Real.{Real};
 ghost use Rattle.rows.specs.Row.{nodeIn};
-ghost use Rattle.rows.specs.Scan.{Cut, goalsBy};
+ghost use Rattle.keys.specs.Scan.{Cut, goalsBy};
 ghost use Rattle.wayback.specs.Walked.{Walked};
 ghost use Rattle.plans.specs.Walk.{heldIn, beginsOn, backFrom, backOn, WalkableFrom, WalkableOn, overOn, goalOn, RowIn, Roomy, Standing, LayerWalked, NodeWalked, written};
 ghost use Rattle.plans.specs.Steps.{Priced};

@@ -2,5 +2,4 @@ pub mod Begun
 pub mod Four
 pub mod Reach
 pub mod Row
-pub mod Scan
 pub mod Sign

@@ -2,7 +2,7 @@
 use Prim.Native.Nat.{_+_, _*_, _/_, _%_, _≤_}
 use native.Mathlib.Omega.{arith}
 use lib.ListN.{length, getD}
-use Rattle.rows.specs.Scan.{Cut}
+use Rattle.keys.specs.Scan.{Cut}
 use Rattle.begins.specs.Still.{within}
 use borrow.Author.Needs.{needs}
 use Rattle.begins.proofs.still_entry.Statement.{statement}

@@ -9,7 +9,7 @@ use Rattle.layer.specs.Lent.{boardOf}
 use Rattle.mets.specs.Known.{firsts-asks, known-asks, asks-known}
 use Rattle.rows.specs.Row.{nodeIn}
 use Rattle.rows.specs.Sign.Laws.{class-lt}
-use Rattle.hops.specs.Hops.Laws.{action-word}
+use Rattle.detours.specs.Detours.Laws.{action-word}
 use Rattle.expand.specs.Held.Lists.{useful-all, useful-dropped}
 use borrow.Author.Needs.{needs}
 use Rattle.expand.proofs.list_turns.Statement.{statement}

@@ -7,7 +7,7 @@ use lib.ListN.{length, getD, drop}
 use Rattle.layer.specs.Board.{Board, rowOn}
 use Rattle.layer.specs.Lent.{boardOf}
 use Rattle.rows.specs.Begun.{begunWords}
-use Rattle.rows.specs.Scan.{keyBy}
+use Rattle.keys.specs.Scan.{keyBy}
 use Rattle.begins.specs.Still.{key-more}
 use Rattle.offers.specs.Held.Laws.{cut}
 use Rattle.expand.specs.Held.Turns.{moved-leaf, moved-above, moved-stuck, moved-offered}

@@ -13,7 +13,8 @@ use Rattle.task.specs.declared.Centre.{Centre}
 use Rattle.layer.specs.Board.{Board, rowOn, metOn}
 use Rattle.mets.specs.Listed.{Listed, listed-front}
 use Rattle.rows.specs.Row.{nodeIn}
-use Rattle.hops.specs.Hops.{HopOn, Hops, Ways, detours}
+use Rattle.hops.specs.Hops.{HopOn, Hops, Ways}
+use Rattle.detours.specs.Detours.{detours}
 use Rattle.expand.specs.Held.{Aside, Useful}
 
 -- the word of the hop from the value that the first leaves to the one that the second takes has the variable and the values of those

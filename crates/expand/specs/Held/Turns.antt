@@ -35,7 +35,7 @@ use Rattle.search.specs.Explore.Turns.{turn-on}
 use Rattle.search.specs.Hop.{Hop, Detour}
 use Rattle.search.specs.Explore.Detours.{Sprung, detour-turn}
 use Rattle.rows.specs.Row.{nodeIn}
-use Rattle.rows.specs.Scan.{keyBy}
+use Rattle.keys.specs.Scan.{keyBy}
 use Rattle.offers.specs.declared.Run.{Run}
 use Rattle.offers.specs.declared.Turned.{Turned}
 use Rattle.begins.specs.Still.{key-rises}

@@ -11,7 +11,7 @@ use Rattle.layer.specs.Board.Laws.{row-on}
 use Rattle.layer.specs.First.{Firsts, firsts-part}
 use Rattle.layer.specs.Lent.{boardOf}
 use Rattle.mets.specs.Known.{Known, known-none}
-use Rattle.rows.specs.Scan.{Cut}
+use Rattle.keys.specs.Scan.{Cut}
 use Rattle.begins.specs.Still.{Still}
 use Rattle.explore.specs.declared.Round.the-variants.{Goes}
 use Rattle.expand.specs.Held.{Suits}

@@ -13,7 +13,7 @@ use Rattle.layer.specs.Board.{Board, Sound}
 use Rattle.layer.specs.Board.Laws.{row-on}
 use Rattle.layer.specs.Lent.{boardOf}
 use Rattle.tables.specs.Fit.{start-in}
-use Rattle.rows.specs.Scan.{Cut}
+use Rattle.keys.specs.Scan.{Cut}
 use Rattle.expand.specs.Held.{Suits}
 use Rattle.offers.specs.Held.Laws.{cut}
 use Rattle.explore.specs.Held.Start.{tables-suit, start-is}

@@ -28,7 +28,7 @@ use Rattle.search.specs.Explore.{keep, start}
 use Rattle.search.specs.Explore.Laws.{Base}
 use Rattle.search.specs.Explore.Rounds.{base-none}
 use Rattle.rows.specs.Row.{nodesIn, nodeWith}
-use Rattle.rows.specs.Scan.{keyBy, goalCostBy}
+use Rattle.keys.specs.Scan.{keyBy, goalCostBy}
 use Rattle.blocks.specs.Block.{freshTo}
 use Rattle.blocks.specs.Block.Laws.{fresh-length}
 use Rattle.nodes.specs.Chain.{Chained}

@@ -8,7 +8,7 @@ use lib.Seq.{length-take-le}
 use borrow.Author.Needs.{needs}
 use Rattle.search.specs.Node.{Node}
 use Rattle.rows.specs.Row.{nodeWith}
-use Rattle.rows.specs.Scan.{goalCostBy}
+use Rattle.keys.specs.Scan.{goalCostBy}
 use Rattle.rows.specs.Sign.Laws.{class-lt}
 use Rattle.offers.specs.Held.Laws.{kept-best, kept-other}
 use Rattle.offers.proofs.keep.Statement.{statement}

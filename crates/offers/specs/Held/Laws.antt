@@ -33,7 +33,7 @@ use Rattle.search.specs.Explore.{nodeAt, belowBest, bestWith, keep}
 use Rattle.search.specs.Explore.Laws.{Base}
 use Rattle.rows.specs.Row.{spotOf, nodeOf, nodeIn, nodesIn, Packed}
 use Rattle.rows.specs.Row.Laws.{row-lent, row-word, row-kept, row-written, nodesIn-length, nodesIn-at}
-use Rattle.rows.specs.Scan.{Cut, partBy, goalsBy, keyBy, goalSumBy, goalCostBy}
+use Rattle.keys.specs.Scan.{Cut, partBy, goalsBy, keyBy, goalSumBy, goalCostBy}
 use Rattle.rows.specs.Sign.{signOf, classOf}
 use Rattle.nodes.specs.Chain.{linkedTo}
 use Rattle.nodes.specs.Chain.Laws.{linked-key, chained-more}

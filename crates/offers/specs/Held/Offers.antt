@@ -18,7 +18,7 @@ use Rattle.search.specs.Small.{made-key, made-goal}
 use Rattle.search.specs.Explore.{Search, nodeAt, belowBest, keep, on, full, offer}
 use Rattle.search.specs.Explore.Laws.{Base}
 use Rattle.rows.specs.Row.{nodeIn, nodeWith}
-use Rattle.rows.specs.Scan.{keyBy, goalCostBy}
+use Rattle.keys.specs.Scan.{keyBy, goalCostBy}
 use Rattle.offers.specs.declared.Run.{Run}
 use Rattle.offers.specs.Held.{searchOf, Cached, Scans, Kept, Went, Stands, settledWords, begunNode, settledNode, Alike, Offered}
 use Rattle.offers.specs.Held.Laws.{kept-length, below-is, best-cap, key-any, goal-is, dominated-is, keep-is, keep-cached}

@@ -8,7 +8,7 @@ use borrow.Author.Needs.{needs}
 use Rattle.layer.specs.Board.Turns.{part-length}
 use Rattle.digits.specs.Digits.{Filled}
 use Rattle.tables.specs.Tables.Laws.{filled-more}
-use Rattle.rows.specs.Scan.Laws.{cut-in}
+use Rattle.keys.specs.Scan.Laws.{cut-in}
 use Rattle.plans.specs.Walk.{goalOn}
 use Rattle.plans.proofs.goal_ends.Statement.{statement}
 use Rattle.plans.proofs.goal_ends.Tie as tie

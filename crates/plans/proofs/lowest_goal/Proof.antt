@@ -13,7 +13,7 @@ use borrow.Author.Tests.{eq-eqb, ne-eqb}
 use Rattle.leaf.specs.Price.{mark}
 use Rattle.search.specs.Node.{leastOf}
 use Rattle.search.specs.Plan.Lowest.{Fails, lowest-none}
-use Rattle.rows.specs.Scan.{goalsBy}
+use Rattle.keys.specs.Scan.{goalsBy}
 use Rattle.wayback.specs.Lowest.{lowest-first}
 use Rattle.plans.specs.Walk.Laws.{goal-price}
 use Rattle.plans.proofs.lowest_goal.Statement.{statement}

@@ -17,7 +17,7 @@ use Rattle.layer.specs.Board.Turns.{base-in, leaf-passed}
 use Rattle.search.specs.Node.Laws.{list-entry}
 use Rattle.search.specs.Plan.{lowest}
 use Rattle.rows.specs.Row.{spotOf, nodeOf, rowIn, nodeIn}
-use Rattle.rows.specs.Scan.{goalsBy}
+use Rattle.keys.specs.Scan.{goalsBy}
 use Rattle.wayback.specs.declared.Ended.{Ended}
 use Rattle.wayback.specs.Steps.{tableBack, Walkable}
 use Rattle.wayback.specs.Ready.{back-kept}

@@ -1,4 +1,4 @@
--- `rows::least` meets its contract. The invariant: `low` is the least of the prices so far. Assumes nothing.
+-- `keys::least` meets its contract. The invariant: `low` is the least of the prices so far. Assumes nothing.
 use mathlib.Core.Path.{_≡_, refl, sym, _∙_}
 use Prim.Native.Nat.{_-_, _≤_}
 use native.Mathlib.Omega.{arith}
@@ -6,9 +6,9 @@ use lib.ListN.{length, take}
 use lib.Seq.{take-length}
 use borrow.Author.Needs.{needs}
 use Rattle.search.specs.Node.{leastOf}
-use Rattle.rows.specs.Scan.Laws.{least-more}
-use Rattle.rows.proofs.least.Statement.{statement}
-use Rattle.rows.proofs.least.Tie as tie
+use Rattle.keys.specs.Scan.Laws.{least-more}
+use Rattle.keys.proofs.least.Statement.{statement}
+use Rattle.keys.proofs.least.Tie as tie
 
 abbrev Inv-loop : tie.InvT-loop
 Inv-loop prices from low₀ k₀ k-end low k = (k-end ≡ length prices) × (k ≤ k-end) × (low ≡ leastOf (take k prices))

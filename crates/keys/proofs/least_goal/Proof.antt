@@ -1,4 +1,4 @@
--- `rows::least_goal` meets its contract. The invariant: `low` is the least price of the goal states so far. Assumes nothing.
+-- `keys::least_goal` meets its contract. The invariant: `low` is the least price of the goal states so far. Assumes nothing.
 use mathlib.Core.Path.{_≡_, refl, _∙_}
 use mathlib.Core.Logic.{⊎-elim}
 use Prim.Native.Nat.{_-_, _≤_}
@@ -8,10 +8,10 @@ use borrow.Author.Needs.{needs}
 use Rattle.loops.specs.Count.{list}
 use Rattle.search.specs.Node.{leastOf}
 use Rattle.search.specs.Node.Laws.{leastOf-cap}
-use Rattle.rows.specs.Scan.{goalsBy}
-use Rattle.rows.specs.Scan.Laws.{goalBy, least-list-more, goal-here, goal-not}
-use Rattle.rows.proofs.least_goal.Statement.{statement}
-use Rattle.rows.proofs.least_goal.Tie as tie
+use Rattle.keys.specs.Scan.{goalsBy}
+use Rattle.keys.specs.Scan.Laws.{goalBy, least-list-more, goal-here, goal-not}
+use Rattle.keys.proofs.least_goal.Statement.{statement}
+use Rattle.keys.proofs.least_goal.Tie as tie
 
 abbrev Inv-loop : tie.InvT-loop
 Inv-loop prices goals low₀ k₀ k-end low k = (k-end ≡ length prices) × (k ≤ k-end) × (low ≡ leastOf (list k (goalBy goals prices)))

@@ -1,20 +1,20 @@
--- `hops::hop_behind` meets its contract: the parent's row lies within the table. Assumes nothing.
+-- `detours::hop_behind` meets its contract: the parent's row lies within the table. Assumes nothing.
 use mathlib.Core.Path.{refl}
 use Prim.Native.Nat.{_+_, _*_, _≤_}
 use native.Mathlib.Omega.{arith}
 use lib.ListN.{length, getD}
 use borrow.Author.Tests.{not-false}
-use Rattle.hops.specs.Hops.Laws.{row-before, hop-read}
+use Rattle.detours.specs.Detours.Laws.{row-before, hop-read}
 use borrow.Author.Needs.{needs}
-use Rattle.hops.proofs.hop_behind.Statement.{statement}
-use Rattle.hops.proofs.hop_behind.Tie as tie
+use Rattle.detours.proofs.hop_behind.Statement.{statement}
+use Rattle.detours.proofs.hop_behind.Tie as tie
 
 -- where the parent's prices are compared: its row lies within the table
 fits : (c : tie.Else4) → let a = c .before .before .before .before .before .before .before .before .before .before .args in
     getD (a .table .now) (a .u * (40 + a .states) + 33) 0 * (40 + a .states) + (40 + a .states) ≤ length (a .table .now)
 fits c =
     let s = c .before .before .before .before .before .before .before .before .before .before in
-    row-before (s .args .states) (s .args .u) _ (length (s .args .table .now)) (c .before .before .before .if2 .left) (s .pre .2)
+    row-before (s .args .states) (s .args .u) _ (s .args .table .now) (c .before .before .before .if2 .left) (s .pre .2)
 
 add-wide : tie.Need-add-wide
 add-wide c = search needs

@@ -1,11 +1,11 @@
--- `rows::goal_cost` meets its contract: the centre meets the goal, or it does not. Assumes nothing.
+-- `keys::goal_cost` meets its contract: the centre meets the goal, or it does not. Assumes nothing.
 use mathlib.Core.Path.{_∙_}
 use borrow.Author.Needs.{needs}
 use Rattle.loops.specs.Count.Laws.{told-true, told-false}
-use Rattle.rows.specs.Scan.{goalCostBy}
-use Rattle.rows.specs.Scan.Laws.{goal-met}
-use Rattle.rows.proofs.goal_cost.Statement.{statement}
-use Rattle.rows.proofs.goal_cost.Tie as tie
+use Rattle.keys.specs.Scan.{goalCostBy}
+use Rattle.keys.specs.Scan.Laws.{goal-met}
+use Rattle.keys.proofs.goal_cost.Statement.{statement}
+use Rattle.keys.proofs.goal_cost.Tie as tie
 
 slice-aggregate-is-met : tie.Need-slice-aggregate-is-met
 slice-aggregate-is-met c = search needs

@@ -1,4 +1,4 @@
--- `hops::drop_detours` meets its contract. The invariant: those of the numbers so far that are no detours are kept, and behind
+-- `detours::drop_detours` meets its contract. The invariant: those of the numbers so far that are no detours are kept, and behind
 -- them the list is as it was. Assumes nothing.
 use mathlib.Core.Path.{_≡_, refl, sym, _∙_}
 use mathlib.Core.Logic.{⊎-elim}
@@ -11,11 +11,11 @@ use lib.Seq.{getD-set-same, getD-set-other}
 use denote.Ref.{now}
 use Rattle.loops.specs.Count.Laws.{told-true, told-false}
 use Rattle.mets.specs.Listed.{Listed, past}
-use Rattle.hops.specs.Hops.{detours}
-use Rattle.hops.specs.Hops.Laws.{detours-told, kept-none, kept-more, kept-all}
+use Rattle.detours.specs.Detours.{detours}
+use Rattle.detours.specs.Detours.Laws.{detours-told, kept-none, kept-more, kept-all}
 use borrow.Author.Needs.{needs}
-use Rattle.hops.proofs.drop_detours.Statement.{statement}
-use Rattle.hops.proofs.drop_detours.Tie as tie
+use Rattle.detours.proofs.drop_detours.Statement.{statement}
+use Rattle.detours.proofs.drop_detours.Tie as tie
 
 abbrev Inv-loop : tie.InvT-loop
 Inv-loop hops ways costs word c list₀ count from kept₀ j₀ list kept j =

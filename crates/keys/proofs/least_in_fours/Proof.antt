@@ -1,13 +1,13 @@
--- `rows::least_in_fours` meets its contract. The invariant: `low` is the least of the prices so far. Assumes nothing.
+-- `keys::least_in_fours` meets its contract. The invariant: `low` is the least of the prices so far. Assumes nothing.
 use mathlib.Core.Path.{_≡_, refl, sym, _∙_}
 use Prim.Native.Nat.{_+_, _-_, _*_, _≤_}
 use native.Mathlib.Omega.{arith}
 use lib.ListN.{length, take}
 use borrow.Author.Needs.{needs}
 use Rattle.search.specs.Node.{leastOf}
-use Rattle.rows.specs.Scan.Laws.{least-four-more}
-use Rattle.rows.proofs.least_in_fours.Statement.{statement}
-use Rattle.rows.proofs.least_in_fours.Tie as tie
+use Rattle.keys.specs.Scan.Laws.{least-four-more}
+use Rattle.keys.proofs.least_in_fours.Statement.{statement}
+use Rattle.keys.proofs.least_in_fours.Tie as tie
 
 abbrev Inv-loop : tie.InvT-loop
 Inv-loop prices fours low₀ j₀ low j = (j ≤ fours) × (low ≡ leastOf (take (j * 4) prices))

@@ -1,4 +1,4 @@
--- `rows::key_of` meets its contract. The invariant: the centre cost and the least price of each leaf so far, at most the mark. Assumes nothing.
+-- `keys::key_of` meets its contract. The invariant: the centre cost and the least price of each leaf so far, at most the mark. Assumes nothing.
 use mathlib.Core.Path.{_≡_, _∙_}
 use Prim.Native.Nat.{_+_, _-_, _≤_, min}
 use native.Mathlib.Omega.{arith}
@@ -7,10 +7,10 @@ use borrow.Author.Needs.{needs}
 use Rattle.loops.specs.Count.{sum}
 use Rattle.leaf.specs.Price.{mark}
 use Rattle.search.specs.Node.{leastOf}
-use Rattle.rows.specs.Scan.{partBy, keyBy}
-use Rattle.rows.specs.Scan.Laws.{Inside, cut-in, capped-more}
-use Rattle.rows.proofs.key_of.Statement.{statement}
-use Rattle.rows.proofs.key_of.Tie as tie
+use Rattle.keys.specs.Scan.{partBy, keyBy}
+use Rattle.keys.specs.Scan.Laws.{Inside, cut-in, capped-more}
+use Rattle.keys.proofs.key_of.Statement.{statement}
+use Rattle.keys.proofs.key_of.Tie as tie
 
 abbrev Inv-loop : tie.InvT-loop
 Inv-loop leaves bases paid prices key₀ i₀ key i = (i ≤ leaves) × (key ≡ min (paid + sum i (λ k. leastOf (partBy bases k prices))) mark)

@@ -20,7 +20,7 @@ use Rattle.leaf.specs.Settle.Turns.{at-any}
 use Rattle.layer.specs.Board.{metOn}
 use Rattle.layer.specs.Lent.{testsOf}
 use Rattle.search.specs.Node.{leastOf}
-use Rattle.rows.specs.Scan.{Cut}
+use Rattle.keys.specs.Scan.{Cut}
 
 -- ---- the least price
 

@@ -1,4 +1,4 @@
--- `rows::goal_sum` meets its contract. The invariant: the centre cost and the least price of a goal state of each leaf so far, at most the
+-- `keys::goal_sum` meets its contract. The invariant: the centre cost and the least price of a goal state of each leaf so far, at most the
 -- mark. Assumes nothing.
 use mathlib.Core.Path.{_≡_, sym, _∙_}
 use mathlib.Core.List.{List}
@@ -10,10 +10,10 @@ use Rattle.loops.specs.Count as count
 use Rattle.leaf.specs.Price.{mark}
 use Rattle.layer.specs.Board.Turns.{part-length}
 use Rattle.search.specs.Node.{leastOf}
-use Rattle.rows.specs.Scan.{partBy, goalsBy, goalSumBy}
-use Rattle.rows.specs.Scan.Laws.{Inside, cut-in, capped-more, capped-full}
-use Rattle.rows.proofs.goal_sum.Statement.{statement}
-use Rattle.rows.proofs.goal_sum.Tie as tie
+use Rattle.keys.specs.Scan.{partBy, goalsBy, goalSumBy}
+use Rattle.keys.specs.Scan.Laws.{Inside, cut-in, capped-more, capped-full}
+use Rattle.keys.proofs.goal_sum.Statement.{statement}
+use Rattle.keys.proofs.goal_sum.Tie as tie
 
 -- the sum over the first i leaves
 abbrev sumTo : List ℕ → List ℕ → ℕ → List ℕ → ℕ → ℕ

@@ -1,4 +1,4 @@
--- `hops::same_words` meets its contract. The invariant: where no bit was apart so far, the words are the same. Assumes nothing.
+-- `detours::same_words` meets its contract. The invariant: where no bit was apart so far, the words are the same. Assumes nothing.
 use mathlib.Core.Path.{_≡_, refl}
 use Prim.Native.Nat.{ℕ, _-_, _≤_, _<_}
 use native.Mathlib.Nat.{not-suc-le-zero}
@@ -6,10 +6,10 @@ use native.Mathlib.Omega.{arith}
 use lib.ListN.{length, getD}
 use borrow.Author.Count.{below-more}
 use borrow.Author.Tests.{eqb-true}
-use Rattle.hops.specs.Hops.Laws.{or-none, xor-same, same-front}
+use Rattle.detours.specs.Detours.Laws.{or-none, xor-same, same-front}
 use borrow.Author.Needs.{needs}
-use Rattle.hops.proofs.same_words.Statement.{statement}
-use Rattle.hops.proofs.same_words.Tie as tie
+use Rattle.detours.proofs.same_words.Statement.{statement}
+use Rattle.detours.proofs.same_words.Tie as tie
 
 abbrev Inv-loop : tie.InvT-loop
 Inv-loop xs ys apart₀ j₀ j-end apart j = (j-end ≡ length xs) × (j ≤ j-end) × (apart ≡ 0 → (k : ℕ) → k < j → getD xs k 0 ≡ getD ys k 0)

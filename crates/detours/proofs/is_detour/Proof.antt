@@ -1,11 +1,11 @@
--- `hops::is_detour` meets its contract: each answer is that of the test. Assumes nothing.
+-- `detours::is_detour` meets its contract: each answer is that of the test. Assumes nothing.
 use Prim.Native.Nat.{_+_, _-_, _*_, _%_}
 use native.Mathlib.Omega.{arith}
 use lib.ListN.{getD}
-use Rattle.hops.specs.Hops.Laws.{detour-word, detour-other, detour-back, detour-none, detour-way}
+use Rattle.detours.specs.Detours.Laws.{detour-word, detour-other, detour-back, detour-none, detour-way}
 use borrow.Author.Needs.{needs}
-use Rattle.hops.proofs.is_detour.Statement.{statement}
-use Rattle.hops.proofs.is_detour.Tie as tie
+use Rattle.detours.proofs.is_detour.Statement.{statement}
+use Rattle.detours.proofs.is_detour.Tie as tie
 
 mul-word : tie.Need-mul-word
 mul-word c = search needs
