@@ -3,6 +3,8 @@ use keys::lesser;
 use leaf::MARK;
 ghost use mathlib.Core.Path.{_≡_};
 ghost use Prim.Native.Nat.{_+_, _*_, _≤_, _<_};
+ghost use mathlib.Core.Bool.{cond};
+ghost use lib.Dec.{ltb};
 ghost use lib.ListN.{length, drop};
 ghost use Rattle.leaf.specs.Price.{mark};
 ghost use Rattle.blocks.specs.Choice.{chooseBy};
@@ -144,6 +146,42 @@ fn find(scan: &[u64], from: usize, count: usize, word: u64) -> usize
     found
 }
 
+// The first place in two parts that stand one behind the other, `few` words in the first of them: the first part's, else the second part's behind it.
+fn joined(first: usize, few: usize, second: usize) -> usize
+    requires { ⌜ (few ≤ 8) × (second ≤ 8) ⌝ }
+    ensures { λ r. ⌜ r ≡ cond (ltb first few) first (few + second) ⌝ }
+{
+    if first < few {
+        return first;
+    }
+    few + second
+}
+
+// The first place of a word among 16 words, 16 if it is none of them. They are looked at in four parts, so that few comparisons wait for another.
+fn find_block(scan: &[u64], from: usize, word: u64) -> usize
+    requires { ⌜ from + 16 ≤ length (now scan) ⌝ }
+    ensures { λ r. ⌜ FirstOf (drop from (now (scan .entry))) 16 word r ⌝ }
+{
+    let first = find(scan, from, 4, word);
+    let second = find(scan, from + 4, 4, word);
+    let third = find(scan, from + 8, 4, word);
+    let fourth = find(scan, from + 12, 4, word);
+    let low = joined(first, 4, second);
+    let high = joined(third, 4, fourth);
+    joined(low, 8, high)
+}
+
+// The first place of a key in a block, whose keys begin at `from`; most blocks are full.
+fn find_key(scan: &[u64], from: usize, count: usize, word: u64) -> usize
+    requires { ⌜ from + count ≤ length (now scan) ⌝ }
+    ensures { λ r. ⌜ FirstOf (drop from (now (scan .entry))) count word r ⌝ }
+{
+    if count == 16 {
+        return find_block(scan, from, word);
+    }
+    find(scan, from, count, word)
+}
+
 // One more than the node with the least key below the bound, the lowest on ties; 0 for none. An upper word is picked, of those that the first `count`
 // nodes have, and it is that key. So the block is the first of its 16 blocks whose word is the same, and the node the first in the block with that key.
 pub fn choose(scan: &[u64], count: usize, bound: u64) -> usize
@@ -156,7 +194,7 @@ pub fn choose(scan: &[u64], count: usize, bound: u64) -> usize
     }
     let upper = picked - 1;
     let word = scan[7440 + upper];
-    let block = upper * 16 + find(scan, 7184 + upper * 16, 16, word);
+    let block = upper * 16 + find_block(scan, 7184 + upper * 16, word);
     let start = block * 16;
-    start + find(scan, start, block_size(block, count), word) + 1
+    start + find_key(scan, start, block_size(block, count), word) + 1
 }

@@ -182,7 +182,7 @@ fn next_round<'a>(
             run,
         });
     }
-    if run.begun == budget {
+    if run.begun == budget as usize {
         return Round::Stops(Stop {
             why: Why::BudgetSpent,
             run,
@@ -191,9 +191,10 @@ fn next_round<'a>(
     let u = chosen - 1;
     let key = scan[u];
     retire(scan, u, run.count);
+    let more = run.begun + 1;
     let begun = Run {
         count: run.count,
-        begun: run.begun + 1,
+        begun: more,
         best: run.best,
         best_cost: run.best_cost,
     };

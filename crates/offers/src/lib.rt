@@ -31,7 +31,7 @@ ghost use Rattle.offers.specs.Held.{Room, Kept, Offered};
 // The search beside its table: nodes kept, expansions begun, one more than best's node (0 for none), best's goal cost (the mark for none).
 pub struct Run {
     pub count: usize,
-    pub begun: u32,
+    pub begun: usize,
     pub best: usize,
     pub best_cost: u64,
 }

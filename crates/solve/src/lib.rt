@@ -30,7 +30,7 @@ ghost use Rattle.solve.specs.Solve.Stops.{runIn, Sound};
 
 // How many expansions have begun, and how many nodes are kept.
 pub struct Counts {
-    pub expanded: u32,
+    pub expanded: usize,
     pub kept: usize,
 }
 

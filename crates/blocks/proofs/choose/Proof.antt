@@ -61,18 +61,18 @@ shared-slice-read-word c = omega (arith, place (c .before), c .before .before .b
 mul-block : tie.Need-mul-block
 mul-block c = omega (arith, place (c .before))
 
-mul-find : tie.Need-mul-find
-mul-find c = omega (arith, place (c .before))
+mul-find-block : tie.Need-mul-find-block
+mul-find-block c = omega (arith, place (c .before))
 
-add-find : tie.Need-add-find
-add-find c = omega (arith, place (c .before))
+add-find-block : tie.Need-add-find-block
+add-find-block c = omega (arith, place (c .before))
 
-find-requires : tie.Need-find-requires
-find-requires c κs = omega (arith, place (c .before), c .before .before .before .before .pre .0)
+find-block-requires : tie.Need-find-block-requires
+find-block-requires c κs = omega (arith, place (c .before), c .before .before .before .before .pre .0)
 
 -- the block that is found: its word is the upper word, and it is the choice among the block words
-block : (c : tie.After-find) → let a = c .before .before .before .before .before .args in let g = c .before .before .before .pick .result - 1 in let C = a .scan .now in
-    let b = g * 16 + c .find .result in (getD (blockWords C) b 0 ≡ getD C (7440 + g) 0) × Picked (a .bound) (blockWords C) 256 b
+block : (c : tie.After-find-block) → let a = c .before .before .before .before .before .args in let g = c .before .before .before .pick .result - 1 in let C = a .scan .now in
+    let b = g * 16 + c .find-block .result in (getD (blockWords C) b 0 ≡ getD C (7440 + g) 0) × Picked (a .bound) (blockWords C) 256 b
 block c =
     let s = c .before .before .before .before .before in
     let a = s .args in
@@ -80,8 +80,8 @@ block c =
     let g = c .before .before .before .pick .result - 1 in
     let p = upper (c .before .before) in
     let size : blockSize 256 g ≡ 16 = omega (arith, p .inside) in
-    under-found (a .bound) (blockWords C) (upperWords C) 16 256 (omega arith) (s .pre .2) (s .pre .3 .words) g (getD C (7440 + g) 0) (c .find .result)
-    p (getD-drop 7440 C g 0) (rw (size, drop-drop (g * 16) 7184 C) (c .find .ensures))
+    under-found (a .bound) (blockWords C) (upperWords C) 16 256 (omega arith) (s .pre .2) (s .pre .3 .words) g (getD C (7440 + g) 0) (c .find-block .result)
+    p (getD-drop 7440 C g 0) (rw (size, drop-drop (g * 16) 7184 C) (c .find-block .ensures))
 
 add-block : tie.Need-add-block
 add-block c = omega (arith, block c .1 .inside)
@@ -94,28 +94,28 @@ block-size-requires c κs =
     let s = c .before .before .before .before .before in
     let a = s .args in
     let C = a .scan .now in
-    let b = (c .before .before .before .pick .result - 1) * 16 + c .find .result in
+    let b = (c .before .before .before .pick .result - 1) * 16 + c .find-block .result in
     omega
     (arith, picked-some (a .bound) C (blockWords C) 256 (a .count) (omega (arith, s .pre .1)) (s .pre .2) (s .pre .3 .keys) b (block c .1))
 
-find-requires-2 : tie.Need-find-requires-2
-find-requires-2 c κs =
+find-key-requires : tie.Need-find-key-requires
+find-key-requires c κs =
     let s = c .before .before .before .before .before .before in
     omega (arith, c .block-size .ensures, s .pre .0, s .pre .1, block (c .before) .1 .inside)
 
 -- the node that is found is the choice among all nodes
-node : (c : tie.After-find2) → let a = c .before .before .before .before .before .before .before .args in
-    let b = (c .before .before .before .before .before .pick .result - 1) * 16 + c .before .before .find .result in
-    Picked (a .bound) (a .scan .now) (a .count) (b * 16 + c .find2 .result)
+node : (c : tie.After-find-key) → let a = c .before .before .before .before .before .before .before .args in
+    let b = (c .before .before .before .before .before .pick .result - 1) * 16 + c .before .before .find-block .result in
+    Picked (a .bound) (a .scan .now) (a .count) (b * 16 + c .find-key .result)
 node c =
     let s = c .before .before .before .before .before .before .before in
     let a = s .args in
     let C = a .scan .now in
     let g = c .before .before .before .before .before .pick .result - 1 in
-    let b = g * 16 + c .before .before .find .result in
+    let b = g * 16 + c .before .before .find-block .result in
     let p = block (c .before .before) in
-    under-found (a .bound) C (blockWords C) 256 (a .count) (omega (arith, s .pre .1)) (s .pre .2) (s .pre .3 .keys) b (getD C (7440 + g) 0) (c .find2 .result)
-    (p .1) (p .0) (rw (c .before .block-size .ensures) at (c .find2 .ensures)) .1
+    under-found (a .bound) C (blockWords C) 256 (a .count) (omega (arith, s .pre .1)) (s .pre .2) (s .pre .3 .keys) b (getD C (7440 + g) 0) (c .find-key .result)
+    (p .1) (p .0) (rw (c .before .block-size .ensures) at (c .find-key .ensures)) .1
 
 add-result : tie.Need-add-result
 add-result c = omega (arith, node c .inside, c .before .before .before .before .before .before .before .pre .1)
@@ -126,8 +126,8 @@ add-result-2 c = omega (arith, node c .inside, c .before .before .before .before
 returns-2 : tie.Need-returns-2
 returns-2 c =
     let a = c .before .before .before .before .before .before .before .args in
-    let b = (c .before .before .before .before .before .pick .result - 1) * 16 + c .before .before .find .result in
-    omega (arith, choose-first (a .bound) (a .scan .now) (a .count) (b * 16 + c .find2 .result) (node c))
+    let b = (c .before .before .before .before .before .pick .result - 1) * 16 + c .before .before .find-block .result in
+    omega (arith, choose-first (a .bound) (a .scan .now) (a .count) (b * 16 + c .find-key .result) (node c))
 
 pub choose-spec : {M : Type 1} → statement M
 choose-spec =
@@ -141,13 +141,13 @@ choose-spec =
     mul-word
     shared-slice-read-word
     mul-block
-    mul-find
-    add-find
-    find-requires
+    mul-find-block
+    add-find-block
+    find-block-requires
     add-block
     mul-start
     block-size-requires
-    find-requires-2
+    find-key-requires
     add-result
     add-result-2
     returns-2)

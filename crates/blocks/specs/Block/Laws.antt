@@ -1,12 +1,15 @@
 -- Laws of the block words: as nodes are linked and retired, and the choice by blocks. Assumes nothing.
 use mathlib.Core.Path.{_≡_, refl, sym, ap, _∙_}
 use mathlib.Core.Logic.{_⊎_, inl, inr}
+use mathlib.Core.Bool.{cond}
 use mathlib.Core.List.{List}
 use Prim.Native.Nat.{ℕ, zero, suc, _+_, _-_, _*_, _/_, _≤_, _<_, min}
 use native.Mathlib.Nat.{not-suc-le-zero}
 use native.Mathlib.Numerals.{add-one}
 use native.Mathlib.Omega.{arith}
 use native.Mathlib.Decide.{ℕ-discrete, decLe, decLt}
+use borrow.Author.Tests.{lt-ltb, le-ltb}
+use lib.Dec.{ltb}
 use lib.ListN.{length, getD, set, drop, length-set}
 use lib.Seq.{getD-set-same, getD-set-other, getD-drop}
 use Rattle.loops.specs.Count.Laws.{below-cases}
@@ -86,6 +89,34 @@ least-is C f n r h p = go (least-cases (drop f C) n)
     go : (leastIn (drop f C) n ≡ mark) ⊎ ((k : ℕ) × ((k < n) × (getD (drop f C) k 0 ≡ leastIn (drop f C) n))) → r ≡ leastIn (drop f C) n
     go (inl e) = omega (arith, low)
     go (inr (k, (l, e))) = omega (arith, low, p .lower k l, getD-drop f C k 0)
+
+-- ---- the first place of a word
+
+-- in two parts that stand one behind the other: that of the first part, else that of the second behind it
+pub first-two : (C : List ℕ) (f g m n w a b r : ℕ) → g ≡ f + m → FirstOf (drop f C) m w a → FirstOf (drop g C) n w b → r ≡ cond (ltb a m) a (m + b)
+    → FirstOf (drop f C) (m + n) w r
+first-two C f g m n w a b r next p q e = go (decLt a m)
+  where
+    -- a word of the second part
+    behind : (i : ℕ) → m ≤ i → getD (drop f C) i 0 ≡ getD (drop g C) (i - m) 0
+    behind i l =
+        let z : f + i ≡ g + (i - m) = omega arith in
+        getD-drop f C i 0 ∙ ap (λ (k : ℕ). getD C k 0) z ∙ sym (getD-drop g C (i - m) 0)
+
+    go : Dec (a < m) → FirstOf (drop f C) (m + n) w r
+    go (yes l) =
+        let z : r ≡ a = e ∙ rw (lt-ltb a m l) in
+        rw z record { most = omega arith; before = p .before; here = λ _. p .here l }
+    go (no d) =
+        let z : r ≡ m + b = e ∙ rw (le-ltb a m (omega (arith, d))) in
+        rw z record { most = omega (arith, q .most); before = λ i l h. early i l h (decLt i m); here = λ l. behind (m + b) (omega arith) ∙ last l }
+      where
+        early : (i : ℕ) → i < m + b → getD (drop f C) i 0 ≡ w → Dec (i < m) → ⊥
+        early i l h (yes k) = p .before i (omega (arith, d)) h
+        early i l h (no k) = q .before (i - m) (omega (arith, k)) (sym (behind i (omega (arith, k))) ∙ h)
+
+        last : m + b < m + n → getD (drop g C) (m + b - m) 0 ≡ w
+        last l = let z : m + b - m ≡ b = omega arith in rw z (q .here (omega arith))
 
 -- ---- the keys of a block
 

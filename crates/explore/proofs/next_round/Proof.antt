@@ -106,8 +106,8 @@ retire-requires c κs =
     let s = c .before .before .before .before .before .before .before .before .before .before .before .before .before .before .before .before .before .before .before .before .before .before .before .before .before .before .before .before .before in
     (s .pre .1 .1 .1 .0 .scan-long, few s, picked (c .before .before .before .before) .1)
 
-add-t49 : tie.Need-add-t49
-add-t49 c = omega (arith, c .before .before .before .before .before .before .before .before .before .before .before .before .before .before .before .before .before .before .before .before .before .before .before .before .before .before .before .before .before .before .before .before .before .pre .1 .1 .0 .2)
+add-more : tie.Need-add-more
+add-more c = omega (arith, c .before .before .before .before .before .before .before .before .before .before .before .before .before .before .before .before .before .before .before .before .before .before .before .before .before .before .before .before .before .before .before .before .before .pre .1 .1 .0 .2)
 
 expand-requires : tie.Need-expand-requires
 expand-requires c κs =
@@ -203,7 +203,7 @@ next-round-spec =
     mul-key
     slice-read-key
     retire-requires
-    add-t49
+    add-more
     expand-requires
     same-length-3
     same-length-4
