@@ -1,1 +1,1 @@
-pub mod Still
+pub mod Begin

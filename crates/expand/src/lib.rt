@@ -27,7 +27,7 @@ ghost use Rattle.rows.specs.Reach.{Reaches};
 ghost use Rattle.rows.specs.Row.{nodeIn};
 ghost use Rattle.rows.specs.Sign.{signOf};
 ghost use Rattle.offers.specs.Held.{Room, Has};
-ghost use Rattle.begins.specs.Still.{Still, Stills};
+ghost use Rattle.stills.specs.Still.{Still, Stills};
 ghost use Rattle.hops.specs.Hops.{Hops, Ways};
 ghost use Rattle.expand.specs.Held.{Useful, Moved, Grown, Done};
 

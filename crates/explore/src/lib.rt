@@ -1,6 +1,4 @@
 // The exploration over the lent table.
-use begins::still_actions;
-use begins::still_leaves;
 use blocks::choose;
 use blocks::fresh;
 use blocks::retire;
@@ -14,6 +12,8 @@ use leaf::MARK;
 use offers::Run;
 use offers::keep;
 use rows::class_of;
+use stills::still_actions;
+use stills::still_leaves;
 use task::Centre;
 use task::Task;
 ghost use mathlib.Core.Path.{_≡_};
@@ -34,7 +34,7 @@ ghost use Rattle.offers.specs.Held.{searchOf, Cached, Room};
 ghost use Rattle.expand.specs.Held.{Suits};
 ghost use Rattle.explore.specs.Held.{stoppedOf};
 ghost use Rattle.explore.specs.Held.Rounds.{Ahead, Rounded};
-ghost use Rattle.begins.specs.Still.{Still, Stills};
+ghost use Rattle.stills.specs.Still.{Still, Stills};
 ghost use Rattle.hops.specs.Hops.{Hops, Ways};
 
 // Why a search stops.

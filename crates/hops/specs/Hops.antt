@@ -6,7 +6,7 @@ use mathlib.Core.List.{List}
 use Prim.Native.Nat.{ℕ, _+_, _-_, _*_, _/_, _%_, _≤_, _<_}
 use lib.ListN.{length, getD}
 use Rattle.layer.specs.Board.{Board, rowOn}
-use Rattle.begins.specs.Still.{Stays}
+use Rattle.stills.specs.Still.{Stays}
 
 -- by the tables, action a has the one condition that centre variable v is x, and the one effect that v becomes z; each leaf state stays as it is
 pub record HopOn (b : Board) (effects : List ℕ) (a v x z : ℕ) : Type 0 where

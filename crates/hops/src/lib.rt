@@ -7,7 +7,7 @@ ghost use lib.ListN.{length, getD};
 ghost use Rattle.layer.specs.Board.{Sound};
 ghost use Rattle.layer.specs.First.{Firsts};
 ghost use Rattle.layer.specs.Lent.{boardOf};
-ghost use Rattle.begins.specs.Still.{Still};
+ghost use Rattle.stills.specs.Still.{Still};
 ghost use Rattle.hops.specs.Hops.{PairWord, HopWord, Hops, Ways};
 
 // Whether an action's row of conditions or effects, which begins at `at`, names no variable but v. All are looked at: without a branch that is quicker.

@@ -10,7 +10,7 @@ use Rattle.layer.specs.Board.{Board, baseOn, rowOn, partOn, passOn, beginOn}
 use Rattle.layer.specs.Board.Turns.{base-in, moves-here, moves-stay, leaf-passed, part-length, Laid, laid-none, laid-more, laid-rest}
 use Rattle.layer.specs.Lent.{boardOf}
 use Rattle.search.specs.Node.{leastOf}
-use Rattle.begins.specs.Still.{Risen, risen-none, risen-more, risen-key, part-copied, rest-copied}
+use Rattle.begins.specs.Begin.{Risen, risen-none, risen-more, risen-key, part-copied, rest-copied}
 use Rattle.begins.proofs.begin_moved.Statement.{statement}
 use Rattle.begins.proofs.begin_moved.Tie as tie
 

@@ -7,7 +7,7 @@ use lib.Seq.{length-take-le}
 use Rattle.layer.specs.Board.{Board, rowOn}
 use Rattle.layer.specs.Lent.{boardOf}
 use Rattle.rows.specs.Begun.{begunWords, begun-moved, begun-stays}
-use Rattle.begins.specs.Still.{begun-still}
+use Rattle.begins.specs.Begin.{begun-still}
 use borrow.Author.Needs.{needs}
 use Rattle.begins.proofs.begin_of.Statement.{statement}
 use Rattle.begins.proofs.begin_of.Tie as tie

@@ -4,7 +4,7 @@ use Prim.Native.Nat.{_+_, _≤_}
 use native.Mathlib.Omega.{arith}
 use lib.ListN.{length, getD}
 use Rattle.search.specs.Node.{leastOf}
-use Rattle.begins.specs.Still.{pass-rises, copy-passes}
+use Rattle.begins.specs.Begin.{pass-rises, copy-passes}
 use borrow.Author.Needs.{needs}
 use Rattle.begins.proofs.carry.Statement.{statement}
 use Rattle.begins.proofs.carry.Tie as tie

@@ -8,7 +8,7 @@ use borrow.Author.Needs.{needs}
 use Rattle.layer.specs.Board.{Board, baseOn, rowOn}
 use Rattle.layer.specs.Board.Turns.{base-in, row-in, part-length, leaf-passes}
 use Rattle.layer.specs.Lent.{boardOf}
-use Rattle.begins.specs.Still.{stuck-out}
+use Rattle.begins.specs.Begin.{stuck-out}
 use Rattle.begins.proofs.is_stuck.Statement.{statement}
 use Rattle.begins.proofs.is_stuck.Tie as tie
 

@@ -8,7 +8,7 @@ use Rattle.layer.specs.Board.{Board, rowOn}
 use Rattle.layer.specs.Lent.{boardOf}
 use Rattle.rows.specs.Begun.{begunWords}
 use Rattle.keys.specs.Scan.{keyBy}
-use Rattle.begins.specs.Still.{key-more}
+use Rattle.begins.specs.Begin.{key-more}
 use Rattle.offers.specs.Held.Laws.{cut}
 use Rattle.expand.specs.Held.Turns.{moved-leaf, moved-above, moved-stuck, moved-offered}
 use borrow.Author.Needs.{needs}

@@ -38,7 +38,7 @@ use Rattle.rows.specs.Row.{nodeIn}
 use Rattle.keys.specs.Scan.{keyBy}
 use Rattle.offers.specs.declared.Run.{Run}
 use Rattle.offers.specs.declared.Turned.{Turned}
-use Rattle.begins.specs.Still.{key-rises}
+use Rattle.begins.specs.Begin.{key-rises}
 use Rattle.hops.specs.Hops.{HopOn}
 use Rattle.expand.specs.Held.{Suits, expandedOf, Aside, Useful, Moved, Grown, Done}
 use Rattle.offers.specs.Held.{searchOf, Cached, Scans, Room, Has, Stands, settledWords, begunNode, settledNode, Alike, Offered}

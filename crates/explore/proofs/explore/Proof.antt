@@ -12,7 +12,7 @@ use Rattle.layer.specs.First.{Firsts, firsts-part}
 use Rattle.layer.specs.Lent.{boardOf}
 use Rattle.mets.specs.Known.{Known, known-none}
 use Rattle.keys.specs.Scan.{Cut}
-use Rattle.begins.specs.Still.{Still}
+use Rattle.stills.specs.Still.{Still}
 use Rattle.explore.specs.declared.Round.the-variants.{Goes}
 use Rattle.expand.specs.Held.{Suits}
 use Rattle.offers.specs.Held.{Room}

@@ -10,7 +10,7 @@ use lib.ListN.{getD, set, replicate, length-set, length-replicate, getD-replicat
 use lib.Seq.{getD-set-same, getD-set-other}
 use Rattle.loops.specs.Count.Laws.{below-cases}
 use Rattle.layer.specs.Board.{Board, rowOn}
-use Rattle.begins.specs.Still.{Stays}
+use Rattle.stills.specs.Still.{Stays}
 use Rattle.hops.specs.Hops.{Pair, PairWord, HopWord, Hops, Ways}
 
 -- ---- words

@@ -1,4 +1,4 @@
--- `begins::is_still_leaf` meets its contract. The invariant: the states so far stay as they are. Assumes nothing.
+-- `stills::is_still_leaf` meets its contract. The invariant: the states so far stay as they are. Assumes nothing.
 use mathlib.Core.Path.{_≡_, sym}
 use mathlib.Core.Bool.{true≢false}
 use Prim.Native.Nat.{ℕ, _+_, _-_, _≤_, _<_}
@@ -6,9 +6,9 @@ use native.Mathlib.Nat.{not-suc-le-zero}
 use native.Mathlib.Omega.{arith}
 use lib.ListN.{getD}
 use borrow.Author.Needs.{needs}
-use Rattle.begins.specs.Still.{one-more}
-use Rattle.begins.proofs.is_still_leaf.Statement.{statement}
-use Rattle.begins.proofs.is_still_leaf.Tie as tie
+use Rattle.stills.specs.Still.{one-more}
+use Rattle.stills.proofs.is_still_leaf.Statement.{statement}
+use Rattle.stills.proofs.is_still_leaf.Tie as tie
 
 abbrev Inv-loop : tie.InvT-loop
 Inv-loop moves at states x₀ x = (x ≤ states) × ((y : ℕ) → y < x → getD moves (at + y) 0 ≡ y + 1)

@@ -1,12 +1,12 @@
--- `begins::still_actions` meets its contract. The invariant: it holds of the actions so far. Assumes nothing.
+-- `stills::still_actions` meets its contract. The invariant: it holds of the actions so far. Assumes nothing.
 use mathlib.Core.List.{List}
 use Prim.Native.Nat.{ℕ, _-_, _≤_, _<_}
 use native.Mathlib.Nat.{le-antisymm}
 use native.Mathlib.Omega.{arith}
 use borrow.Author.Needs.{needs}
-use Rattle.begins.specs.Still.{Still, Stills, marked-stays, still-none, still-more}
-use Rattle.begins.proofs.still_actions.Statement.{statement}
-use Rattle.begins.proofs.still_actions.Tie as tie
+use Rattle.stills.specs.Still.{Still, Stills, marked-stays, still-none, still-more}
+use Rattle.stills.proofs.still_actions.Statement.{statement}
+use Rattle.stills.proofs.still_actions.Tie as tie
 
 abbrev Inv-loop : tie.InvT-loop
 Inv-loop leaves actions stills still₀ a₀ still a =

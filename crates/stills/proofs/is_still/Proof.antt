@@ -1,13 +1,13 @@
--- `begins::is_still` meets its contract. The invariant: no entry so far is 0. Assumes nothing.
+-- `stills::is_still` meets its contract. The invariant: no entry so far is 0. Assumes nothing.
 use mathlib.Core.Path.{_≡_, refl}
 use Prim.Native.Nat.{_+_, _*_, _-_, _≤_}
 use native.Mathlib.Nat.{not-suc-le-zero}
 use native.Mathlib.Omega.{arith}
 use lib.ListN.{getD}
 use borrow.Author.Needs.{needs}
-use Rattle.begins.specs.Still.{Marked, one-more}
-use Rattle.begins.proofs.is_still.Statement.{statement}
-use Rattle.begins.proofs.is_still.Tie as tie
+use Rattle.stills.specs.Still.{Marked, one-more}
+use Rattle.stills.proofs.is_still.Statement.{statement}
+use Rattle.stills.proofs.is_still.Tie as tie
 
 abbrev Inv-loop : tie.InvT-loop
 Inv-loop leaves stills a i₀ i = (i ≤ leaves) × Marked i stills a

@@ -1,12 +1,12 @@
--- `begins::still_entry` meets its contract: the leaf's moves lie within the action's. Assumes nothing.
+-- `stills::still_entry` meets its contract: the leaf's moves lie within the action's. Assumes nothing.
 use Prim.Native.Nat.{_+_, _*_, _/_, _%_, _≤_}
 use native.Mathlib.Omega.{arith}
 use lib.ListN.{length, getD}
 use Rattle.keys.specs.Scan.{Cut}
-use Rattle.begins.specs.Still.{within}
+use Rattle.stills.specs.Still.{within}
 use borrow.Author.Needs.{needs}
-use Rattle.begins.proofs.still_entry.Statement.{statement}
-use Rattle.begins.proofs.still_entry.Tie as tie
+use Rattle.stills.proofs.still_entry.Statement.{statement}
+use Rattle.stills.proofs.still_entry.Tie as tie
 
 -- where both ends of the leaf are read: the leaf's moves lie within the action's
 room : (c : tie.After-shared-slice-known5) → let a = c .before .before .before .before .before .before .args in

@@ -1,11 +1,11 @@
--- `begins::still_leaves` meets its contract. The invariant: it holds of the entries so far. Assumes nothing.
+-- `stills::still_leaves` meets its contract. The invariant: it holds of the entries so far. Assumes nothing.
 use Prim.Native.Nat.{_+_, _*_, _/_, _-_, _≤_, _<_}
 use native.Mathlib.Omega.{arith}
 use lib.ListN.{length, getD}
 use borrow.Author.Needs.{needs}
-use Rattle.begins.specs.Still.{Entries, action-in, entries-none, entries-more}
-use Rattle.begins.proofs.still_leaves.Statement.{statement}
-use Rattle.begins.proofs.still_leaves.Tie as tie
+use Rattle.stills.specs.Still.{Entries, action-in, entries-none, entries-more}
+use Rattle.stills.proofs.still_leaves.Statement.{statement}
+use Rattle.stills.proofs.still_leaves.Tie as tie
 
 abbrev Inv-loop : tie.InvT-loop
 Inv-loop leaves actions bases moves stills₀ k₀ k-end stills k = (k ≤ actions * 8) × Entries k leaves bases moves stills
