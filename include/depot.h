@@ -2,7 +2,7 @@
  *
  * Every call returns, whatever the bytes, numbers and buffers are. A buffer is a pointer and a count of elements; the pointer is never null and never
  * dangling, also where the count is 0, buffers that are written do not overlap any other buffer, and 64-bit buffers are aligned to 8 bytes. Nothing is
- * kept between calls, nothing is allocated; 1.5 MiB of stack was enough for every task tried (the example ran in 1,152 KiB).
+ * kept between calls, nothing is allocated; 1.5 MiB of stack was enough for every task tried (the example ran in 1,168 KiB).
  *
  * Refusals of a record: 1 it ends inside a field; 2 a size of 1; 3 a factor above the number of leaves; 4 an initial value outside its size; 5 a pair's
  * variable unknown or not above the one before; 6 a pair's value outside its size; 7 no effects; 8 fill bits not zero, or bytes left over; 9 the centre
