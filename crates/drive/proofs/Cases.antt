@@ -1,8 +1,7 @@
 -- Drive times by example: the ends of the table and both sides of 400 cm.
 -- Assumes nothing.
 use mathlib.Core.Path.{_≡_, refl}
-use mathlib.Core.List.{List, [], _∷_, map}
-use Prim.Native.Nat.{ℕ}
+use mathlib.Core.List.{[], _∷_, map}
 use Rattle.drive.specs.Drive.{rootFrom, driveTime}
 
 -- the time of each of these distances

@@ -1,7 +1,7 @@
 -- Drive times in hundredths of a second, by distance in cm. Follows "Drive times".
 pub mod Laws
 use mathlib.Core.Path.{_≡_}
-use mathlib.Core.Bool.{Bool, true, false}
+use mathlib.Core.Bool.{true, false}
 use Prim.Native.Nat.{ℕ, zero, suc, _+_, _*_, _/_, _≤_, _<_}
 use lib.Dec.{leb}
 

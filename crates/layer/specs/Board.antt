@@ -4,7 +4,7 @@ pub mod Laws
 pub mod Turns
 pub mod Begin
 use mathlib.Core.Path.{_≡_}
-use mathlib.Core.Bool.{Bool, true, false, cond, not, _&&_}
+use mathlib.Core.Bool.{Bool, cond, not, _&&_}
 use mathlib.Core.List.{List, [], _∷_, _++_}
 use Prim.Native.Nat.{ℕ, zero, suc, _+_, _-_, _*_, _≤_, _<_}
 use lib.Dec.{ltb, eqb}
@@ -12,8 +12,8 @@ use lib.ListN.{length, getD, set, take, drop, replicate}
 use Rattle.loops.specs.Count.{all, any}
 use Rattle.task.specs.declared.Task.{Task}
 use Rattle.task.specs.declared.Centre.{Centre}
-use Rattle.task.specs.Meaning.{Partial, initial, factor, condition, cost}
-use Rattle.task.specs.Factors.{centreAction, leafAction, number, states, allStates, to}
+use Rattle.task.specs.Meaning.{cost}
+use Rattle.task.specs.Factors.{centreAction, leafAction, states, to}
 use Rattle.task.specs.Centre.{centreMeets}
 use Rattle.leaf.specs.Price.{mark}
 use Rattle.leaf.specs.Settle.{settled}

@@ -8,7 +8,7 @@ pub mod Laws
 pub mod Ext
 pub mod Turns
 pub mod Sweeps
-use mathlib.Core.Bool.{Bool, true, false, cond}
+use mathlib.Core.Bool.{cond}
 use mathlib.Core.List.{List}
 use Prim.Native.Nat.{ℕ, zero, suc, _+_, min}
 use lib.Dec.{ltb}

@@ -8,7 +8,6 @@ use Rattle.fields.specs.Fields.{bitOf, fieldOf, nextField}
 use Rattle.parts.specs.Grammar.{headOf, variableOf, pairOf, pairsFrom, countedPairs, effectPairs, costsOf, actionOf, listsOf, taskOf}
 use Rattle.whole.specs.declared.Verdict.the-variants.{Accepted}
 use Rattle.whole.specs.Whole.{factorsUsed, statesFew, allStar, wholeOf}
-use Rattle.record.specs.declared.TaskRead.{TaskRead}
 use Rattle.record.specs.Example.{fetchRecord}
 use Rattle.record.specs.Record.{filledOf, readRecord}
 

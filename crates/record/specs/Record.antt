@@ -1,18 +1,17 @@
 -- What a record reads as: its task, or one refusal in the written order: 1 to 7 field by field, 8, then 9, 10, 11 over the whole.
 pub mod Laws
-use mathlib.Core.Bool.{Bool, true, false, cond, _&&_}
+use mathlib.Core.Bool.{Bool, cond, _&&_}
 use mathlib.Core.List.{List}
 use Prim.Native.Nat.{ℕ, _+_, _-_, _*_, _/_}
 use lib.Dec.{eqb}
-use lib.ListN.{replicate}
 use Rattle.loops.specs.Parsed.{got, refused}
 use Rattle.task.specs.declared.Task.{Task}
-use Rattle.task.specs.Meaning.{Partial, free, size, factor, condition, effect}
+use Rattle.task.specs.Meaning.{Partial, size, factor, condition, effect}
 use Rattle.fields.specs.declared.Refusal.{Refusal}
 use Rattle.fields.specs.declared.Refusal.the-variants.{NotFilled}
 use Rattle.fields.specs.Answers.{Reading}
 use Rattle.fields.specs.Fields.{fieldOf, nextField, endsAt}
-use Rattle.parts.specs.Grammar.{Lists, noLists, taskWith, listsOf, taskOf}
+use Rattle.parts.specs.Grammar.{noLists, taskWith, listsOf, taskOf}
 use Rattle.whole.specs.declared.Verdict.{Verdict}
 use Rattle.whole.specs.declared.Verdict.the-variants.{Accepted, Refused}
 use Rattle.whole.specs.Whole.{wholeOf}

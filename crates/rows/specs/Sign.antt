@@ -4,7 +4,7 @@ pub mod Bits
 pub mod Few
 use mathlib.Core.Bool.{cond}
 use mathlib.Core.List.{List}
-use Prim.Native.Nat.{ℕ, zero, suc, _+_, _*_, _/_, _%_, _^_}
+use Prim.Native.Nat.{ℕ, zero, suc, _*_, _/_, _%_, _^_}
 use lib.Bits.{bitOr, bitXor}
 use lib.Dec.{ltb}
 use lib.ListN.{length, getD}

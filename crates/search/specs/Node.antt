@@ -1,6 +1,6 @@
 -- Nodes of the exploration: a centre state, a centre cost and a price for each leaf state. Follows "Prices and layers" and "The exploration".
 pub mod Laws
-use mathlib.Core.Bool.{Bool, true, false, cond, _&&_}
+use mathlib.Core.Bool.{Bool, cond, _&&_}
 use mathlib.Core.List.{List, [], _∷_}
 use Prim.Native.Nat.{ℕ, suc, _+_, min}
 use lib.Dec.{ltb, leb, eqb}

@@ -9,21 +9,20 @@ pub mod Reaches
 pub mod Found
 pub mod Backwards
 pub mod Laid
-use mathlib.Core.Bool.{Bool, true, false, cond, _&&_}
+use mathlib.Core.Bool.{Bool, cond, _&&_}
 use mathlib.Core.List.{List, [], _∷_, _++_}
 use Prim.Native.Nat.{ℕ, zero, suc, _+_}
 use lib.Dec.{ltb, eqb}
 use lib.ListN.{length, getD}
 use Rattle.loops.specs.Count.{any, list}
 use Rattle.task.specs.declared.Task.{Task}
-use Rattle.task.specs.declared.Centre.{Centre}
-use Rattle.task.specs.Meaning.{goal, cost}
-use Rattle.task.specs.Factors.{states, valuesOf, meetsIn, to}
+use Rattle.task.specs.Meaning.{cost}
+use Rattle.task.specs.Factors.{states, to}
 use Rattle.leaf.specs.Price.{mark}
 use Rattle.leaf.specs.Settle.{settled}
 use Rattle.layer.specs.Layer.{enabled, startLeaf, passLeaf, leafPart}
 use Rattle.price.specs.Ways.{weave}
-use Rattle.search.specs.Node.{Node, leastOf, goalPrices}
+use Rattle.search.specs.Node.{leastOf, goalPrices}
 use Rattle.search.specs.Explore.{Search, nodeAt}
 
 -- the lowest number below n at which the test passes, n where there is none

@@ -3,8 +3,7 @@ use mathlib.Core.Bool.{Bool, true, false, cond, not, _&&_, _||_}
 use mathlib.Core.List.{List, [], _∷_}
 use Prim.Native.Nat.{ℕ, zero, suc, _+_, _*_, _/_, _%_}
 use lib.Dec.{eqb}
-use lib.ListN.{getD}
-use Rattle.loops.specs.Count.{all, any, sum, list}
+use Rattle.loops.specs.Count.{all, any, sum}
 use Rattle.task.specs.declared.Task.{Task}
 use Rattle.task.specs.Meaning.{State, Partial, free, size, factor, condition, effect, cost, met, put}
 

@@ -1,7 +1,7 @@
 -- What a task means: states, actions, sequences, costs. Follows "The task" and the preliminaries of documents 000 and 001.
 -- This is the page to read first: the demands are stated in its words alone.
 use mathlib.Core.Path.{_≡_}
-use mathlib.Core.Bool.{Bool, true, false, cond, _&&_, _||_}
+use mathlib.Core.Bool.{Bool, true, cond, _&&_, _||_}
 use mathlib.Core.List.{List, [], _∷_}
 use Prim.Native.Nat.{ℕ, _+_, _*_, _≤_}
 use lib.Dec.{ltb, eqb}

@@ -1,14 +1,12 @@
 -- Laws of partial assignments by factors, of the centre state, and of the gate: what pairs on one factor see of a state.
 -- Each is about any count of variables and any factors, no task. Assumes nothing.
-use mathlib.Core.Path.{_≡_, refl, sym, ap, ap₂, _∙_}
+use mathlib.Core.Path.{_≡_, refl, sym, ap, _∙_}
 use mathlib.Core.Logic.{_≢_}
-use mathlib.Core.Bool.{Bool, true, false, cond, not, _&&_, _||_, and-true, true≢false}
-use Prim.Native.Nat.{ℕ, zero, suc, _≤_, _<_}
+use mathlib.Core.Bool.{Bool, true, false, cond, not, _&&_, _||_, true≢false}
+use Prim.Native.Nat.{ℕ, suc, _≤_, _<_}
 use native.Mathlib.Omega.{arith}
-use native.Mathlib.Decide.{ℕ-discrete}
 use lib.Dec.{eqb}
 use borrow.Author.Tests.{eqb-true, eq-eqb, ne-eqb}
-use Rattle.loops.specs.Count.{all}
 use Rattle.loops.specs.Count.Laws.{all-in, all-out, all-ext, all-rest, list-at, list-ext}
 use Rattle.task.specs.declared.Centre.{Centre}
 use Rattle.task.specs.Meaning.{State, Partial, free, met, holds, put}

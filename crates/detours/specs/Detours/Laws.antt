@@ -7,7 +7,7 @@ use native.Mathlib.Decide.{decLe}
 use native.Mathlib.Omega.{arith}
 use lib.Dec.{leb}
 use lib.Bits.{bitOr, bitXor, and-le-l, and-le-r, or-add-and, xor-add-and}
-use lib.ListN.{length, getD, set, take, drop, length-drop}
+use lib.ListN.{length, getD, take, drop, length-drop}
 use lib.Seq.{length-take-le, drop-drop, getD-take, ext-getD}
 use borrow.Author.Tests.{eq-eqb, ne-eqb}
 use Rattle.layer.specs.Layer.Front.{part-take}

@@ -1,9 +1,9 @@
 -- `expand::list_turns` meets its contract: all actions whose conditions hold are listed, and detours are left out where a hop made the node. Assumes nothing.
-use mathlib.Core.Path.{_≡_, sym, ap, _∙_}
+use mathlib.Core.Path.{_∙_}
 use Prim.Native.Nat.{ℕ, _+_, _*_, _≤_, _<_}
 use native.Mathlib.Omega.{arith}
 use denote.Ref.{now}
-use lib.ListN.{length, getD}
+use lib.ListN.{getD}
 use Rattle.layer.specs.Board.{Board, rowOn, metOn}
 use Rattle.layer.specs.Lent.{boardOf}
 use Rattle.mets.specs.Known.{firsts-asks, known-asks, asks-known}

@@ -1,5 +1,5 @@
 -- `planner::task_nodes` meets its contract: one row more than nodes. Assumes nothing.
-use mathlib.Core.Path.{_≡_, sym, ap, _∙_}
+use mathlib.Core.Path.{_≡_}
 use native.Mathlib.Omega.{arith}
 use Prim.Native.Nat.{_+_, _/_}
 use lib.ListN.{getD}

@@ -5,9 +5,9 @@ use native.Mathlib.Omega.{arith}
 use lib.ListN.{length, getD, length-set}
 use borrow.Author.Needs.{needs}
 use Rattle.leaf.specs.Price.{mark}
-use Rattle.layer.specs.Board.{Board, baseOn, rowOn}
+use Rattle.layer.specs.Board.{Board}
 use Rattle.layer.specs.Lent.{boardOf}
-use Rattle.plans.specs.Walk.{pricesOn, actsOn, beginsOn, backOn, WalkableOn}
+use Rattle.plans.specs.Walk.{backOn, WalkableOn}
 use Rattle.plans.specs.Walk.Turns.{LayerLeft, layer-all, layer-less, layer-end}
 use Rattle.plans.specs.Fit.{back-few}
 use Rattle.plans.proofs.layer_back.Statement.{statement}

@@ -4,7 +4,7 @@ use native.Mathlib.Nat.{mul-le-mul}
 use native.Mathlib.Omega.{arith}
 use lib.ListN.{length}
 use borrow.Author.Needs.{needs}
-use Rattle.layer.specs.Board.{Board, Sound, rowOn}
+use Rattle.layer.specs.Board.{Board, Sound}
 use Rattle.layer.specs.Lent.{boardOf}
 use Rattle.plans.specs.Walk.Laws.{roomy-small, roomy-large}
 use Rattle.plans.specs.Fit.{grounds-on}

@@ -1,11 +1,9 @@
 -- `record::read_body` meets its contract: the lists are read from nothing, and the verdict on them decides. Assumes nothing.
-use Prim.Native.Nat.{ℕ, _+_, _*_, _≤_}
 use mathlib.Core.Path.{_≡_, ap, sym, _∙_}
 use native.Mathlib.Omega.{arith}
 use denote.Ref.{now}
-use Rattle.loops.specs.Parsed.{got, refused}
 use Rattle.fields.specs.Fields.{nextField}
-use Rattle.parts.specs.Grammar.{Variables, Actions, Lists, noLists, listsOf}
+use Rattle.parts.specs.Grammar.{Lists, noLists, listsOf}
 use Rattle.parts.specs.Told.{placeTold, placeOf}
 use Rattle.record.specs.Record.{bodyOf}
 use borrow.Author.Needs.{needs}

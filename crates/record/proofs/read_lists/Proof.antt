@@ -6,7 +6,7 @@ use native.Mathlib.Omega.{arith}
 use denote.Ref.{now}
 use Rattle.loops.specs.Parsed.{got}
 use Rattle.fields.specs.Fields.{nextField}
-use Rattle.parts.specs.Grammar.{Variables, Actions, Lists, variablesFrom, countedPairs, actionsFrom, listsOf}
+use Rattle.parts.specs.Grammar.{Variables, Actions, Lists, variablesFrom, countedPairs, listsOf}
 use Rattle.parts.specs.Places.{told-then}
 use Rattle.parts.specs.Told.{placeTold, placeOf}
 use borrow.Author.Needs.{needs}

@@ -1,6 +1,6 @@
 -- `record::read_record` meets its contract: the head first, then what stands behind it; what is accepted is valid. Assumes nothing.
-use Prim.Native.Nat.{ℕ, _≤_}
-use mathlib.Core.Path.{_≡_, ap, sym, _∙_}
+use Prim.Native.Nat.{ℕ}
+use mathlib.Core.Path.{_≡_, ap, _∙_}
 use mathlib.Core.List.{List}
 use borrow.Author.Needs.{needs}
 use native.Mathlib.Omega.{arith}
@@ -15,7 +15,7 @@ use Rattle.parts.specs.Places.{head-place}
 use Rattle.parts.specs.Told.{headTold}
 use Rattle.whole.specs.declared.Verdict.the-variants.{Accepted}
 use Rattle.record.specs.declared.TaskRead.{TaskRead}
-use Rattle.record.specs.Record.{readRecord, bodyOf, refusedFor}
+use Rattle.record.specs.Record.{readRecord}
 use Rattle.record.specs.Record.Laws.{read-head-first, accepted-valid}
 use Rattle.record.proofs.read_record.Statement.{statement}
 use Rattle.record.proofs.read_record.Tie as tie

@@ -1,5 +1,5 @@
 -- `record::verdict` meets its contract: 8 where the record is not filled, else what the tests over the whole say. Assumes nothing.
-use mathlib.Core.Path.{_≡_, sym, _∙_}
+use mathlib.Core.Path.{sym, _∙_}
 use borrow.Author.Tests.{not-true, not-false}
 use borrow.Author.Needs.{needs}
 use Rattle.record.proofs.verdict.Statement.{statement}

@@ -1,8 +1,8 @@
 -- Laws of reading a record: the head first, and what is accepted is valid. Assumes nothing.
-use mathlib.Core.Path.{_≡_, refl, sym, ap, _∙_}
+use mathlib.Core.Path.{_≡_, refl}
 use mathlib.Core.Bool.{Bool, true, false, cond}
 use mathlib.Core.List.{List}
-use Prim.Native.Nat.{ℕ, _<_, _^_}
+use Prim.Native.Nat.{ℕ}
 use native.Mathlib.Omega.{arith}
 use Rattle.loops.specs.Parsed.{got, refused, andThen}
 use Rattle.task.specs.declared.Task.{Task}
@@ -10,16 +10,16 @@ use Rattle.task.specs.Valid.{Valid}
 use Rattle.fields.specs.declared.Refusal.{Refusal}
 use Rattle.fields.specs.declared.Refusal.the-variants.{NotFilled}
 use Rattle.fields.specs.Answers.{Reading}
-use Rattle.fields.specs.Fields.{nextField, width}
+use Rattle.fields.specs.Fields.{nextField}
 use Rattle.fields.specs.Fields.Laws.{next-is}
-use Rattle.parts.specs.Grammar.{Head, Lists, noLists, taskWith, headOf, listsOf, taskOf}
+use Rattle.parts.specs.Grammar.{Head, noLists, taskWith, headOf, listsOf, taskOf}
 use Rattle.parts.specs.Grammar.Laws.{task-fields}
 use Rattle.whole.specs.declared.Verdict.{Verdict}
 use Rattle.whole.specs.declared.Verdict.the-variants.{Accepted, Refused}
 use Rattle.whole.specs.Whole.{wholeTask}
 use Rattle.whole.specs.Whole.Laws.{whole-valid}
 use Rattle.record.specs.declared.TaskRead.{TaskRead}
-use Rattle.record.specs.Record.{filledOf, taskVerdict, answerOf, answerFor, answerAt, refusedFor, readRecord, bodyOf}
+use Rattle.record.specs.Record.{filledOf, taskVerdict, answerOf, answerFor, answerAt, readRecord, bodyOf}
 
 -- ---- readRecord
 

@@ -1,5 +1,5 @@
 -- `stills::still_leaves` meets its contract. The invariant: it holds of the entries so far. Assumes nothing.
-use Prim.Native.Nat.{_+_, _*_, _/_, _-_, _≤_, _<_}
+use Prim.Native.Nat.{_*_, _/_, _-_, _≤_, _<_}
 use native.Mathlib.Omega.{arith}
 use lib.ListN.{length, getD}
 use borrow.Author.Needs.{needs}

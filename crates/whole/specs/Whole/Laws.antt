@@ -1,6 +1,6 @@
 -- Laws of what is tested over the whole of a task: the capped count of a leaf's states, and what an accepted task meets. Assumes nothing.
-use mathlib.Core.Path.{_≡_, refl, sym, _∙_}
-use mathlib.Core.Bool.{Bool, true, false, not}
+use mathlib.Core.Path.{_≡_, refl, sym}
+use mathlib.Core.Bool.{Bool, true, false}
 use mathlib.Core.Logic.{_⊎_, inl, inr, ⊎-elim}
 use Prim.Native.Nat.{ℕ, zero, suc, _+_, _*_, _≤_, _<_, min}
 use native.Mathlib.Nat.{min-eq-left, min-eq-right, mul-zero, le-mul-of-pos-right}
@@ -8,7 +8,7 @@ use native.Mathlib.Numerals.{add-one}
 use native.Mathlib.Omega.{arith}
 use native.Mathlib.Decide.{decLe}
 use lib.Dec.{leb, eqb}
-use borrow.Author.Tests.{leb-true, eqb-true, le-leb, lt-leb, not-true, not-false}
+use borrow.Author.Tests.{leb-true, eqb-true, le-leb, lt-leb}
 use Rattle.loops.specs.Count.{all, any, sum}
 use Rattle.loops.specs.Count.Laws.{and-out, or-out, or-in-right, all-not, all-more, all-out, any-in, any-more, any-out}
 use Rattle.task.specs.declared.Task.{Task}
