@@ -20,15 +20,15 @@ use Rattle.leaf.specs.Pass.{pass}
 use Rattle.layer.specs.Layer.{enabledTo, settleLeaf, startLeaf, passLeaf, passes, base, leafPart, joined, firstPrices, nextPrices, appliesTo}
 use Rattle.price.specs.Path.{nextLayer, walk}
 use Rattle.price.specs.Ways.{weave}
-use Rattle.pricer.specs.declared.PriceAnswer.the-variants.{Prices}
+use Rattle.answers.specs.declared.PriceAnswer.the-variants.{Prices}
 use Rattle.pricer.specs.Pricer.{Outcome as Priced, pathFits, taskPrices, pricesOf}
 use Rattle.search.specs.Node.{firstNode, nextNode, leastOf, key, goalPrices, isGoal, goalCost, dominates}
 use Rattle.search.specs.Explore.{belowBest, bestWith, keep, start, waits, choose, offer, turn, expand, begin, explore, explored}
 use Rattle.search.specs.Plan.{lowest, tight, tightTo, depths, source, back, begins, backIn, over, stages, pathTo, goalState, planOf}
-use Rattle.solve.specs.declared.Counts.{Counts}
-use Rattle.solve.specs.declared.PlanAnswer.{PlanAnswer}
-use Rattle.solve.specs.declared.PlanAnswer.the-variants.{Solved, Unsolvable, Refused}
-use Rattle.solve.specs.declared.PlanRefusal.the-variants.{TableFull, BudgetSpent, PlanLong}
+use Rattle.answers.specs.declared.Counts.{Counts}
+use Rattle.answers.specs.declared.PlanAnswer.{PlanAnswer}
+use Rattle.answers.specs.declared.PlanAnswer.the-variants.{Solved, Unsolvable, Refused}
+use Rattle.answers.specs.declared.PlanRefusal.the-variants.{TableFull, BudgetSpent, PlanLong}
 use Rattle.solve.specs.Solve.{withPlan, tableWords, searched}
 use Rattle.planner.specs.Planner.{taskPlan, recordPlan}
 

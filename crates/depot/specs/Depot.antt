@@ -9,11 +9,11 @@ use Rattle.task.specs.declared.Task.{Task}
 use Rattle.whole.specs.declared.Verdict.{Verdict}
 use Rattle.whole.specs.declared.Verdict.the-variants.{Accepted, Refused as NotAccepted}
 use Rattle.record.specs.Record.{readRecord}
-use Rattle.pricer.specs.declared.PriceAnswer.{PriceAnswer}
-use Rattle.pricer.specs.declared.PriceAnswer.the-variants.{Prices, Refused as NotPriced}
+use Rattle.answers.specs.declared.PriceAnswer.{PriceAnswer}
+use Rattle.answers.specs.declared.PriceAnswer.the-variants.{Prices, Refused as NotPriced}
 use Rattle.pricer.specs.Pricer.{refusalNumber as priceNumber}
-use Rattle.solve.specs.declared.PlanAnswer.{PlanAnswer}
-use Rattle.solve.specs.declared.PlanAnswer.the-variants.{Solved, Unsolvable, Refused}
+use Rattle.answers.specs.declared.PlanAnswer.{PlanAnswer}
+use Rattle.answers.specs.declared.PlanAnswer.the-variants.{Solved, Unsolvable, Refused}
 use Rattle.solve.specs.Solve.{tableWords}
 use Rattle.planner.specs.Planner.{refusalNumber}
 use Rattle.depot.specs.declared.Told.{Told}

@@ -1,7 +1,7 @@
 // The library that a controller links. Every call is answered; the contracts are those of the planner and the pricer, in numbers and words.
-use pricer::PriceAnswer;
+use answers::PriceAnswer;
 use record::read_record;
-use solve::PlanAnswer;
+use answers::PlanAnswer;
 use tables::leaf_bases;
 use task::Task;
 use whole::Verdict;

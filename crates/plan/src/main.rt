@@ -5,11 +5,11 @@ use libc::STDIN_FILENO;
 use libc::STDOUT_FILENO;
 use planner::fitting_nodes;
 use planner::plan;
-use planner::refusal_number;
-use solve::Counts;
-use solve::PlanAnswer;
-use solve::PlanRefusal;
-use solve::Solution;
+use answers::plan_refusal_number;
+use answers::Counts;
+use answers::PlanAnswer;
+use answers::PlanRefusal;
+use answers::Solution;
 
 // The counts, and the end of the line.
 fn print_counts(counts: Counts) {

@@ -9,24 +9,15 @@ use lib.Dec.{leb}
 use lib.ListN.{length}
 use Rattle.task.specs.declared.Task.{Task}
 use Rattle.task.specs.Factors.{allStates}
-use Rattle.fields.specs.Answers.{numberOf}
 use Rattle.whole.specs.declared.Verdict.{Verdict}
 use Rattle.whole.specs.declared.Verdict.the-variants.{Accepted, Refused as NotAccepted}
-use Rattle.record.specs.Record.{readRecord}
-use Rattle.solve.specs.declared.Counts.{Counts}
-use Rattle.solve.specs.declared.PlanRefusal.{PlanRefusal}
-use Rattle.solve.specs.declared.PlanRefusal.the-variants.{InRecord, NodesWrong, TableShort, TableFull, BudgetSpent, PlanLong}
-use Rattle.solve.specs.declared.PlanAnswer.the-variants.{Refused}
+use Rattle.record.specs.Record.{verdictNumber, readRecord}
+use Rattle.answers.specs.declared.Counts.{Counts}
+use Rattle.answers.specs.declared.PlanRefusal.the-variants.{InRecord, NodesWrong, TableShort}
+use Rattle.answers.specs.declared.PlanAnswer.the-variants.{Refused}
+use Rattle.answers.specs.Told.{planTold}
 use Rattle.solve.specs.Solve.{Outcome, unwritten, tableWords, searched}
-
--- "20 nodes 0 or above 4,096. 21 working table too short. 22 table full. 23 budget spent. 24 plan longer than its buffer."
-abbrev pub refusalNumber : PlanRefusal → ℕ
-refusalNumber (InRecord why) = numberOf why
-refusalNumber NodesWrong = 20
-refusalNumber TableShort = 21
-refusalNumber TableFull = 22
-refusalNumber BudgetSpent = 23
-refusalNumber PlanLong = 24
+use Rattle.planner.specs.Planner.Demands.{Call, Given}
 
 -- "22 to 24 give expansions and nodes so far; elsewhere all counts are 0."
 abbrev pub noCounts : Counts
@@ -51,6 +42,22 @@ onVerdict (NotAccepted why) t nodes budget plan words = unwritten (Refused (InRe
 -- the outcome for a record
 unfoldable pub recordPlan : List ℕ → ℕ → ℕ → List ℕ → List ℕ → Outcome
 recordPlan rec nodes budget plan words = onVerdict (readRecord rec .verdict) (readRecord rec .task) nodes budget plan words
+
+-- ---- as the demands see it
+
+-- a call on a record
+abbrev pub callOn : List ℕ → ℕ → List ℕ → List ℕ → Call
+callOn rec nodes plan words =
+    let r = readRecord rec in
+    record { verdict = verdictNumber (r .verdict); task = r .task; nodes = nodes; need = tableWords (r .task) nodes; plan = plan; words = words }
+
+-- what it gives
+abbrev pub givenBy : Outcome → Given
+givenBy o = record { told = planTold (o .answer); plan = o .plan; words = o .words }
+
+-- what the same call gives with another plan buffer
+abbrev pub givenWith : List ℕ → ℕ → ℕ → List ℕ → List ℕ → Given
+givenWith rec nodes budget words buffer = givenBy (recordPlan rec nodes budget buffer words)
 
 -- ---- nodes
 

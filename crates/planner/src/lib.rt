@@ -1,33 +1,19 @@
 // The planner: a plan of least cost, "unsolvable", or one numbered refusal. Here stands what comes in front of the search, which is the crate solve's.
+use answers::Counts;
+use answers::PlanAnswer;
+use answers::PlanRefusal;
 use record::read_record;
-use solve::Counts;
-use solve::PlanAnswer;
-use solve::PlanRefusal;
 use solve::search_task;
 use tables::leaf_bases;
 use task::Task;
 use whole::Verdict;
 ghost use mathlib.Core.Path.{_≡_};
-ghost use lib.ListN.{length};
 ghost use Rattle.task.specs.Valid.{Valid};
 ghost use Rattle.record.specs.Record.{readRecord};
+ghost use Rattle.answers.specs.Told.{planTold};
 ghost use Rattle.solve.specs.Solve.{Outcome, tableWords};
-ghost use Rattle.planner.specs.Planner.{refusalNumber, taskPlan, recordPlan, fittingNodes, recordNodes};
+ghost use Rattle.planner.specs.Planner.{taskPlan, recordPlan, callOn, givenWith, fittingNodes, recordNodes};
 ghost use Rattle.planner.specs.Planner.Demands.{CarriesOut, LeastCost, Decided, Untouched, Zeroed};
-
-// The refusal's number.
-pub fn refusal_number(r: PlanRefusal) -> u8
-    ensures { λ n. ⌜ n ≡ refusalNumber r ⌝ }
-{
-    match r {
-        PlanRefusal::InRecord(why) => fields::number(why),
-        PlanRefusal::NodesWrong => 20,
-        PlanRefusal::TableShort => 21,
-        PlanRefusal::TableFull => 22,
-        PlanRefusal::BudgetSpent => 23,
-        PlanRefusal::PlanLong => 24,
-    }
-}
 
 // The answer for a task that the reader accepted: 20, 21, then the search.
 fn plan_task(task: Task, nodes: u32, budget: u32, plan: &mut [u8], table: &mut [u64]) -> PlanAnswer
@@ -82,11 +68,12 @@ pub fn plan(
 ) -> PlanAnswer
     ensures answer { λ r. ⌜ _≡_ {A = Outcome} (record { answer = r; plan = now (plan .exit); words = now (table .exit) })
         (recordPlan (now («record» .entry)) nodes budget (now (plan .entry)) (now (table .entry))) ⌝ }
-    ensures carries_out { λ r. ⌜ CarriesOut (readRecord (now («record» .entry)) .task) (now (plan .exit)) r ⌝ }
-    ensures least_cost { λ r. ⌜ LeastCost (readRecord (now («record» .entry)) .task) r ⌝ }
-    ensures decided { λ r. ⌜ Decided (readRecord (now («record» .entry)) .task) (length (now (plan .entry))) r ⌝ }
-    ensures untouched { λ r. ⌜ Untouched (now (plan .entry)) (now (plan .exit)) r ⌝ }
-    ensures zeroed { λ r. ⌜ Zeroed (tableWords (readRecord (now («record» .entry)) .task) nodes) (now (table .entry)) (now (table .exit)) r ⌝ }
+    ensures carries_out { λ r. ⌜ CarriesOut (readRecord (now («record» .entry)) .task) (now (plan .exit)) (planTold r) ⌝ }
+    ensures least_cost { λ r. ⌜ LeastCost (readRecord (now («record» .entry)) .task) (planTold r) ⌝ }
+    ensures decided { λ r. ⌜ Decided (callOn (now («record» .entry)) nodes (now (plan .entry)) (now (table .entry)))
+        (givenWith (now («record» .entry)) nodes budget (now (table .entry))) (planTold r) ⌝ }
+    ensures untouched { λ r. ⌜ Untouched (now (plan .entry)) (now (plan .exit)) (planTold r) ⌝ }
+    ensures zeroed { λ r. ⌜ Zeroed (tableWords (readRecord (now («record» .entry)) .task) nodes) (now (table .entry)) (now (table .exit)) (planTold r) ⌝ }
 {
     let r = read_record(record);
     let v = r.verdict;

@@ -8,10 +8,10 @@
 // behind it, those outside the lent part must hold it still, and so must those behind the prices, or on a refusal all.
 use libc::STDIN_FILENO;
 use libc::STDOUT_FILENO;
-use pricer::PriceAnswer;
-use pricer::PriceRefusal;
+use answers::PriceAnswer;
+use answers::PriceRefusal;
 use pricer::prices;
-use pricer::refusal_number;
+use answers::price_refusal_number;
 ghost use mathlib.Core.Path.{_≡_};
 ghost use Prim.Native.Nat.{_<_, _≤_};
 ghost use lib.ListN.{length};

@@ -14,10 +14,10 @@ use Rattle.whole.specs.declared.Verdict.{Verdict}
 use Rattle.whole.specs.declared.Verdict.the-variants.{Accepted, Refused as NotAccepted}
 use Rattle.record.specs.Record.{readRecord}
 use Rattle.leaf.specs.Price.{mark}
-use Rattle.pricer.specs.declared.PriceRefusal.{PriceRefusal}
-use Rattle.pricer.specs.declared.PriceRefusal.the-variants.{InRecord, PathWrong, SliceShort, NotApplicable}
-use Rattle.pricer.specs.declared.PriceAnswer.{PriceAnswer}
-use Rattle.pricer.specs.declared.PriceAnswer.the-variants.{Prices, Refused}
+use Rattle.answers.specs.declared.PriceRefusal.{PriceRefusal}
+use Rattle.answers.specs.declared.PriceRefusal.the-variants.{InRecord, PathWrong, SliceShort, NotApplicable}
+use Rattle.answers.specs.declared.PriceAnswer.{PriceAnswer}
+use Rattle.answers.specs.declared.PriceAnswer.the-variants.{Prices, Refused}
 use Rattle.price.specs.Path.{End, ends, stuck, firstLayer, walk}
 
 -- "For paths: 12 longer than 4,095, or an entry not a centre action; 13 an entry that doesn't apply. 21 price slice too short."

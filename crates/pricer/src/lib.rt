@@ -20,8 +20,8 @@ ghost use Rattle.leaf.specs.Price.{mark};
 ghost use Rattle.tables.specs.Tables.{Bases, Kinds};
 ghost use Rattle.price.specs.Path.{firstLayer, walk};
 ghost use Rattle.price.specs.Demand.{NoSequence, Priced};
-ghost use Rattle.pricer.specs.declared.PriceAnswer.the-variants.{Prices, Refused};
-ghost use Rattle.pricer.specs.declared.PriceRefusal.the-variants.{NotApplicable};
+ghost use Rattle.answers.specs.declared.PriceAnswer.the-variants.{Prices, Refused};
+ghost use Rattle.answers.specs.declared.PriceRefusal.the-variants.{NotApplicable};
 ghost use Rattle.pricer.specs.Pricer.{Outcome, refusalNumber, atEnd, taskPrices, pricesOf, priceIn};
 
 // Why no prices are given: the record's own refusals, then 12, 21, 13.

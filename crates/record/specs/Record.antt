@@ -9,7 +9,7 @@ use Rattle.task.specs.declared.Task.{Task}
 use Rattle.task.specs.Meaning.{Partial, size, factor, condition, effect}
 use Rattle.fields.specs.declared.Refusal.{Refusal}
 use Rattle.fields.specs.declared.Refusal.the-variants.{NotFilled}
-use Rattle.fields.specs.Answers.{Reading}
+use Rattle.fields.specs.Answers.{numberOf, Reading}
 use Rattle.fields.specs.Fields.{fieldOf, nextField, endsAt}
 use Rattle.parts.specs.Grammar.{noLists, taskWith, listsOf, taskOf}
 use Rattle.whole.specs.declared.Verdict.{Verdict}
@@ -32,6 +32,11 @@ abbrev pub taskVerdict : List ℕ → ℕ → Task → Verdict
 taskVerdict rec k t = verdictOf rec k (t .variables) (t .leaves) (t .actions) (size t) (factor t) (condition t) (effect t)
 
 -- ---- the answer
+
+-- the verdict in numbers: the refusal's, and 0 for "accepted", which has none
+abbrev pub verdictNumber : Verdict → ℕ
+verdictNumber Accepted = 0
+verdictNumber (Refused why) = numberOf why
 
 -- beside a refusal stands a blank task
 abbrev pub noTask : Task

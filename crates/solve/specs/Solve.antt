@@ -12,10 +12,10 @@ use Rattle.task.specs.Factors.{allStates}
 use Rattle.search.specs.Node.{goalCost}
 use Rattle.search.specs.Explore.{Search, Reason, finished, tableFull, budgetSpent, nodeAt, explored}
 use Rattle.search.specs.Plan.{planOf}
-use Rattle.solve.specs.declared.Counts.{Counts}
-use Rattle.solve.specs.declared.PlanRefusal.the-variants.{TableFull, BudgetSpent, PlanLong}
-use Rattle.solve.specs.declared.PlanAnswer.{PlanAnswer}
-use Rattle.solve.specs.declared.PlanAnswer.the-variants.{Solved, Unsolvable, Refused}
+use Rattle.answers.specs.declared.Counts.{Counts}
+use Rattle.answers.specs.declared.PlanRefusal.the-variants.{TableFull, BudgetSpent, PlanLong}
+use Rattle.answers.specs.declared.PlanAnswer.{PlanAnswer}
+use Rattle.answers.specs.declared.PlanAnswer.the-variants.{Solved, Unsolvable, Refused}
 
 -- the answer, and the plan buffer's bytes and the table's words afterwards
 pub record Outcome : Type 0 where

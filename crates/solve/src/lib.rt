@@ -1,10 +1,13 @@
 // The search over a task's tables, and its answer: a plan of least cost, "unsolvable", or one of the refusals that a search can meet. It takes a task that is valid
 // and a table with words enough; what looks at these first is the planner's. It is apart from the planner so that the check of each, and of its wrong edits, is shorter.
+use answers::Counts;
+use answers::PlanAnswer;
+use answers::PlanRefusal;
+use answers::Solution;
 use edges::fill_edges;
 use explore::Stop;
 use explore::Why;
 use explore::explore;
-use fields::Refusal;
 use offers::Run;
 use plans::write_plan;
 use tables::action_costs;
@@ -27,35 +30,6 @@ ghost use Rattle.search.specs.Explore.{explored};
 ghost use Rattle.explore.specs.Held.{reasonOf};
 ghost use Rattle.solve.specs.Solve.{Outcome, atBest, atStop, tableWords, searched};
 ghost use Rattle.solve.specs.Solve.Stops.{runIn, Sound};
-
-// How many expansions have begun, and how many nodes are kept.
-pub struct Counts {
-    pub expanded: usize,
-    pub kept: usize,
-}
-
-// A plan's length and cost.
-pub struct Solution {
-    pub length: usize,
-    pub cost: u64,
-}
-
-// Why there is no plan: the record's own refusals, then 20 to 24.
-pub enum PlanRefusal {
-    InRecord(Refusal),
-    NodesWrong,
-    TableShort,
-    TableFull,
-    BudgetSpent,
-    PlanLong,
-}
-
-// A plan, none, or a refusal.
-pub enum PlanAnswer {
-    Solved(Solution, Counts),
-    Unsolvable(Counts),
-    Refused(PlanRefusal, Counts),
-}
 
 // The answer of a search that has finished: the plan of best's node, at the front of `plan`; or that it is too long; or that there is none.
 fn finish(

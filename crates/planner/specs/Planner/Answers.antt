@@ -13,12 +13,14 @@ use Rattle.task.specs.Factors.{allStates}
 use Rattle.fields.specs.declared.Refusal.{Refusal}
 use Rattle.whole.specs.declared.Verdict.the-variants.{Accepted, Refused as NotAccepted}
 use Rattle.record.specs.Record.{readRecord}
-use Rattle.solve.specs.declared.PlanRefusal.the-variants.{InRecord, NodesWrong, TableShort}
-use Rattle.solve.specs.declared.PlanAnswer.{PlanAnswer}
-use Rattle.solve.specs.declared.PlanAnswer.the-variants.{Refused}
+use Rattle.answers.specs.declared.PlanRefusal.the-variants.{InRecord, NodesWrong, TableShort}
+use Rattle.answers.specs.declared.PlanAnswer.{PlanAnswer}
+use Rattle.answers.specs.declared.PlanAnswer.the-variants.{Refused}
 use Rattle.solve.specs.Solve.{Outcome, unwritten, tableWords, searched}
-use Rattle.planner.specs.Planner.{noCounts, taskPlan, recordPlan, fittingNodes, recordNodes}
-use Rattle.planner.specs.Planner.Demands.{CarriesOut, LeastCost, Decided, Untouched, Zeroed, Meets, record-meets}
+use Rattle.answers.specs.Told.{planTold}
+use Rattle.planner.specs.Planner.{noCounts, taskPlan, recordPlan, callOn, givenWith, fittingNodes, recordNodes}
+use Rattle.planner.specs.Planner.Demands.{CarriesOut, LeastCost, Decided, Untouched, Zeroed, Meets}
+use Rattle.planner.specs.Planner.Demands.Laws.{record-meets}
 
 -- ---- a task
 
@@ -63,10 +65,11 @@ module _ (rec : List ℕ) (nodes budget : ℕ) (plan words : List ℕ) where
   pub outcome-says : (a : PlanAnswer) (plan′ words′ : List ℕ) → _≡_ {A = Outcome} (record { answer = a; plan = plan′; words = words′ }) (recordPlan rec nodes budget plan words)
       → let t = readRecord rec .task in
       (_≡_ {A = Outcome} (record { answer = a; plan = plan′; words = words′ }) (recordPlan rec nodes budget plan words))
-      × (CarriesOut t plan′ a × (LeastCost t a × (Decided t (length plan) a × (Untouched plan plan′ a × Zeroed (tableWords t nodes) words words′ a))))
+      × (CarriesOut t plan′ (planTold a) × (LeastCost t (planTold a) × (Decided (callOn rec nodes plan words) (givenWith rec nodes budget words) (planTold a)
+      × (Untouched plan plan′ (planTold a) × Zeroed (tableWords t nodes) words words′ (planTold a)))))
   outcome-says a plan′ words′ e =
-      let t = readRecord rec .task in
-      let m : Meets t (tableWords t nodes) plan words (record { answer = a; plan = plan′; words = words′ }) = rw (← e) at (record-meets rec nodes budget plan words) in
+      let m : Meets (callOn rec nodes plan words) (givenWith rec nodes budget words) (record { told = planTold a; plan = plan′; words = words′ }) =
+      rw (← e) at (record-meets rec nodes budget plan words) in
       (e, (m .carries-out, (m .least-cost, (m .decided, (m .untouched, m .zeroed)))))
 
 -- ---- nodes

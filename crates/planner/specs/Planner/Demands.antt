@@ -1,189 +1,116 @@
--- The demands on a plan, in the words of the published meaning of tasks alone, and that the planner's outcome meets them. Assumes nothing.
-use mathlib.Core.Path.{_≡_, refl}
-use mathlib.Core.Bool.{Bool, true, false, _&&_}
+-- The three demands on a call of the planner, in the words of the published meaning of tasks and in the paper's numbers. What the call would give
+-- with another plan buffer comes in as a parameter. Definitions alone: that the planner's outcome meets them stands in Laws.
+pub mod Laws
+use mathlib.Core.Path.{_≡_}
+use mathlib.Core.Logic.{_⊎_, _↔_}
+use mathlib.Core.Bool.{true}
 use mathlib.Core.List.{List, _++_}
-use Prim.Native.Nat.{ℕ, zero, suc, _≤_, _<_}
-use lib.Dec.{leb}
-use lib.ListN.{length, take, drop}
-use lib.Seq.{take-at, drop-at}
-use borrow.Author.Tests.{leb-true, leb-false}
-use Rattle.loops.specs.Count.Laws.{and-out}
+use Prim.Native.Nat.{ℕ, _≤_, _<_}
+use lib.ListN.{length, take, drop, replicate}
 use Rattle.task.specs.declared.Task.{Task}
 use Rattle.task.specs.Meaning.{reaches, costOf, Least}
-use Rattle.task.specs.Valid.{Valid}
-use Rattle.whole.specs.declared.Verdict.{Verdict}
-use Rattle.whole.specs.declared.Verdict.the-variants.{Accepted, Refused as NotAccepted}
-use Rattle.record.specs.Record.{readRecord}
-use Rattle.record.specs.Record.Laws.{accepted-valid}
-use Rattle.search.specs.Node.{goalCost}
-use Rattle.search.specs.Explore.{Search, Reason, finished, tableFull, budgetSpent, nodeAt, explored}
-use Rattle.search.specs.Optimal.{demand-3}
-use Rattle.search.specs.Plan.{planOf}
-use Rattle.search.specs.Plan.Found.{best-plan}
-use Rattle.solve.specs.declared.Counts.{Counts}
-use Rattle.solve.specs.declared.PlanRefusal.{PlanRefusal}
-use Rattle.solve.specs.declared.PlanRefusal.the-variants.{InRecord, NodesWrong, TableShort, TableFull, BudgetSpent, PlanLong}
-use Rattle.solve.specs.declared.PlanAnswer.{PlanAnswer}
-use Rattle.solve.specs.declared.PlanAnswer.the-variants.{Solved, Unsolvable, Refused}
-use Rattle.solve.specs.Solve.{Outcome, countsOf, unwritten, withPlan, planned, atBest, atStop, tableWords, cleared, searched}
-use Rattle.planner.specs.Planner.{noCounts, taskPlan, onVerdict, recordPlan}
+use Rattle.answers.specs.declared.Told.{Told}
 
--- ---- what is demanded of an answer, of the plan buffer's bytes afterwards and of its length
+-- ---- a call, and what it gives
 
--- "A plan carries out, action by action, from the initial state to the goal, at the cost reported."
-abbrev pub CarriesOut : Task → List ℕ → PlanAnswer → Type 0
-CarriesOut t bytes (Solved p c) = (reaches t (take (p .length) bytes) ≡ true) × (costOf t (take (p .length) bytes) ≡ p .cost)
-CarriesOut t bytes (Unsolvable c) = Unit {0}
-CarriesOut t bytes (Refused why c) = Unit {0}
+-- the reader's number for the record, 0 where it is accepted, and the task that it holds; the nodes stated, and the words that a table for them needs;
+-- the plan buffer and the table as they are lent
+pub record Call : Type 0 where
+  pub verdict : ℕ
+  pub task : Task
+  pub nodes : ℕ
+  pub need : ℕ
+  pub plan : List ℕ
+  pub words : List ℕ
 
--- "No action sequence that reaches the goal costs less than the cost reported."
-abbrev pub LeastCost : Task → PlanAnswer → Type 0
-LeastCost t (Solved p c) = Least t (p .cost)
-LeastCost t (Unsolvable c) = Unit {0}
-LeastCost t (Refused why c) = Unit {0}
+-- the answer in numbers: 0 for a plan, 255 for "unsolvable", else the refusal's; plan buffer and table afterwards
+pub record Given : Type 0 where
+  pub told : Told
+  pub plan : List ℕ
+  pub words : List ℕ
 
--- some sequence reaches the goal; none does
+-- "20 nodes 0 or above 4,096."
+abbrev pub NodesOutside : ℕ → Type 0
+NodesOutside nodes = (nodes ≡ 0) ⊎ (4096 < nodes)
+
+-- "A task is accepted if its record meets none of the record's refusals. A planner call on it is accepted if it meets none of those tested before the
+-- search either, here 20 and 21."
+pub record Accepted (c : Call) : Type 0 where
+  pub read : c .verdict ≡ 0
+  pub some-nodes : 1 ≤ c .nodes
+  pub few-nodes : c .nodes ≤ 4096
+  pub long-table : c .need ≤ length (c .words)
+
+-- the answers that follow a search: a plan, "unsolvable", 22, 23 or 24
+abbrev pub Searched : ℕ → Type 0
+Searched n = (n ≡ 0) ⊎ ((n ≡ 255) ⊎ ((n ≡ 22) ⊎ ((n ≡ 23) ⊎ (n ≡ 24))))
+
+-- ---- demand 1: "Every byte string, node number, budget and lent buffer gets an answer: a plan, prices, "unsolvable", or one numbered refusal. 22 (table
+-- full) and 23 (budget spent) exactly when the written exploration needs one node or one expansion more than was lent. A refusal or "unsolvable" leaves
+-- the plan buffer untouched; the working table is untouched before a search and zero after one." The middle sentence is said by the equation with the
+-- written exploration alone.
+
+-- a refusal or "unsolvable" leaves the plan buffer untouched, and a plan the bytes behind it
+pub record Untouched (before after : List ℕ) (a : Told) : Type 0 where
+  pub behind : a .number ≡ 0 → (a .length ≤ length after) × (drop (a .length) after ≡ drop (a .length) before)
+  pub whole : (a .number ≡ 0 → ⊥) → after ≡ before
+
+-- the working table is untouched before a search and zero after one: the words that the nodes need
+pub record Zeroed (need : ℕ) (before after : List ℕ) (a : Told) : Type 0 where
+  pub early : (Searched (a .number) → ⊥) → after ≡ before
+  pub late : Searched (a .number) → after ≡ replicate need 0 ++ drop need before
+
+-- ---- demand 2: "A plan carries out, action by action, from the initial state to the goal, at the cost reported." (Of paths and prices: crate price.)
+
+pub record CarriesOut (t : Task) (bytes : List ℕ) (a : Told) : Type 0 where
+  pub written : a .number ≡ 0 → a .length ≤ length bytes
+  pub to-goal : a .number ≡ 0 → reaches t (take (a .length) bytes) ≡ true
+  pub at-cost : a .number ≡ 0 → costOf t (take (a .length) bytes) ≡ a .cost
+
+-- ---- demand 3: "No action sequence that reaches the goal costs less than the cost reported. A call that is answered neither 22 nor 23 is answered
+-- "unsolvable" exactly when no sequence reaches the goal, else with a plan, or 24 where that plan is longer than its buffer."
+
+abbrev pub LeastCost : Task → Told → Type 0
+LeastCost t a = a .number ≡ 0 → Least t (a .cost)
+
+-- some sequence reaches the goal
 abbrev pub Reachable : Task → Type 0
 Reachable t = (acts : List ℕ) × (reaches t acts ≡ true)
 
--- a sequence that reaches the goal at the least cost is longer than a buffer of so many bytes
-abbrev pub LongPlan : Task → ℕ → Type 0
-LongPlan t room = (acts : List ℕ) × ((reaches t acts ≡ true) × Least t (costOf t acts) × (room < length acts))
+-- the call gave this plan
+pub record Gave (p : List ℕ) (g : Given) : Type 0 where
+  pub number : g .told .number ≡ 0
+  pub actions : g .told .length ≡ length p
+  pub bytes : take (length p) (g .plan) ≡ p
 
--- what a refusal says: 24 that a plan of least cost is longer than its buffer
-abbrev pub WhyRefused : Task → ℕ → PlanRefusal → Type 0
-WhyRefused t room (InRecord why) = Unit {0}
-WhyRefused t room NodesWrong = Unit {0}
-WhyRefused t room TableShort = Unit {0}
-WhyRefused t room TableFull = Unit {0}
-WhyRefused t room BudgetSpent = Unit {0}
-WhyRefused t room PlanLong = LongPlan t room
+-- the plan of least cost that the same call gives with every buffer that is long enough: it is longer than this one
+pub record ThatPlan (t : Task) (again : List ℕ → Given) (room : ℕ) : Type 0 where
+  pub plan : List ℕ
+  pub to-goal : reaches t plan ≡ true
+  pub least : Least t (costOf t plan)
+  pub longer : room < length plan
+  pub given : (buffer : List ℕ) → length plan ≤ length buffer → Gave plan (again buffer)
 
--- "A call that is answered neither 22 nor 23 is answered unsolvable exactly when no sequence reaches the goal, else with a plan, or 24 where the plan
--- is longer than its buffer."
-abbrev pub Decided : Task → ℕ → PlanAnswer → Type 0
-Decided t room (Solved p c) = Reachable t × (p .length ≤ room)
-Decided t room (Unsolvable c) = Reachable t → ⊥
-Decided t room (Refused why c) = WhyRefused t room why
+-- each number exactly where its reason holds and none before it does; `again` is what the call gives with another plan buffer
+pub record Decided (c : Call) (again : List ℕ → Given) (a : Told) : Type 0 where
+  -- 1 to 11 are the reader's
+  pub in-record : (n : ℕ) → 1 ≤ n → n ≤ 11 → (a .number ≡ n) ↔ (c .verdict ≡ n)
+  pub nodes-wrong : (a .number ≡ 20) ↔ ((c .verdict ≡ 0) × NodesOutside (c .nodes))
+  pub table-short : (a .number ≡ 21) ↔ ((c .verdict ≡ 0) × ((1 ≤ c .nodes) × ((c .nodes ≤ 4096) × (length (c .words) < c .need))))
+  -- an accepted call is answered by its search, and no other call is
+  pub searched : Searched (a .number) ↔ Accepted c
+  -- "22 to 24 give expansions and nodes so far; elsewhere all counts are 0."
+  pub no-counts : (Searched (a .number) → ⊥) → (a .expanded ≡ 0) × (a .kept ≡ 0)
+  -- what the search found
+  pub plan : a .number ≡ 0 → Reachable (c .task) × (a .length ≤ length (c .plan))
+  pub unsolvable : a .number ≡ 255 → Reachable (c .task) → ⊥
+  pub plan-long : a .number ≡ 24 → ThatPlan (c .task) again (length (c .plan))
 
--- "A refusal or unsolvable leaves the plan buffer untouched", and a plan the bytes behind it
-abbrev pub Untouched : List ℕ → List ℕ → PlanAnswer → Type 0
-Untouched before after (Solved p c) = drop (p .length) after ≡ drop (p .length) before
-Untouched before after (Unsolvable c) = after ≡ before
-Untouched before after (Refused why c) = after ≡ before
+-- ---- all of them
 
--- a refusal that comes before the search
-abbrev pub early : PlanRefusal → Bool
-early (InRecord why) = true
-early NodesWrong = true
-early TableShort = true
-early TableFull = false
-early BudgetSpent = false
-early PlanLong = false
-
-abbrev pub WordsAfter : Bool → ℕ → List ℕ → List ℕ → Type 0
-WordsAfter true n before after = after ≡ before
-WordsAfter false n before after = after ≡ cleared n before
-
--- "The working table is untouched before a search and zero after one": the n words that the nodes need
-abbrev pub Zeroed : ℕ → List ℕ → List ℕ → PlanAnswer → Type 0
-Zeroed n before after (Solved p c) = after ≡ cleared n before
-Zeroed n before after (Unsolvable c) = after ≡ cleared n before
-Zeroed n before after (Refused why c) = WordsAfter (early why) n before after
-
--- all of them
-pub record Meets (t : Task) (n : ℕ) (plan words : List ℕ) (o : Outcome) : Type 0 where
-  pub carries-out : CarriesOut t (o .plan) (o .answer)
-  pub least-cost : LeastCost t (o .answer)
-  pub decided : Decided t (length plan) (o .answer)
-  pub untouched : Untouched plan (o .plan) (o .answer)
-  pub zeroed : Zeroed n words (o .words) (o .answer)
-
--- ---- the outcome meets them
-
-module _ (t : Task) (n : ℕ) (plan words : List ℕ) where
-  -- an early refusal
-  early-meets : (why : PlanRefusal) → early why ≡ true → WhyRefused t (length plan) why → Meets t n plan words (unwritten (Refused why noCounts) plan words)
-  early-meets why e w = record { carries-out = tt; least-cost = tt; decided = w; untouched = refl; zeroed = rw e refl }
-
-  -- a refusal after the search
-  late-meets : (why : PlanRefusal) (c : Counts) → early why ≡ false → WhyRefused t (length plan) why
-      → Meets t n plan words (unwritten (Refused why c) plan (cleared n words))
-  late-meets why c e w = record { carries-out = tt; least-cost = tt; decided = w; untouched = refl; zeroed = rw e refl }
-
-  -- no sequence reaches the goal
-  none-meets : (c : Counts) → (Reachable t → ⊥) → Meets t n plan words (unwritten (Unsolvable c) plan (cleared n words))
-  none-meets c h = record { carries-out = tt; least-cost = tt; decided = h; untouched = refl; zeroed = refl }
-
-  -- a plan of least cost, at its front or too long
-  planned-meets : (s : Search) (u : ℕ) → reaches t (planOf t s u) ≡ true → costOf t (planOf t s u) ≡ goalCost t (nodeAt t s u)
-      → Least t (goalCost t (nodeAt t s u)) → Meets t n plan words (planned t s u plan (cleared n words))
-  unfolding withPlan
-  planned-meets s u r c l = go (leb (length (planOf t s u)) (length plan)) refl
-    where
-      p : List ℕ
-      p = planOf t s u
-
-      front : take (length p) (p ++ drop (length p) plan) ≡ p
-      front = take-at p (drop (length p) plan) (length p) refl
-
-      go : (b : Bool) → leb (length (planOf t s u)) (length plan) ≡ b → Meets t n plan words (planned t s u plan (cleared n words))
-      go true e =
-          rw (e, withPlan)
-          (record {
-            carries-out = (rw front r, rw front c);
-            least-cost = l;
-            decided = ((p, r), leb-true _ _ e);
-            untouched = drop-at p (drop (length p) plan) (length p) refl;
-            zeroed = refl;
-          })
-      go false e = rw (e, withPlan) (late-meets PlanLong (countsOf s) refl (p, (r, rw c l, leb-false _ _ e)))
-
-module _ (t : Task) (ok : Valid t) (nodes budget : ℕ) (plan words : List ℕ) (some : 1 ≤ nodes) (few : nodes ≤ 4096) where
-  -- the outcome of a search
-  searched-meets : Meets t (tableWords t nodes) plan words (searched t nodes budget plan words)
-  unfolding searched
-  searched-meets = go (explored t nodes budget .reason) refl
-    where
-      s : Search
-      s = explored t nodes budget .search
-
-      n : ℕ
-      n = tableWords t nodes
-
-      best : (b : ℕ) → s .best ≡ b → explored t nodes budget .reason ≡ finished → Meets t n plan words (atBest t s b plan (cleared n words))
-      best zero q e = none-meets t n plan words (countsOf s) (λ w. demand-3 t nodes budget ok some few e .0 q (w .0) (w .1))
-      best (suc u) q e =
-          let w = best-plan t nodes ok some budget u q in
-          planned-meets t n plan words s u (w .0) (w .1) (demand-3 t nodes budget ok some few e .1 u q)
-
-      go : (r : Reason) → explored t nodes budget .reason ≡ r → Meets t n plan words (atStop t r s plan (cleared n words))
-      go finished e = best (s .best) refl e
-      go tableFull e = late-meets t n plan words TableFull (countsOf s) refl tt
-      go budgetSpent e = late-meets t n plan words BudgetSpent (countsOf s) refl tt
-
--- the outcome for a task
-pub task-meets : (t : Task) → Valid t → (nodes budget : ℕ) (plan words : List ℕ) → Meets t (tableWords t nodes) plan words (taskPlan t nodes budget plan words)
-unfolding taskPlan
-task-meets t ok nodes budget plan words = go (leb 1 nodes && leb nodes 4096) refl (leb (tableWords t nodes) (length words)) refl
-  where
-    go : (a : Bool) → (leb 1 nodes && leb nodes 4096) ≡ a → (b : Bool) → leb (tableWords t nodes) (length words) ≡ b
-        → Meets t (tableWords t nodes) plan words (taskPlan t nodes budget plan words)
-    go true e true f =
-        let (some, few) = and-out (leb 1 nodes) (leb nodes 4096) e in
-        rw (e, f, taskPlan) (searched-meets t ok nodes budget plan words (leb-true _ _ some) (leb-true _ _ few))
-    go true e false f = rw (e, f, taskPlan) (early-meets t (tableWords t nodes) plan words TableShort refl tt)
-    go false e b f = rw (e, taskPlan) (early-meets t (tableWords t nodes) plan words NodesWrong refl tt)
-
--- the outcome for a record: the task is the one that the record holds
-pub record-meets : (rec : List ℕ) (nodes budget : ℕ) (plan words : List ℕ)
-    → let t = readRecord rec .task in Meets t (tableWords t nodes) plan words (recordPlan rec nodes budget plan words)
-unfolding recordPlan
-record-meets rec nodes budget plan words = go (readRecord rec .verdict) refl
-  where
-    t : Task
-    t = readRecord rec .task
-
-    go : (v : Verdict) → readRecord rec .verdict ≡ v → Meets t (tableWords t nodes) plan words (onVerdict v t nodes budget plan words)
-    go Accepted e = task-meets t (accepted-valid rec e) nodes budget plan words
-    go (NotAccepted why) e = early-meets t (tableWords t nodes) plan words (InRecord why) refl tt
+pub record Meets (c : Call) (again : List ℕ → Given) (g : Given) : Type 0 where
+  pub carries-out : CarriesOut (c .task) (g .plan) (g .told)
+  pub least-cost : LeastCost (c .task) (g .told)
+  pub decided : Decided c again (g .told)
+  pub untouched : Untouched (c .plan) (g .plan) (g .told)
+  pub zeroed : Zeroed (c .need) (c .words) (g .words) (g .told)

@@ -31,9 +31,9 @@ use Rattle.price.specs.Demand.{EndsAt, Choice, NoSequence, Priced}
 use Rattle.price.specs.Demand2.{walk-stuck, walk-priced, walk-full}
 use Rattle.paths.specs.declared.Walked.{Walked}
 use Rattle.paths.specs.Paths.{entryBy, fitsBy, walked}
-use Rattle.pricer.specs.declared.PriceAnswer.{PriceAnswer}
-use Rattle.pricer.specs.declared.PriceAnswer.the-variants.{Prices, Refused}
-use Rattle.pricer.specs.declared.PriceRefusal.the-variants.{InRecord, PathWrong, SliceShort, NotApplicable}
+use Rattle.answers.specs.declared.PriceAnswer.{PriceAnswer}
+use Rattle.answers.specs.declared.PriceAnswer.the-variants.{Prices, Refused}
+use Rattle.answers.specs.declared.PriceRefusal.the-variants.{InRecord, PathWrong, SliceShort, NotApplicable}
 use Rattle.pricer.specs.Pricer.{Outcome, refuse, unless, onVerdict, pathFits, atEnd, taskPrices, pricesOf, priceIn}
 
 -- ---- the path

@@ -15,8 +15,8 @@ use Rattle.tables.specs.Fit.{row-of}
 use Rattle.search.specs.Node.{goalCost}
 use Rattle.search.specs.Explore.{Search, Reason, finished, tableFull, budgetSpent, nodeAt, explored}
 use Rattle.search.specs.Plan.{planOf}
-use Rattle.solve.specs.declared.Counts.{Counts}
-use Rattle.solve.specs.declared.PlanAnswer.{PlanAnswer}
+use Rattle.answers.specs.declared.Counts.{Counts}
+use Rattle.answers.specs.declared.PlanAnswer.{PlanAnswer}
 use Rattle.solve.specs.Solve.{Outcome, countsOf, withPlan, atBest, atStop, tableWords, cleared, searched}
 use Rattle.solve.specs.Solve.Stops.{cleared-is}
 

@@ -28,9 +28,9 @@ use Rattle.offers.specs.Held.{searchOf}
 use Rattle.plans.specs.Walk.{heldIn, written}
 use Rattle.plans.specs.Goal.{written-fits, written-not}
 use Rattle.plans.specs.Kept.{plan-kept, real-kept}
-use Rattle.solve.specs.declared.Counts.{Counts}
-use Rattle.solve.specs.declared.PlanRefusal.the-variants.{TableFull, BudgetSpent, PlanLong}
-use Rattle.solve.specs.declared.PlanAnswer.the-variants.{Solved, Unsolvable, Refused}
+use Rattle.answers.specs.declared.Counts.{Counts}
+use Rattle.answers.specs.declared.PlanRefusal.the-variants.{TableFull, BudgetSpent, PlanLong}
+use Rattle.answers.specs.declared.PlanAnswer.the-variants.{Solved, Unsolvable, Refused}
 use Rattle.solve.specs.Solve.{Outcome, countsOf, unwritten, withPlan, planned, atBest, atStop, tableWords, cleared}
 
 -- the search that a table and the counts hold; which nodes are expanded does not matter any more
