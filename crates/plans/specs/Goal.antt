@@ -1,6 +1,6 @@
 -- The goal states by the table of goal states are the task's, and what the plan's buffer holds in the end. Assumes nothing.
 use mathlib.Core.Path.{_≡_, sym, ap, ap₂, _∙_}
-use mathlib.Core.Bool.{true, not}
+use mathlib.Core.Bool.{not}
 use mathlib.Core.List.{List, _++_, reverse}
 use Prim.Native.Nat.{ℕ, zero, suc, _≤_, _<_}
 use native.Mathlib.Omega.{arith}
@@ -18,17 +18,14 @@ use Rattle.layer.specs.Layer.Front.{cond-not}
 use Rattle.layer.specs.Board.{Board}
 use Rattle.layer.specs.Board.Laws.{part-on}
 use Rattle.tables.specs.Tables.{Goals}
-use Rattle.search.specs.Node.{goalPrices, isGoal}
-use Rattle.search.specs.Node.Laws.{isGoal-out}
+use Rattle.search.specs.Node.{goalPrices}
 use Rattle.search.specs.Explore.{Search, nodeAt}
 use Rattle.search.specs.Plan.{goalState, planOf}
 use Rattle.search.specs.Plan.Backwards.{planBack, planBack-ext, plan-back}
 use Rattle.search.specs.Plan.Laid.{laid, laid-none, laid-all}
-use Rattle.search.specs.Plan.Reaches.{goalState-is}
 use Rattle.keys.specs.Scan.{partBy, goalsBy}
 use Rattle.plans.specs.Walk.{nodeOn, goalOn, written}
 use Rattle.plans.specs.Fit.{Grounds, searchOn, prices-on, prices-length}
-use Rattle.plans.specs.Steps.{Priced}
 
 -- ---- goal states
 
@@ -50,12 +47,6 @@ module _ (t : Task) (b : Board) (starts T : List ℕ) (count : ℕ) (g : Grounds
   pub goal-on : (i : ℕ) → i < t .leaves → goalOn (b .bases) goals (nodeOn b T u .prices) i ≡ goalState t (searchOn b T count) i u
   unfolding goalOn goalState
   goal-on i m = rw (goals-on i m, prices-length t b starts T count g i m u h)
-
--- in a goal node each leaf's goal state has a price below the mark
-pub goal-priced : (t : Task) (s : Search) (u : ℕ) → isGoal t (nodeAt t s u) ≡ true → Priced t s u (λ i. goalState t s i u)
-goal-priced t s u e i m =
-    let low = isGoal-out t (nodeAt t s u) e .1 i m .0 in
-    omega (arith, goalState-is t s u i low .1)
 
 -- ---- the buffer
 

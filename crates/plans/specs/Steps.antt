@@ -16,7 +16,7 @@ use Rattle.search.specs.Explore.{Search, nodeAt}
 use Rattle.search.specs.Plan.{Back, begins, backIn, over}
 use Rattle.search.specs.Plan.Backwards.{layerBack, statesBefore, planBack, planBack-last, planBack-more, planBack-ext}
 use Rattle.search.specs.Plan.Laid.{laid, laid-append}
-use Rattle.search.specs.Plan.Stages.{priceIn, backIn-led, over-is}
+use Rattle.search.specs.Plan.Stages.{priceIn, Priced, backIn-led, over-is}
 use Rattle.plans.specs.Walk.{nodeOn, backOn, WalkableOn, overOn, backs, LayerWalked, NodeWalked}
 use Rattle.plans.specs.Fit.{back-short, Grounds, searchOn, node-on, inside, parent-below, prices-on, prices-length, walk-on, way-on, over-on}
 
@@ -113,10 +113,6 @@ module _ (t : Task) (s : Search) (total : ℕ) (whole plan₀ : List ℕ) (u : �
       (omega (arith, w .place, l .end, ap length parts), w .written ∙ sym (ap (λ (xs : List ℕ). laid total p xs plan) parts) ∙ l .written)
 
 -- ---- by the tables of a task
-
--- each leaf ends in a state whose price in node u is below the mark
-abbrev pub Priced : Task → Search → ℕ → (ℕ → ℕ) → Type 0
-Priced t s u ys = (i : ℕ) → i < t .leaves → priceIn t s i u (ys i) < mark
 
 module _ (t : Task) (b : Board) (starts T : List ℕ) (count : ℕ) (g : Grounds t b starts T count) (u : ℕ) (ys : ℕ → ℕ) (h : u < count)
     (priced : Priced t (searchOn b T count) u ys) where

@@ -30,11 +30,11 @@ ghost use Rattle.search.specs.Plan.{lowest, planOf};
 ghost use Rattle.search.specs.Plan.Backwards.{planBack};
 ghost use Rattle.search.specs.Plan.Laid.{laid};
 ghost use Rattle.search.specs.Plan.Real.{Real};
+ghost use Rattle.search.specs.Plan.Stages.{Priced};
 ghost use Rattle.rows.specs.Row.{nodeIn};
 ghost use Rattle.keys.specs.Scan.{Cut, goalsBy};
 ghost use Rattle.wayback.specs.Walked.{Walked};
 ghost use Rattle.plans.specs.Walk.{heldIn, beginsOn, backFrom, backOn, WalkableFrom, WalkableOn, overOn, goalOn, RowIn, Roomy, Standing, LayerWalked, NodeWalked, written};
-ghost use Rattle.plans.specs.Steps.{Priced};
 
 // ---- goal states
 

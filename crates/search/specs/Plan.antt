@@ -8,6 +8,7 @@ pub mod Stages
 pub mod Reaches
 pub mod Found
 pub mod Backwards
+pub mod Short
 pub mod Laid
 use mathlib.Core.Bool.{Bool, cond, _&&_}
 use mathlib.Core.List.{List, [], _∷_, _++_}

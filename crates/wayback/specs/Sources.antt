@@ -12,11 +12,11 @@ use Rattle.leaf.specs.Price.{mark}
 use Rattle.leaf.specs.Settle.{settled}
 use Rattle.leaf.specs.Settle.Steps.{price-in}
 use Rattle.leaf.specs.Settle.Walks.{Walk, stand, step, Ranged, Closed}
-use Rattle.leaf.specs.Settle.Laws.{settled-length, settled-below, settled-real, settled-bound, settled-closed, settled-least, walk-in}
+use Rattle.leaf.specs.Settle.Laws.{settled-length, settled-below, settled-real, settled-closed, settled-least, walk-in}
 use Rattle.leaf.specs.Settle.Ext.{settled-ext}
 use Rattle.search.specs.Plan.{lowest}
 use Rattle.search.specs.Plan.Lowest.{lowest-is}
-use Rattle.search.specs.Plan.Depths.{depth0, depth0-out, depth0-cap}
+use Rattle.search.specs.Plan.Depths.{depth0, depth0-out, depth0-cap, depth0-bound}
 use Rattle.wayback.specs.Steps.{depthsBy, sourceBy, entryBy, originBy, backBy}
 use Rattle.wayback.specs.Lowest.{lowest-ext}
 
@@ -57,9 +57,7 @@ module _ (edges : ℕ → ℕ → ℕ) (m : ℕ) (B P : List ℕ) where
   -- a depth below the mark is no more than the states
   pub depths-bound : (y : ℕ) → getD (depthsBy edges m B P) y mark < mark → getD (depthsBy edges m B P) y mark ≤ length P
   unfolding depthsBy
-  depths-bound y h =
-      let r = settled-bound mark m (λ j. 1) edges 0 1 (depth0 B P) (λ j k. omega arith) (λ u k. omega (arith, depth0-out B P u k .0)) y h in
-      omega (arith, full)
+  depths-bound y h = depth0-bound B P m edges y h
 
   -- depths depend on the edges of the actions and states that there are
   pub depths-ext : (other : ℕ → ℕ → ℕ) → ((j x : ℕ) → j < m → x < length P → edges j x ≡ other j x) → depthsBy edges m B P ≡ depthsBy other m B P

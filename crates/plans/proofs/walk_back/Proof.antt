@@ -13,10 +13,11 @@ use Rattle.layer.specs.Board.Laws.{row-on}
 use Rattle.layer.specs.Lent.{boardOf}
 use Rattle.search.specs.Plan.Backwards.{planBack}
 use Rattle.search.specs.Plan.Laid.{laid}
+use Rattle.search.specs.Plan.Stages.{Priced}
 use Rattle.rows.specs.Row.{nodeIn}
 use Rattle.plans.specs.Walk.{heldIn, Roomy, Standing}
 use Rattle.plans.specs.Fit.{Grounds, searchOn, grounds-on, standing-on}
-use Rattle.plans.specs.Steps.{layer-few, Priced, walks, lands, Along, along-none, along-more, along-few, along-end}
+use Rattle.plans.specs.Steps.{layer-few, walks, lands, Along, along-none, along-more, along-few, along-end}
 use Rattle.plans.proofs.walk_back.Statement.{statement}
 use Rattle.plans.proofs.walk_back.Tie as tie
 

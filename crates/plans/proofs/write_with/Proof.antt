@@ -14,12 +14,12 @@ use Rattle.layer.specs.Board.Laws.{row-on}
 use Rattle.layer.specs.Lent.{boardOf}
 use Rattle.search.specs.Explore.{Search}
 use Rattle.search.specs.Plan.{goalState}
-use Rattle.search.specs.Plan.Stages.{priceIn}
+use Rattle.search.specs.Plan.Stages.{priceIn, Priced}
+use Rattle.search.specs.Plan.Reaches.{goal-priced}
 use Rattle.plans.specs.Walk.{heldIn, nodeOn, goalOn, RowIn}
 use Rattle.plans.specs.Walk.Laws.{row-prices}
 use Rattle.plans.specs.Fit.{Grounds, grounds-on}
-use Rattle.plans.specs.Steps.{Priced}
-use Rattle.plans.specs.Goal.{goal-on, goal-priced, plan-short, laid-once, laid-twice, plan-turned}
+use Rattle.plans.specs.Goal.{goal-on, plan-short, laid-once, laid-twice, plan-turned}
 use Rattle.plans.proofs.write_with.Statement.{statement}
 use Rattle.plans.proofs.write_with.Tie as tie
 

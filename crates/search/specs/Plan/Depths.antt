@@ -19,6 +19,7 @@ use Rattle.task.specs.Factors.{states, to}
 use Rattle.task.specs.Valid.{Valid}
 use Rattle.task.specs.Star.{to-in}
 use Rattle.leaf.specs.Price.{mark}
+use Rattle.leaf.specs.Settle.{settled}
 use Rattle.leaf.specs.Settle.Steps.{price-in}
 use Rattle.leaf.specs.Settle.Walks.{Walk, stand, step, Ranged, Capped, Closed}
 use Rattle.leaf.specs.Settle.Laws.{settled-below, settled-real, settled-bound, settled-closed, settled-least, walk-in}
@@ -105,6 +106,14 @@ module _ (B P : List ℕ) where
       go (inl u) = omega (arith, u .0)
       go (inr e) = omega arith
 
+  -- settled by steps that cost 1, a depth below the mark is no more than there are states
+  pub depth0-bound : (m : ℕ) (to : ℕ → ℕ → ℕ) (x : ℕ) → getD (settled mark m (λ j. 1) to (depth0 B P)) x mark < mark
+      → getD (settled mark m (λ j. 1) to (depth0 B P)) x mark ≤ length P
+  depth0-bound m to x h =
+      let r = settled-bound mark m (λ j. 1) to 0 1 (depth0 B P) (λ j k. omega arith) (λ u k. omega (arith, depth0-out u k .0)) x h in
+      let full : length (depth0 B P) ≡ length P = list-length (length P) _ in
+      omega arith
+
 -- ---- walks of steps that cost 1
 
 -- the last step of a walk
@@ -158,14 +167,12 @@ module _ (t : Task) (ok : Valid t) (i : ℕ) (m : i < t .leaves) (c : Centre) (B
   depth-step x j y h k e =
       settled-closed mark (states t (suc i)) (length (enabled t (suc i) c)) (λ j. 1) (edges t (suc i) c B) edges-ranged (depth0 B (settleLeaf t (suc i) c B)) full (depth0-cap B (settleLeaf t (suc i) c B)) x j y h k e
 
-  -- a depth below the mark is no more than the states
-  depth-bound : (x : ℕ) → getD (depthsIn t (suc i) c B) x mark < mark → getD (depthsIn t (suc i) c B) x mark ≤ 256
+  -- a depth below the mark is no more than the leaf has states
+  pub depth-bound : (x : ℕ) → getD (depthsIn t (suc i) c B) x mark < mark → getD (depthsIn t (suc i) c B) x mark ≤ states t (suc i)
   unfolding depths
   depth-bound x h =
-      let r =
-      settled-bound mark (length (enabled t (suc i) c)) (λ j. 1) (edges t (suc i) c B) 0 1 (depth0 B (settleLeaf t (suc i) c B)) (λ j k. omega arith)
-      (λ u k. omega (arith, depth0-out B (settleLeaf t (suc i) c B) u k .0)) x h in
-      omega (arith, full, ok .whole .few-states i m)
+      let r = depth0-bound B (settleLeaf t (suc i) c B) (length (enabled t (suc i) c)) (edges t (suc i) c B) x h in
+      omega (arith, leaf-length t (suc i) c B, len)
 
   -- a state that has kept its price has depth 0
   depth-kept : (x : ℕ) → getD (settleLeaf t (suc i) c B) x mark < mark → getD B x mark ≡ getD (settleLeaf t (suc i) c B) x mark → getD (depthsIn t (suc i) c B) x mark ≡ 0
@@ -185,7 +192,7 @@ module _ (t : Task) (ok : Valid t) (i : ℕ) (m : i < t .leaves) (c : Centre) (B
       let d = walk-depth h r g (omega arith) in
       let (j, b, v) = enabled-find t (suc i) c a la el ec in
       let edge : edges t (suc i) c B j y ≡ suc z = rw v (tightTo-in t (suc i) (settleLeaf t (suc i) c B) a y z f (omega arith)) in
-      omega (arith, depth-step y j z hy b edge, depth-bound y d)
+      omega (arith, depth-step y j z hy b edge, depth-bound y d, ok .whole .few-states i m)
 
   -- every state with a price below the mark has a depth below the mark
   pub depth-all : (y : ℕ) → getD (settleLeaf t (suc i) c B) y mark < mark → getD (depthsIn t (suc i) c B) y mark < mark

@@ -26,7 +26,7 @@ use Rattle.search.specs.Explore.{Search, nodeAt}
 use Rattle.search.specs.Plan.{stages, pathTo, goalState, planOf}
 use Rattle.search.specs.Plan.Lowest.{lowest-is}
 use Rattle.search.specs.Plan.Real.{Real}
-use Rattle.search.specs.Plan.Stages.{priceIn, path-reached, Walked, stages-walked}
+use Rattle.search.specs.Plan.Stages.{priceIn, Priced, path-reached, Walked, stages-walked}
 
 -- ---- the goal state of a leaf
 
@@ -48,6 +48,12 @@ module _ (t : Task) (s : Search) (u : ℕ) where
       let w = goalPrices-out t i (nodeAt t s u) (goalState t s i u) (omega arith) in
       (w .1, sym (w .2) ∙ f)
 
+-- in a goal node each leaf's goal state has a price below the mark
+pub goal-priced : (t : Task) (s : Search) (u : ℕ) → isGoal t (nodeAt t s u) ≡ true → Priced t s u (λ i. goalState t s i u)
+goal-priced t s u e i m =
+    let low = isGoal-out t (nodeAt t s u) e .1 i m .0 in
+    omega (arith, goalState-is t s u i low .1)
+
 -- ---- the plan
 
 module _ (t : Task) (ok : Valid t) (s : Search) (r : Real t s) (u : ℕ) (h : u < length (s .kept)) (g : isGoal t (nodeAt t s u) ≡ true) where
@@ -61,11 +67,8 @@ module _ (t : Task) (ok : Valid t) (s : Search) (r : Real t s) (u : ℕ) (h : u 
   plan-woven = rw (← same) (weave-runs t ok (initial t) (λ k i. getD (stages t s i u u (goalState t s i u)) k []) (λ i. goalState t s i u) (ok .fields .initial-inside) refl
       (path-reached t s r u u (omega arith) h .passable) (λ i m. walked i m .staged))
     where
-      below : (i : ℕ) → i < t .leaves → priceIn t s i u (goalState t s i u) < mark
-      below i m = omega (arith, goalState-is t s u i (goal-low i m) .1, goal-low i m)
-
       walked : (i : ℕ) (m : i < t .leaves) → Walked t i (pathTo t s u u) (stages t s i u u (goalState t s i u)) (goalState t s i u) (priceIn t s i u (goalState t s i u))
-      walked i m = stages-walked t ok s r i m u u (goalState t s i u) (omega arith) h (below i m)
+      walked i m = stages-walked t ok s r i m u u (goalState t s i u) (omega arith) h (goal-priced t s u g i m)
 
       same : sum (t .leaves) (λ i. stagedCost t (λ k. getD (stages t s i u u (goalState t s i u)) k []) (pathTo t s u u)) ≡ sum (t .leaves) (λ i. leastOf (goalPrices t i (nodeAt t s u)))
       same = sum-ext (t .leaves) _ _ (λ i m. walked i m .total ∙ goalState-is t s u i (goal-low i m) .1)

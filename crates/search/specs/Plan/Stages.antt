@@ -32,6 +32,10 @@ use Rattle.search.specs.Plan.WayBack.{Led, back-works}
 abbrev pub priceIn : Task → Search → ℕ → ℕ → ℕ → ℕ
 priceIn t s i u x = getD (leafPart t i (nodeAt t s u .prices)) x mark
 
+-- each leaf ends in a state whose price in node u is below the mark
+abbrev pub Priced : Task → Search → ℕ → (ℕ → ℕ) → Type 0
+Priced t s u ys = (i : ℕ) → i < t .leaves → priceIn t s i u (ys i) < mark
+
 -- ---- inside a node's layer, and over its action
 
 module _ (t : Task) (ok : Valid t) (s : Search) (r : Real t s) (i : ℕ) (m : i < t .leaves) where
