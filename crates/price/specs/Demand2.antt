@@ -3,6 +3,7 @@
 use mathlib.Core.Path.{_≡_, refl}
 use mathlib.Core.List.{List}
 use Prim.Native.Nat.{ℕ, suc, _≤_, _<_}
+use native.Mathlib.Decide.{decLt}
 use native.Mathlib.Omega.{arith}
 use lib.ListN.{length, getD}
 use Rattle.loops.specs.Count.{sum}
@@ -15,11 +16,12 @@ use Rattle.leaf.specs.Price.{mark}
 use Rattle.layer.specs.Layer.{leafPart}
 use Rattle.price.specs.Path.{Layer, firstLayer, ends, stuck, walk}
 use Rattle.price.specs.Path.Laws.{price, rise, first-settled, first-small, first-at}
-use Rattle.price.specs.Demand.{Along, EndsAt, NoSequence, Priced}
+use Rattle.price.specs.Demand.{Along, EndsAt, NoSequence, SomeSequence, Priced}
 use Rattle.price.specs.Sums.{sum-le}
 use Rattle.price.specs.Ways.{WayTo}
 use Rattle.price.specs.Ways.Split.{Split, split}
 use Rattle.price.specs.Ways.Weave.{join}
+use Rattle.price.specs.Live.{Live, first-live, walk-live}
 use Rattle.price.specs.Prices.{Centred, price-way, wayTo-price, wayTo-below, walk-settled, walk-open, walk-ends}
 
 module _ (t : Task) (ok : Valid t) (path : List ℕ) (fits : length path ≤ 4095) where
@@ -81,3 +83,20 @@ module _ (t : Task) (ok : Valid t) (path : List ℕ) (fits : length path ≤ 409
       -- doing so."
       pub walk-priced : Priced t path mark (λ i x. getD (leafPart t i (l .prices)) x mark)
       walk-priced = record { reached = λ xs c h. priced-reached xs h; least = priced-least }
+
+      -- where the walk ends some sequence has just these centre actions: each leaf has a priced state, and a sequence ends where all are chosen
+      pub walk-some : SomeSequence t path
+      walk-some =
+          let (acts, w) = priced-reached (λ i. chosen i (decLt i (t .leaves))) (λ i b. below i b (decLt i (t .leaves))) in
+          (acts, w .0 .along)
+        where
+          live : Live t l
+          live = walk-live t ok path (firstLayer t) l centred (first-live t ok) e
+
+          chosen : (i : ℕ) → Dec (i < t .leaves) → ℕ
+          chosen i (yes b) = live i b .0
+          chosen i (no n) = 0
+
+          below : (i : ℕ) → i < t .leaves → (d : Dec (i < t .leaves)) → price t l i (chosen i d) < mark
+          below i b (yes c) = live i c .1 .1
+          below i b (no n) = absurd (n b)

@@ -4,4 +4,5 @@ pub mod Sums
 pub mod Sequences
 pub mod Ways
 pub mod Prices
+pub mod Live
 pub mod Demand2

@@ -9,23 +9,16 @@ use lib.ListN.{length, getD, drop}
 use Rattle.loops.specs.Count.{all, sum}
 use Rattle.task.specs.declared.Task.{Task}
 use Rattle.task.specs.Factors.{centreAction, states, allStates}
-use Rattle.fields.specs.Answers.{numberOf}
 use Rattle.whole.specs.declared.Verdict.{Verdict}
 use Rattle.whole.specs.declared.Verdict.the-variants.{Accepted, Refused as NotAccepted}
-use Rattle.record.specs.Record.{readRecord}
+use Rattle.record.specs.Record.{verdictNumber, readRecord}
 use Rattle.leaf.specs.Price.{mark}
 use Rattle.answers.specs.declared.PriceRefusal.{PriceRefusal}
 use Rattle.answers.specs.declared.PriceRefusal.the-variants.{InRecord, PathWrong, SliceShort, NotApplicable}
 use Rattle.answers.specs.declared.PriceAnswer.{PriceAnswer}
 use Rattle.answers.specs.declared.PriceAnswer.the-variants.{Prices, Refused}
 use Rattle.price.specs.Path.{End, ends, stuck, firstLayer, walk}
-
--- "For paths: 12 longer than 4,095, or an entry not a centre action; 13 an entry that doesn't apply. 21 price slice too short."
-abbrev pub refusalNumber : PriceRefusal → ℕ
-refusalNumber (InRecord why) = numberOf why
-refusalNumber PathWrong = 12
-refusalNumber SliceShort = 21
-refusalNumber NotApplicable = 13
+use Rattle.price.specs.Demand.{PathCall}
 
 -- the answer, and the slice's words afterwards
 pub record Outcome : Type 0 where
@@ -63,6 +56,12 @@ onVerdict (NotAccepted why) t path out = refuse (InRecord why) out
 -- the answer for a record
 unfoldable pub pricesOf : List ℕ → List ℕ → List ℕ → Outcome
 pricesOf rec path out = onVerdict (readRecord rec .verdict) (readRecord rec .task) path out
+
+-- ---- as the demands see it
+
+-- a call on a record
+abbrev pub callOn : List ℕ → List ℕ → List ℕ → PathCall
+callOn rec path out = record { verdict = verdictNumber (readRecord rec .verdict); task = readRecord rec .task; path = path; out = out }
 
 -- the word that holds the price of state x of the leaf behind i leaves
 abbrev pub priceIn : Task → List ℕ → ℕ → ℕ → ℕ

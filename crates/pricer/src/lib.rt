@@ -1,5 +1,6 @@
 // The pricer: the prices of all leaf states after a path of centre actions.
-use fields::Refusal;
+use answers::PriceAnswer;
+use answers::PriceRefusal;
 use leaf::MARK;
 use paths::path_fits;
 use paths::walk_task;
@@ -19,36 +20,9 @@ ghost use Rattle.record.specs.Record.{readRecord};
 ghost use Rattle.leaf.specs.Price.{mark};
 ghost use Rattle.tables.specs.Tables.{Bases, Kinds};
 ghost use Rattle.price.specs.Path.{firstLayer, walk};
-ghost use Rattle.price.specs.Demand.{NoSequence, Priced};
-ghost use Rattle.answers.specs.declared.PriceAnswer.the-variants.{Prices, Refused};
-ghost use Rattle.answers.specs.declared.PriceRefusal.the-variants.{NotApplicable};
-ghost use Rattle.pricer.specs.Pricer.{Outcome, refusalNumber, atEnd, taskPrices, pricesOf, priceIn};
-
-// Why no prices are given: the record's own refusals, then 12, 21, 13.
-pub enum PriceRefusal {
-    InRecord(Refusal),
-    PathWrong,
-    SliceShort,
-    NotApplicable,
-}
-
-// How many prices were written, or why none.
-pub enum PriceAnswer {
-    Prices(usize),
-    Refused(PriceRefusal),
-}
-
-// The refusal's number.
-pub fn refusal_number(r: PriceRefusal) -> u8
-    ensures { λ n. ⌜ n ≡ refusalNumber r ⌝ }
-{
-    match r {
-        PriceRefusal::InRecord(why) => fields::number(why),
-        PriceRefusal::PathWrong => 12,
-        PriceRefusal::SliceShort => 21,
-        PriceRefusal::NotApplicable => 13,
-    }
-}
+ghost use Rattle.price.specs.Demand.{PathDecided, Priced, PricesUntouched};
+ghost use Rattle.answers.specs.Told.{priceTold};
+ghost use Rattle.pricer.specs.Pricer.{Outcome, atEnd, taskPrices, pricesOf, callOn, priceIn};
 
 // The prices of a task that the reader accepted, on a path that fits and a slice that is long enough.
 fn price_path(
@@ -97,9 +71,11 @@ fn price_task(task: Task, path: &[u8], out: &mut [u64]) -> PriceAnswer
 pub fn prices(record: &[u8], path: &[u8], out: &mut [u64]) -> PriceAnswer
     ensures answer { λ r. ⌜ _≡_ {A = Outcome} (record { answer = r; words = now (out .exit) })
         (pricesOf (now («record» .entry)) (now (path .entry)) (now (out .entry))) ⌝ }
-    ensures refused_13 { λ r. ⌜ (r ≡ Refused NotApplicable → NoSequence (readRecord (now («record» .entry)) .task) (now (path .entry))) ⌝ }
-    ensures priced { λ r. ⌜ ((n : ℕ) → r ≡ Prices n → Priced (readRecord (now («record» .entry)) .task) (now (path .entry)) mark
+    ensures decided { λ r. ⌜ PathDecided (callOn (now («record» .entry)) (now (path .entry)) (now (out .entry))) (priceTold r .number) ⌝ }
+    ensures priced { λ r. ⌜ (priceTold r .number ≡ 0 → Priced (readRecord (now («record» .entry)) .task) (now (path .entry)) mark
         (priceIn (readRecord (now («record» .entry)) .task) (now (out .exit)))) ⌝ }
+    ensures untouched { λ r. ⌜ PricesUntouched (callOn (now («record» .entry)) (now (path .entry)) (now (out .entry))) (now (out .exit)) (priceTold r .number) ⌝ }
+    ensures count { λ r. ⌜ (priceTold r .number ≡ 0 → priceTold r .count ≡ allStates (readRecord (now («record» .entry)) .task)) ⌝ }
 {
     let r = read_record(record);
     let v = r.verdict;

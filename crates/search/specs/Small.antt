@@ -7,27 +7,19 @@ use Prim.Native.Nat.{ℕ, zero, suc, _*_, _≤_, _<_}
 use native.Mathlib.Omega.{arith}
 use lib.ListN.{length}
 use Rattle.loops.specs.Count.{sum}
-use Rattle.loops.specs.Count.Laws.{and-out, all-out}
 use Rattle.task.specs.declared.Task.{Task}
-use Rattle.task.specs.Meaning.{initial, factor, condition, costOf}
-use Rattle.task.specs.Factors.{number, states}
-use Rattle.task.specs.Centre.{centreMeets}
+use Rattle.task.specs.Meaning.{costOf}
 use Rattle.task.specs.Valid.{Valid}
-use Rattle.task.specs.Star.{number-lt, to-in}
 use Rattle.leaf.specs.Price.{mark}
-use Rattle.layer.specs.Layer.{leafPart, appliesTo}
-use Rattle.layer.specs.Layer.Leaf.{passes-out}
-use Rattle.price.specs.Path.{Layer, firstLayer, nextLayer, ends, walk}
-use Rattle.price.specs.Path.Laws.{walk-on, price, rise, first-at, next-hit}
+use Rattle.layer.specs.Layer.{leafPart}
+use Rattle.price.specs.Path.{firstLayer}
+use Rattle.price.specs.Path.Laws.{price, rise}
 use Rattle.price.specs.Prices.{Centred}
+use Rattle.price.specs.Live.{Live, first-live, walk-live}
 use Rattle.search.specs.Node.{Node, leastOf, key, goalPrices, isGoal, goalCost}
 use Rattle.search.specs.Node.Laws.{leastOf-le, isGoal-out}
 use Rattle.search.specs.Cover.{layerOf}
 use Rattle.search.specs.Made.{Made, made-sound}
-
--- every leaf has a reachable state in the layer
-abbrev pub Live : Task → Layer → Type 0
-Live t l = (i : ℕ) → i < t .leaves → (x : ℕ) × ((x < states t (suc i)) × (price t l i x < mark))
 
 -- terms of 4,097 rises at most, in a sum of n
 pub sum-small : (n : ℕ) (f : ℕ → ℕ) → ((i : ℕ) → i < n → f i ≤ 4097 * rise) → sum n f ≤ n * (4097 * rise)
@@ -36,28 +28,6 @@ sum-small zero f h = omega arith
 sum-small (suc n) f h = omega (arith, sum-small n f (λ i l. h i (omega arith)), h n (omega arith))
 
 module _ (t : Task) (ok : Valid t) where
-  -- ---- reachable states
-
-  -- each leaf's initial state is reachable in the first layer
-  pub first-live : Live t (firstLayer t)
-  first-live i l = (number t (suc i) (initial t), (number-lt t (suc i) (ok .fields .initial-inside), omega (arith, first-at t ok i l)))
-
-  -- behind an action that applies each leaf has a reachable state
-  pub next-live : (a : ℕ) (l : Layer) → a < t .actions → appliesTo t (l .spot) (l .prices) a ≡ true → Live t (nextLayer t a l)
-  unfolding appliesTo
-  next-live a l h e i m =
-      let (_, ps) = and-out (centreMeets (factor t) (condition t a) (l .spot)) _ e in
-      let (x, y, k, p, q) = passes-out t (suc i) a (leafPart t i (l .prices)) (all-out (t .leaves) _ ps i m) in
-      (y, (to-in t ok (suc i) a x y h q, omega (arith, next-hit t ok a l i m x y h k q)))
-
-  -- where a walk ends each leaf has a reachable state
-  pub walk-live : (p : List ℕ) (l m : Layer) → Centred t p → Live t l → walk t l p ≡ ends m → Live t m
-  unfolding walk
-  walk-live [] l m c v e = let f : l ≡ m = cc in rw f at v
-  walk-live (a ∷ p) l m c v e =
-      let (u, w) = walk-on t l a p e in
-      walk-live p (nextLayer t a l) m (λ k n. c (suc k) (omega arith)) (next-live a l (c 0 (omega arith) .0) u) w
-
   -- ---- costs
 
   -- a path costs at most 4,807 for each of its actions
@@ -69,7 +39,7 @@ module _ (t : Task) (ok : Valid t) where
   module _ (u : ℕ) (n : Node) (few : u ≤ 4096) (m : Made t u n) where
     -- each leaf has a reachable state in the node
     pub made-live : Live t (layerOf n)
-    made-live = walk-live (m .path) (firstLayer t) (layerOf n) (m .centred) first-live (m .walked)
+    made-live = walk-live t ok (m .path) (firstLayer t) (layerOf n) (m .centred) (first-live t ok) (m .walked)
 
     -- no price below the mark is above 4,097 rises
     pub made-price : (i : ℕ) → i < t .leaves → (x : ℕ) → price t (layerOf n) i x < mark → price t (layerOf n) i x ≤ 4097 * rise

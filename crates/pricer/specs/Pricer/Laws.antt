@@ -1,24 +1,26 @@
 -- Laws of the pricer: the test of the path, the answers step by step, and what they say of sequences. Assumes nothing.
 use mathlib.Core.Path.{_≡_, refl, sym, ap, _∙_}
-use mathlib.Core.Bool.{Bool, true, false, _&&_}
+use mathlib.Core.Logic.{inl, inr}
+use mathlib.Core.Bool.{Bool, true, false, _&&_, true≢false}
 use mathlib.Core.List.{List, _++_}
-use Prim.Native.Nat.{ℕ, suc, _+_, _≤_, _<_}
+use Prim.Native.Nat.{ℕ, zero, suc, _+_, _≤_, _<_}
 use native.Mathlib.Omega.{arith}
 use lib.Dec.{ltb, leb}
 use lib.ListN.{length, getD, take, drop, List·getD-append}
-use lib.Seq.{getD-take, getD-drop}
-use borrow.Author.Tests.{ltb-true, lt-leb, le-leb, leb-true}
-use Rattle.loops.specs.Count.{sum}
-use Rattle.loops.specs.Count.Laws.{and-out, all-out, all-ext, sum-ext}
+use lib.Seq.{getD-take, getD-drop, drop-at}
+use borrow.Author.Tests.{ltb-true, lt-ltb, lt-leb, le-leb, leb-true, leb-false}
+use Rattle.loops.specs.Count.{all, sum}
+use Rattle.loops.specs.Count.Laws.{and-in, and-out, all-out, all-ext, sum-ext}
 use Rattle.task.specs.declared.Task.{Task}
 use Rattle.task.specs.Meaning.{initial}
 use Rattle.task.specs.Factors.{centreAction, states, allStates, leafCost}
 use Rattle.task.specs.Valid.{Valid}
 use Rattle.task.specs.Star.{number-lt}
 use Rattle.fields.specs.declared.Refusal.{Refusal}
+use Rattle.fields.specs.Answers.{numberOf}
 use Rattle.whole.specs.declared.Verdict.{Verdict}
 use Rattle.whole.specs.declared.Verdict.the-variants.{Accepted, Refused as NotAccepted}
-use Rattle.record.specs.Record.{readRecord}
+use Rattle.record.specs.Record.{verdictNumber, readRecord}
 use Rattle.record.specs.Record.Laws.{accepted-valid}
 use Rattle.leaf.specs.Price.{mark}
 use Rattle.layer.specs.Layer.{base, leafPart}
@@ -27,14 +29,28 @@ use Rattle.tables.specs.Tables.{Kinds}
 use Rattle.price.specs.Path.{Layer, End, ends, stuck, firstLayer, walk}
 use Rattle.price.specs.Prices.{Centred}
 use Rattle.price.specs.Sequences.{final-inside}
-use Rattle.price.specs.Demand.{EndsAt, Choice, NoSequence, Priced}
-use Rattle.price.specs.Demand2.{walk-stuck, walk-priced, walk-full}
+use Rattle.price.specs.Demand.{EndsAt, Choice, NoSequence, SomeSequence, Priced, PathCall, PathOutside, PathFits, PathAccepted, PathDecided, PricesUntouched, PathMeets}
+use Rattle.price.specs.Demand2.{walk-stuck, walk-priced, walk-full, walk-some}
 use Rattle.paths.specs.declared.Walked.{Walked}
 use Rattle.paths.specs.Paths.{entryBy, fitsBy, walked}
 use Rattle.answers.specs.declared.PriceAnswer.{PriceAnswer}
 use Rattle.answers.specs.declared.PriceAnswer.the-variants.{Prices, Refused}
-use Rattle.answers.specs.declared.PriceRefusal.the-variants.{InRecord, PathWrong, SliceShort, NotApplicable}
-use Rattle.pricer.specs.Pricer.{Outcome, refuse, unless, onVerdict, pathFits, atEnd, taskPrices, pricesOf, priceIn}
+use Rattle.answers.specs.declared.PriceRefusal.{PriceRefusal}
+use Rattle.answers.specs.declared.PriceRefusal.the-variants.{InRecord as PriceInRecord, PathWrong, SliceShort, NotApplicable}
+use Rattle.answers.specs.Told.{priceRefusalNumber, priceTold}
+use Rattle.answers.specs.Told.Laws.{record-number}
+use Rattle.pricer.specs.Pricer.{Outcome, refuse, unless, onVerdict, pathFits, atEnd, taskPrices, pricesOf, callOn, priceIn}
+
+-- a number at which a test fails that does not pass at all of them
+all-fails : (n : ℕ) (p : ℕ → Bool) → all n p ≡ false → (k : ℕ) × ((k < n) × (p k ≡ false))
+unfolding all
+all-fails zero p e = absurd (true≢false e)
+all-fails (suc n) p e = go (all n p) refl (p n) refl (all-fails n p)
+  where
+    go : (a : Bool) → all n p ≡ a → (b : Bool) → p n ≡ b → (all n p ≡ false → (k : ℕ) × ((k < n) × (p k ≡ false))) → (k : ℕ) × ((k < suc n) × (p k ≡ false))
+    go true f true g r = absurd (true≢false (sym (and-in f g) ∙ e))
+    go true f false g r = (n, (omega arith, g))
+    go false f b g r = let w = r f in (w .0, (omega (arith, w .1 .0), w .1 .1))
 
 -- ---- the path
 
@@ -59,6 +75,29 @@ module _ (t : Task) (path : List ℕ) where
   fits-centred e k l =
       let w = and-out (ltb (getD path k 0) (t .actions)) (centreAction t (getD path k 0)) (all-out (length path) _ (and-out (leb (length path) 4095) _ e .1) k l) in
       (ltb-true _ _ (w .0), w .1)
+
+  -- in the demand's words: it fits, or an entry or its length is outside
+  pub fits-in : pathFits t path ≡ true → PathFits t path
+  fits-in e = (fits-short e, fits-centred e)
+
+  pub fits-out : pathFits t path ≡ false → PathOutside t path
+  unfolding pathFits
+  fits-out e = go (leb (length path) 4095) refl
+    where
+      test : ℕ → Bool
+      test k = ltb (getD path k 0) (t .actions) && centreAction t (getD path k 0)
+
+      go : (b : Bool) → leb (length path) 4095 ≡ b → PathOutside t path
+      go true f =
+          let g : all (length path) test ≡ false = rw f at e in
+          let (k, (l, n)) = all-fails (length path) test g in
+          inr (k, (l, λ w. true≢false (sym (and-in (lt-ltb _ _ (w .0)) (w .1)) ∙ n)))
+      go false f = inl (leb-false _ _ f)
+
+-- the two exclude each other
+not-fits : (t : Task) (path : List ℕ) → PathFits t path → PathOutside t path → ⊥
+not-fits t path f (inl h) = absurd (omega (arith, f .0))
+not-fits t path f (inr (k, (l, n))) = n (f .1 k l)
 
 -- ---- the answers, step by step
 
@@ -126,61 +165,153 @@ module _ (t : Task) (ok : Valid t) (path : List ℕ) (fits : length path ≤ 409
           let r = w .least xs acts z in
           (λ i m. rw (word-is i (xs i) m (c i m)) (r .0 i m), rw (sums xs c) (r .1))
 
--- ---- what the answers say
+-- ---- the demands
 
-module _ (t : Task) (out : List ℕ) where
-  -- 13 is answered where the path fits and its walk is stuck
-  stuck-13 : (b d : Bool) (n : End) → unless b PathWrong out (unless d SliceShort out (atEnd t out n)) .answer ≡ Refused NotApplicable → (b ≡ true) × (n ≡ stuck)
-  stuck-13 true true stuck e = (refl, refl)
-  stuck-13 true true (ends l) e = absurd (let z : _≡_ {A = ℕ} 0 1 = cc in omega arith)
-  stuck-13 true false n e = absurd (let z : _≡_ {A = ℕ} 0 1 = cc in omega arith)
-  stuck-13 false d n e = absurd (let z : _≡_ {A = ℕ} 0 1 = cc in omega arith)
+-- the numbers of a call that is refused before the walk are none of the others
+module _ (c : PathCall) where
+  -- 1 to 11
+  record-decided : (why : Refusal) → c .verdict ≡ numberOf why → PathDecided c (numberOf why)
+  record-decided why v =
+      let (some, few) = record-number why in
+      record {
+        in-record = λ n a b. (λ e. v ∙ e, λ e. sym v ∙ e);
+        path-wrong = (λ e. absurd (omega arith), λ h. absurd (omega (arith, h .0)));
+        slice-short = (λ e. absurd (omega arith), λ h. absurd (omega (arith, h .0)));
+        not-applicable = (λ e. absurd (omega arith), λ h. absurd (omega (arith, h .0 .read)));
+        priced = (λ e. absurd (omega arith), λ h. absurd (omega (arith, h .0 .read)));
+      }
 
-  -- prices are answered where the path fits and its walk ends: the last layer's
-  ends-prices : (b d : Bool) (n : End) {m : ℕ} → unless b PathWrong out (unless d SliceShort out (atEnd t out n)) .answer ≡ Prices m
-      → (b ≡ true) × ((l : Layer) × ((n ≡ ends l) × (unless b PathWrong out (unless d SliceShort out (atEnd t out n)) .words ≡ l .prices ++ drop (allStates t) out)))
-  ends-prices true true (ends l) e = (refl, (l, (refl, refl)))
-  ends-prices true true stuck e = absurd (let z : _≡_ {A = ℕ} 0 1 = cc in omega arith)
-  ends-prices true false n e = absurd (let z : _≡_ {A = ℕ} 0 1 = cc in omega arith)
-  ends-prices false d n e = absurd (let z : _≡_ {A = ℕ} 0 1 = cc in omega arith)
+  module _ (v : c .verdict ≡ 0) where
+    -- 12
+    wrong-decided : PathOutside (c .task) (c .path) → PathDecided c 12
+    wrong-decided w =
+        record {
+          in-record = λ n a b. (λ e. absurd (omega arith), λ e. absurd (omega arith));
+          path-wrong = (λ e. (v, w), λ _. refl);
+          slice-short = (λ e. absurd (omega arith), λ h. absurd (not-fits (c .task) (c .path) (h .1 .0) w));
+          not-applicable = (λ e. absurd (omega arith), λ h. absurd (not-fits (c .task) (c .path) (h .0 .fits) w));
+          priced = (λ e. absurd (omega arith), λ h. absurd (not-fits (c .task) (c .path) (h .0 .fits) w));
+        }
 
-  module _ (ok : Valid t) (path : List ℕ) where
-    -- "A centre path is refused 13 only where no action sequence has just those centre actions in that order."
-    pub task-13 : taskPrices t path out .answer ≡ Refused NotApplicable → NoSequence t path
-    unfolding taskPrices
-    task-13 e =
-        let (f, s) = stuck-13 (pathFits t path) (leb (allStates t) (length out)) (walk t (firstLayer t) path) e in
-        walk-stuck t ok path (fits-short t path f) (fits-centred t path f) s
+    module _ (f : PathFits (c .task) (c .path)) where
+      -- 21
+      short-decided : length (c .out) < allStates (c .task) → PathDecided c 21
+      short-decided l =
+          record {
+            in-record = λ n a b. (λ e. absurd (omega arith), λ e. absurd (omega arith));
+            path-wrong = (λ e. absurd (omega arith), λ h. absurd (not-fits (c .task) (c .path) f (h .1)));
+            slice-short = (λ e. (v, (f, l)), λ _. refl);
+            not-applicable = (λ e. absurd (omega arith), λ h. absurd (omega (arith, h .0 .long)));
+            priced = (λ e. absurd (omega arith), λ h. absurd (omega (arith, h .0 .long)));
+          }
 
-    -- "A choice of one leaf state per leaf is priced exactly when such a sequence ends there, and the prices add up to the least leaf cost of
-    -- doing so."
-    pub task-priced : (n : ℕ) → taskPrices t path out .answer ≡ Prices n → Priced t path mark (priceIn t (taskPrices t path out .words))
-    unfolding taskPrices
-    task-priced n e =
-        let (f, (l, (s, q))) = ends-prices (pathFits t path) (leb (allStates t) (length out)) (walk t (firstLayer t) path) e in
-        rw q (priced-words t ok path (fits-short t path f) (fits-centred t path f) l s (drop (allStates t) out))
+      module _ (l : allStates (c .task) ≤ length (c .out)) where
+        accepted : PathAccepted c
+        accepted = record { read = v; fits = f; long = l }
+
+        -- 13
+        stuck-decided : NoSequence (c .task) (c .path) → PathDecided c 13
+        stuck-decided none =
+            record {
+              in-record = λ n a b. (λ e. absurd (omega arith), λ e. absurd (omega arith));
+              path-wrong = (λ e. absurd (omega arith), λ h. absurd (not-fits (c .task) (c .path) f (h .1)));
+              slice-short = (λ e. absurd (omega arith), λ h. absurd (omega (arith, h .1 .1)));
+              not-applicable = (λ e. (accepted, none), λ _. refl);
+              priced = (λ e. absurd (omega arith), λ h. absurd (none (h .1 .0) (h .1 .1)));
+            }
+
+        -- prices
+        ends-decided : SomeSequence (c .task) (c .path) → PathDecided c 0
+        ends-decided some =
+            record {
+              in-record = λ n a b. (λ e. absurd (omega arith), λ e. absurd (omega arith));
+              path-wrong = (λ e. absurd (omega arith), λ h. absurd (not-fits (c .task) (c .path) f (h .1)));
+              slice-short = (λ e. absurd (omega arith), λ h. absurd (omega (arith, h .1 .1)));
+              not-applicable = (λ e. absurd (omega arith), λ h. absurd (h .1 (some .0) (some .1)));
+              priced = (λ e. (accepted, some), λ _. refl);
+            }
+
+-- an outcome as the demands see it
+abbrev Met : PathCall → Outcome → Type 0
+Met c o = PathMeets c mark (priceIn (c .task) (o .words)) (o .words) (priceTold (o .answer) .number)
+
+-- a refusal leaves the slice as it was
+refused-meets : (c : PathCall) (why : PriceRefusal) → (priceRefusalNumber why ≡ 0 → ⊥) → PathDecided c (priceRefusalNumber why) → Met c (refuse why (c .out))
+refused-meets c why n d =
+    record { decided = d; prices = λ e. absurd (n e); untouched = record { behind = λ e. absurd (n e); whole = λ _. refl } }
+
+-- the outcome for a task
+module _ (t : Task) (ok : Valid t) (path out : List ℕ) where
+  abbrev c : PathCall
+  c = record { verdict = 0; task = t; path = path; out = out }
+
+  -- where the walk ends or is stuck
+  end-meets : pathFits t path ≡ true → allStates t ≤ length out → (n : End) → walk t (firstLayer t) path ≡ n → Met c (atEnd t out n)
+  end-meets f long stuck e =
+      refused-meets c NotApplicable (λ x. absurd (omega arith))
+      (stuck-decided c refl (fits-in t path f) long (walk-stuck t ok path (fits-short t path f) (fits-centred t path f) e))
+  end-meets f long (ends l) e =
+      record {
+        decided = ends-decided c refl (fits-in t path f) long (walk-some t ok path (fits-short t path f) (fits-centred t path f) l e);
+        prices = λ _. priced-words t ok path (fits-short t path f) (fits-centred t path f) l e (drop (allStates t) out);
+        untouched =
+            record {
+              behind = λ _. drop-at (l .prices) (drop (allStates t) out) (allStates t) (walk-full t ok path (fits-short t path f) (fits-centred t path f) l e);
+              whole = λ n. absurd (n refl);
+            };
+      }
+
+  task-meets : Met c (taskPrices t path out)
+  unfolding taskPrices
+  task-meets = go (pathFits t path) refl (leb (allStates t) (length out)) refl
+    where
+      go : (a : Bool) → pathFits t path ≡ a → (b : Bool) → leb (allStates t) (length out) ≡ b
+          → Met c (unless a PathWrong out (unless b SliceShort out (atEnd t out (walk t (firstLayer t) path))))
+      go true f true g = end-meets f (leb-true _ _ g) (walk t (firstLayer t) path) refl
+      go true f false g = refused-meets c SliceShort (λ x. absurd (omega arith)) (short-decided c refl (fits-in t path f) (leb-false _ _ g))
+      go false f b g = refused-meets c PathWrong (λ x. absurd (omega arith)) (wrong-decided c refl (fits-out t path f))
+
+-- how many prices are written
+abbrev Counted : Task → PriceAnswer → Type 0
+Counted t a = priceTold a .number ≡ 0 → priceTold a .count ≡ allStates t
+
+refused-count : (t : Task) (why : PriceRefusal) → (priceRefusalNumber why ≡ 0 → ⊥) → Counted t (Refused why)
+refused-count t why n e = absurd (n e)
+
+task-count : (t : Task) (path out : List ℕ) → Counted t (taskPrices t path out .answer)
+unfolding taskPrices
+task-count t path out = go (pathFits t path) (leb (allStates t) (length out)) (walk t (firstLayer t) path)
+  where
+    go : (a b : Bool) (n : End) → Counted t (unless a PathWrong out (unless b SliceShort out (atEnd t out n)) .answer)
+    go true true (ends l) = λ _. refl
+    go true true stuck = refused-count t NotApplicable (λ x. absurd (omega arith))
+    go true false n = refused-count t SliceShort (λ x. absurd (omega arith))
+    go false b n = refused-count t PathWrong (λ x. absurd (omega arith))
 
 module _ (rec path out : List ℕ) where
-  -- the same of a record
-  pub outcome-13 : pricesOf rec path out .answer ≡ Refused NotApplicable → NoSequence (readRecord rec .task) path
+  -- the outcome for a record meets the demands
+  pub record-meets : Met (callOn rec path out) (pricesOf rec path out)
   unfolding pricesOf
-  outcome-13 = go (readRecord rec .verdict) refl
+  record-meets = go (readRecord rec .verdict) refl
     where
-      go : (v : Verdict) → readRecord rec .verdict ≡ v → onVerdict v (readRecord rec .task) path out .answer ≡ Refused NotApplicable → NoSequence (readRecord rec .task) path
-      go Accepted q e = task-13 (readRecord rec .task) out (accepted-valid rec q) path e
-      go (NotAccepted why) q e = absurd (let z : _≡_ {A = ℕ} 0 1 = cc in omega arith)
+      t : Task
+      t = readRecord rec .task
 
-  pub outcome-priced : (n : ℕ) → pricesOf rec path out .answer ≡ Prices n → Priced (readRecord rec .task) path mark (priceIn (readRecord rec .task) (pricesOf rec path out .words))
+      go : (v : Verdict) → readRecord rec .verdict ≡ v → Met (record { verdict = verdictNumber v; task = t; path = path; out = out }) (onVerdict v t path out)
+      go Accepted e = task-meets t (accepted-valid rec e) path out
+      go (NotAccepted why) e =
+          refused-meets _ (PriceInRecord why) (λ x. absurd (omega (arith, record-number why .0))) (record-decided _ why refl)
+
+  record-count : Counted (readRecord rec .task) (pricesOf rec path out .answer)
   unfolding pricesOf
-  outcome-priced n = go (readRecord rec .verdict) refl
+  record-count = go (readRecord rec .verdict)
     where
-      go : (v : Verdict) → readRecord rec .verdict ≡ v → onVerdict v (readRecord rec .task) path out .answer ≡ Prices n
-          → Priced (readRecord rec .task) path mark (priceIn (readRecord rec .task) (onVerdict v (readRecord rec .task) path out .words))
-      go Accepted q e = task-priced (readRecord rec .task) out (accepted-valid rec q) path n e
-      go (NotAccepted why) q e = absurd (let z : _≡_ {A = ℕ} 0 1 = cc in omega arith)
+      go : (v : Verdict) → Counted (readRecord rec .task) (onVerdict v (readRecord rec .task) path out .answer)
+      go Accepted = task-count (readRecord rec .task) path out
+      go (NotAccepted why) = refused-count (readRecord rec .task) (PriceInRecord why) (λ x. absurd (omega (arith, record-number why .0)))
 
   -- a refused record
-  pub record-refused : {why : Refusal} → readRecord rec .verdict ≡ NotAccepted why → refuse (InRecord why) out ≡ pricesOf rec path out
+  pub record-refused : {why : Refusal} → readRecord rec .verdict ≡ NotAccepted why → refuse (PriceInRecord why) out ≡ pricesOf rec path out
   unfolding pricesOf
   record-refused e = rw e
 
@@ -191,10 +322,12 @@ module _ (rec path out : List ℕ) where
 
   -- what the answer says
   pub outcome-says : (r : PriceAnswer) (ws : List ℕ) → _≡_ {A = Outcome} (record { answer = r; words = ws }) (pricesOf rec path out)
-      → _≡_ {A = Outcome} (record { answer = r; words = ws }) (pricesOf rec path out)
-      × ((r ≡ Refused NotApplicable → NoSequence (readRecord rec .task) path)
-      × ((n : ℕ) → r ≡ Prices n → Priced (readRecord rec .task) path mark (priceIn (readRecord rec .task) ws)))
+      → let t = readRecord rec .task in
+      _≡_ {A = Outcome} (record { answer = r; words = ws }) (pricesOf rec path out)
+      × (PathDecided (callOn rec path out) (priceTold r .number)
+      × ((priceTold r .number ≡ 0 → Priced t path mark (priceIn t ws))
+      × (PricesUntouched (callOn rec path out) ws (priceTold r .number) × (priceTold r .number ≡ 0 → priceTold r .count ≡ allStates t))))
   outcome-says r ws e =
-      let a : r ≡ pricesOf rec path out .answer = ap (λ (o : Outcome). o .answer) e in
-      let w : ws ≡ pricesOf rec path out .words = ap (λ (o : Outcome). o .words) e in
-      (e, (λ q. outcome-13 (sym a ∙ q), λ n q. rw w (outcome-priced n (sym a ∙ q))))
+      let m : Met (callOn rec path out) (record { answer = r; words = ws }) = rw (← e) at record-meets in
+      let k : Counted (readRecord rec .task) r = rw (← e) at record-count in
+      (e, (m .decided, (m .prices, (m .untouched, k))))

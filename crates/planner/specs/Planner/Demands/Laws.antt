@@ -1,6 +1,6 @@
 -- The planner's outcome meets the demands. Assumes nothing.
 use mathlib.Core.Path.{_≡_, refl, sym, _∙_}
-use mathlib.Core.Logic.{inl, inr, Iff·rfl}
+use mathlib.Core.Logic.{inl, inr}
 use mathlib.Core.Bool.{Bool, true, false, _&&_}
 use mathlib.Core.List.{List, _++_}
 use Prim.Native.Nat.{ℕ, zero, suc, _≤_, _<_}
@@ -28,12 +28,12 @@ use Rattle.answers.specs.declared.Counts.{Counts}
 use Rattle.answers.specs.declared.Told.{Told}
 use Rattle.answers.specs.declared.PlanRefusal.{PlanRefusal}
 use Rattle.answers.specs.declared.PlanRefusal.the-variants.{InRecord, NodesWrong, TableShort, TableFull, BudgetSpent, PlanLong}
-use Rattle.answers.specs.declared.PlanAnswer.the-variants.{Solved, Unsolvable, Refused}
+use Rattle.answers.specs.declared.PlanAnswer.the-variants.{Unsolvable, Refused}
 use Rattle.answers.specs.Told.{planRefusalNumber, planTold}
 use Rattle.answers.specs.Told.Laws.{record-number}
 use Rattle.solve.specs.Solve.{countsOf, unwritten, withPlan, planned, atBest, atStop, tableWords, cleared, searched}
 use Rattle.planner.specs.Planner.{noCounts, taskPlan, onVerdict, recordPlan, callOn, givenBy, givenWith}
-use Rattle.planner.specs.Planner.Demands.{Call, Given, NodesOutside, Accepted, Searched, Untouched, Zeroed, CarriesOut, LeastCost, Reachable, Gave, ThatPlan, Decided, Meets}
+use Rattle.planner.specs.Planner.Demands.{Call, Given, NodesOutside, Searched, Reachable, Gave, ThatPlan, Decided, Meets}
 
 -- no number of a search lies between 1 and 21
 not-early : (n : ℕ) → 1 ≤ n → n ≤ 21 → Searched n → ⊥
