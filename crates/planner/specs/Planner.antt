@@ -1,6 +1,7 @@
 -- What the planner answers, and what the lent plan buffer and the lent table hold afterwards. Follows "The exploration" and "Refused because of the
 -- state": "The planner's order: 1 to 11, 20, 21, then 22 or 23 as met, then 24." The outcome itself, and that of a search, are the crate solve's.
 pub mod Demands
+pub mod Room
 pub mod Answers
 use mathlib.Core.Bool.{true, false, _&&_}
 use mathlib.Core.List.{List}

@@ -36,7 +36,7 @@ use Rattle.planner.specs.Planner.{noCounts, taskPlan, onVerdict, recordP
 use Rattle.planner.specs.Planner.Demands.{Call, Given, NodesOutside, Searched, Reachable, Gave, ThatPlan, Decided, Meets}
 
 -- no number of a search lies between 1 and 21
-not-early : (n : ℕ) → 1 ≤ n → n ≤ 21 → Searched n → ⊥
+pub not-early : (n : ℕ) → 1 ≤ n → n ≤ 21 → Searched n → ⊥
 not-early n some few (inl e) = absurd (omega arith)
 not-early n some few (inr (inl e)) = absurd (omega arith)
 not-early n some few (inr (inr (inl e))) = absurd (omega arith)
@@ -44,7 +44,7 @@ not-early n some few (inr (inr (inr (inl e)))) = absurd (omega arith)
 not-early n some few (inr (inr (inr (inr e)))) = absurd (omega arith)
 
 -- nodes from 1 to 4,096 are not outside
-not-outside : (nodes : ℕ) → 1 ≤ nodes → nodes ≤ 4096 → NodesOutside nodes → ⊥
+pub not-outside : (nodes : ℕ) → 1 ≤ nodes → nodes ≤ 4096 → NodesOutside nodes → ⊥
 not-outside nodes some few (inl e) = absurd (omega arith)
 not-outside nodes some few (inr h) = absurd (omega arith)
 
