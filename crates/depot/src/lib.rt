@@ -1,53 +1,24 @@
 // The library that a controller links. Every call is answered; the contracts are those of the planner and the pricer, in numbers and words.
-use answers::PriceAnswer;
+use answers::Told;
+use answers::plan_told;
+use answers::price_told;
 use record::read_record;
-use answers::PlanAnswer;
 use tables::leaf_bases;
 use task::Task;
 use whole::Verdict;
 ghost use mathlib.Core.Path.{_≡_};
+ghost use mathlib.Core.List.{List};
+ghost use Prim.Native.Nat.{ℕ};
+ghost use Rattle.task.specs.Factors.{allStates};
 ghost use Rattle.task.specs.Valid.{Valid};
-ghost use Rattle.pricer.specs.Pricer.{pricesOf};
-ghost use Rattle.planner.specs.Planner.{recordPlan};
-ghost use Rattle.depot.specs.Depot.{toldOf, pricedNumber, answered, taskWords, recordWords};
-
-// An answer of the planner in numbers.
-struct Told {
-    number: u32,
-    length: u64,
-    cost: u64,
-    expanded: u64,
-    kept: u64,
-}
-
-// 0 for a plan, 255 for "unsolvable", else the refusal's number, with the answer's values.
-fn in_numbers(answer: PlanAnswer) -> Told
-    ensures { λ r. ⌜ r ≡ toldOf answer ⌝ }
-{
-    match answer {
-        PlanAnswer::Solved(solution, counts) => Told {
-            number: 0,
-            length: solution.length as u64,
-            cost: solution.cost,
-            expanded: counts.expanded as u64,
-            kept: counts.kept as u64,
-        },
-        PlanAnswer::Unsolvable(counts) => Told {
-            number: 255,
-            length: 0,
-            cost: 0,
-            expanded: counts.expanded as u64,
-            kept: counts.kept as u64,
-        },
-        PlanAnswer::Refused(why, counts) => Told {
-            number: planner::refusal_number(why) as u32,
-            length: 0,
-            cost: 0,
-            expanded: counts.expanded as u64,
-            kept: counts.kept as u64,
-        },
-    }
-}
+ghost use Rattle.leaf.specs.Price.{mark};
+ghost use Rattle.price.specs.Demand.{PathMeets};
+ghost use Rattle.record.specs.Record.{readRecord};
+ghost use Rattle.answers.specs.Told.{planTold, priceTold};
+ghost use Rattle.pricer.specs.Pricer.{pricesOf, callOn as pathOn, priceIn};
+ghost use Rattle.planner.specs.Planner.{recordPlan, callOn, givenWith};
+ghost use Rattle.depot.specs.Depot.{answered, forNodes, forRecord, wordsFor, bytesFor};
+ghost use Rattle.depot.specs.Depot.Demands.{Said, JustEnough, Enough};
 
 // The values at the front of `answer`, where it has four words.
 fn write_answer(told: Told, answer: &mut [u64])
@@ -73,41 +44,36 @@ pub extern "C" fn depot_plan(
     table: &mut [u64],
     answer: &mut [u64],
 ) -> u32
-    ensures number { λ r. ⌜ r ≡ toldOf (recordPlan (now («record» .entry)) nodes budget (now (plan .entry)) (now (table .entry)) .answer) .number ⌝ }
+    ensures number { λ r. ⌜ r ≡ planTold (recordPlan (now («record» .entry)) nodes budget (now (plan .entry)) (now (table .entry)) .answer) .number ⌝ }
     ensures bytes { λ r. ⌜ now (plan .exit) ≡ recordPlan (now («record» .entry)) nodes budget (now (plan .entry)) (now (table .entry)) .plan ⌝ }
     ensures words { λ r. ⌜ now (table .exit) ≡ recordPlan (now («record» .entry)) nodes budget (now (plan .entry)) (now (table .entry)) .words ⌝ }
     ensures values { λ r. ⌜ now (answer .exit)
-        ≡ answered (toldOf (recordPlan (now («record» .entry)) nodes budget (now (plan .entry)) (now (table .entry)) .answer)) (now (answer .entry)) ⌝ }
+        ≡ answered (planTold (recordPlan (now («record» .entry)) nodes budget (now (plan .entry)) (now (table .entry)) .answer)) (now (answer .entry)) ⌝ }
+    ensures demands { λ r. ⌜ Said (callOn (now («record» .entry)) nodes (now (plan .entry)) (now (table .entry)))
+        (givenWith (now («record» .entry)) nodes budget (now (table .entry))) r (now (answer .entry)) (now (answer .exit)) (now (plan .exit)) (now (table .exit)) ⌝ }
 {
-    let t = in_numbers(planner::plan(record, nodes, budget, plan, table));
+    let t = plan_told(planner::plan(record, nodes, budget, plan, table));
     let number = t.number;
     write_answer(t, answer);
     number
 }
 
-// 0 for the answer of the pricer with its prices written, else the refusal's number.
-fn priced(answer: PriceAnswer) -> u32
-    ensures { λ r. ⌜ r ≡ pricedNumber answer ⌝ }
-{
-    match answer {
-        PriceAnswer::Prices(count) => 0,
-        PriceAnswer::Refused(why) => pricer::refusal_number(why) as u32,
-    }
-}
-
 // Prices after a path of centre actions: 0, or the refusal's number.
 #[no_mangle]
 pub extern "C" fn depot_prices(record: &[u8], path: &[u8], prices: &mut [u64]) -> u32
-    ensures number { λ r. ⌜ r ≡ pricedNumber (pricesOf (now («record» .entry)) (now (path .entry)) (now (prices .entry)) .answer) ⌝ }
+    ensures number { λ r. ⌜ r ≡ priceTold (pricesOf (now («record» .entry)) (now (path .entry)) (now (prices .entry)) .answer) .number ⌝ }
     ensures words { λ r. ⌜ now (prices .exit) ≡ pricesOf (now («record» .entry)) (now (path .entry)) (now (prices .entry)) .words ⌝ }
+    ensures demands { λ r. ⌜ PathMeets (pathOn (now («record» .entry)) (now (path .entry)) (now (prices .entry))) mark
+        (priceIn (readRecord (now («record» .entry)) .task) (now (prices .exit))) (now (prices .exit)) r ⌝ }
 {
-    priced(pricer::prices(record, path, prices))
+    let t = price_told(pricer::prices(record, path, prices));
+    t.number
 }
 
-// The words that a table for this task and these nodes needs, 0 where the number of nodes is refused.
-fn task_words(task: Task, nodes: u32) -> u64
+// S, the states of all leaves together, of a task that the reader accepted; 0 where the number of nodes is refused.
+fn task_states(task: Task, nodes: u32) -> u64
     requires { ⌜ Valid task ⌝ }
-    ensures { λ r. ⌜ r ≡ taskWords task nodes ⌝ }
+    ensures { λ r. ⌜ r ≡ forNodes (λ s. s) (allStates task) nodes ⌝ }
 {
     if nodes == 0 {
         return 0;
@@ -117,20 +83,47 @@ fn task_words(task: Task, nodes: u32) -> u64
     }
     let bases = leaf_bases(task);
     let leaves = task.leaves as usize;
-    let states = bases[leaves] as u64;
-    (nodes as u64 + 1) * (40 + states)
+    bases[leaves] as u64
 }
 
-// The words that a table for this record and these nodes needs, 0 where the record or the number of nodes is refused.
-#[no_mangle]
-pub extern "C" fn depot_table_words(record: &[u8], nodes: u32) -> u64
-    ensures { λ r. ⌜ r ≡ recordWords (now («record» .entry)) nodes ⌝ }
+// S of the record's task; 0 where the record or the number of nodes is refused.
+fn states_for(record: &[u8], nodes: u32) -> u64
+    ensures { λ r. ⌜ r ≡ forRecord (λ s. s) (now («record» .entry)) nodes ⌝ }
 {
     let r = read_record(record);
     let v = r.verdict;
     let t = r.task;
     match v {
         Verdict::Refused(why) => 0,
-        Verdict::Accepted => task_words(t, nodes),
+        Verdict::Accepted => task_states(t, nodes),
     }
+}
+
+// The words that a table for this record and these nodes needs, 0 where the record or the number of nodes is refused.
+#[no_mangle]
+pub extern "C" fn depot_table_words(record: &[u8], nodes: u32) -> u64
+    ensures words { λ r. ⌜ r ≡ forRecord (wordsFor nodes) (now («record» .entry)) nodes ⌝ }
+    ensures just_enough { λ r. ⌜ ((budget : ℕ) (plan : List ℕ)
+        → JustEnough r (λ table. planTold (recordPlan (now («record» .entry)) nodes budget plan table .answer) .number)) ⌝ }
+{
+    let states = states_for(record, nodes);
+    if states == 0 {
+        return 0;
+    }
+    (nodes as u64 + 1) * (40 + states)
+}
+
+// The bytes that a plan buffer for this record and these nodes needs at most, 0 where the record or the number of nodes is refused: with a buffer of
+// that many bytes no call with these nodes is answered 24.
+#[no_mangle]
+pub extern "C" fn depot_plan_bytes(record: &[u8], nodes: u32) -> u64
+    ensures bytes { λ r. ⌜ r ≡ forRecord (bytesFor nodes) (now («record» .entry)) nodes ⌝ }
+    ensures enough { λ r. ⌜ ((budget : ℕ) (table : List ℕ)
+        → Enough r (λ plan. planTold (recordPlan (now («record» .entry)) nodes budget plan table .answer) .number)) ⌝ }
+{
+    let states = states_for(record, nodes);
+    if states == 0 {
+        return 0;
+    }
+    nodes as u64 * (states + 1)
 }

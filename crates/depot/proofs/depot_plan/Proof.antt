@@ -1,9 +1,12 @@
 -- `depot::depot_plan` meets its contract: the planner's own, in numbers and words. Assumes nothing.
-use mathlib.Core.Path.{ap, _∙_}
+use mathlib.Core.Path.{ap, sym, _∙_}
 use denote.Ref.{now}
 use Rattle.solve.specs.Solve.{Outcome}
-use Rattle.depot.specs.declared.Told.{Told}
-use Rattle.depot.specs.Depot.{toldOf, answered}
+use Rattle.answers.specs.declared.Told.{Told}
+use Rattle.answers.specs.Told.{planTold}
+use Rattle.planner.specs.Planner.{recordPlan}
+use Rattle.planner.specs.Planner.Demands.Laws.{record-meets}
+use Rattle.depot.specs.Depot.{answered}
 use borrow.Author.Needs.{needs}
 use Rattle.depot.proofs.depot_plan.Statement.{statement}
 use Rattle.depot.proofs.depot_plan.Tie as tie
@@ -11,8 +14,8 @@ use Rattle.depot.proofs.depot_plan.Tie as tie
 plan-requires : tie.Need-plan-requires
 plan-requires c κs = search needs
 
-in-numbers-requires : tie.Need-in-numbers-requires
-in-numbers-requires c κs = search needs
+plan-told-requires : tie.Need-plan-told-requires
+plan-told-requires c κs = search needs
 
 write-answer-requires : tie.Need-write-answer-requires
 write-answer-requires c κs = search needs
@@ -28,14 +31,27 @@ same-length-3 c = search needs
 
 returns : tie.Need-returns
 returns c =
+    let s = c .before .before .before .before .before .before .before .before .before .before .before .before .before .before .before .before .args in
     let q = c .before .before .before .before .before .before .before .before .before .plan .ensures .0 in
-    let t = c .before .before .before .before .in-numbers .ensures in (
-      ap (λ (x : Told). x .number) t ∙ ap (λ (o : Outcome). toldOf (o .answer) .number) q,
+    let t = c .before .before .before .before .plan-told .ensures in
+    let number = ap (λ (x : Told). x .number) t ∙ ap (λ (o : Outcome). planTold (o .answer) .number) q in
+    let bytes = ap (λ (o : Outcome). o .plan) q in
+    let words = ap (λ (o : Outcome). o .words) q in
+    let values = c .before .before .write-answer .ensures ∙ ap (λ (x : Told). answered x (now (s .answer))) (t ∙ ap (λ (o : Outcome). planTold (o .answer)) q) in (
+      number,
       (
-        ap (λ (o : Outcome). o .plan) q,
+        bytes,
         (
-          ap (λ (o : Outcome). o .words) q,
-          c .before .before .write-answer .ensures ∙ ap (λ (x : Told). answered x (now (c .before .before .before .before .before .before .before .before .before .before .before .before .before .before .before .before .args .answer))) (t ∙ ap (λ (o : Outcome). toldOf (o .answer)) q),
+          words,
+          (
+            values,
+            record {
+              told = planTold (recordPlan (now (s .«record»)) (s .nodes) (s .budget) (now (s .plan)) (now (s .table)) .answer);
+              number-is = sym number;
+              values = values;
+              meets = rw (bytes, words) (record-meets (now (s .«record»)) (s .nodes) (s .budget) (now (s .plan)) (now (s .table)));
+            },
+          ),
         ),
       ),
     )
@@ -45,7 +61,7 @@ depot-plan-spec =
     tie.close
     (tie.spec
     plan-requires
-    in-numbers-requires
+    plan-told-requires
     write-answer-requires
     same-length
     same-length-2

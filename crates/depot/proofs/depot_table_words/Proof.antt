@@ -1,37 +1,50 @@
--- `depot::depot_table_words` meets its contract: the words for a task that the reader accepted. Assumes nothing.
-use mathlib.Core.Path.{ap, sym, _∙_}
+-- `depot::depot_table_words` meets its contract: the size goes by S, and what it promises follows from the planner's numbers. Assumes nothing.
+use mathlib.Core.Path.{_≡_}
+use native.Mathlib.Nat.{mul-le-mul}
+use native.Mathlib.Omega.{arith}
+use Prim.Native.Nat.{_+_, _*_, _≤_}
 use denote.Ref.{now}
-use Rattle.depot.specs.Depot.{taskWords}
-use Rattle.depot.specs.Depot.Laws.{words-refused, words-accepted}
+use Rattle.depot.specs.Depot.{forRecord, wordsFor}
+use Rattle.depot.specs.Depot.Laws.{size-none, size-some, just-enough}
 use borrow.Author.Needs.{needs}
 use Rattle.depot.proofs.depot_table_words.Statement.{statement}
 use Rattle.depot.proofs.depot_table_words.Tie as tie
 
-read-record-requires : tie.Need-read-record-requires
-read-record-requires c κs = search needs
+-- the size by S, and neither S nor the nodes are many
+sized : (c : tie.Else1) → let s = c .before .before .before .args in
+    (wordsFor (s .nodes) (c .before .states-for .result) ≡ forRecord (wordsFor (s .nodes)) (now (s .«record»)) (s .nodes))
+    × ((c .before .states-for .result ≤ 1024) × (s .nodes ≤ 4096))
+sized c =
+    let s = c .before .before .before .args in
+    size-some (wordsFor (s .nodes)) (now (s .«record»)) (s .nodes) (c .before .states-for .result) (c .before .states-for .ensures) (c .if1 .left)
 
-enum-known-v : tie.Need-enum-known-v
-enum-known-v c = search needs
-
-enum-told : tie.Need-enum-told
-enum-told c = search needs
-
-task-words-requires : tie.Need-task-words-requires
-task-words-requires c κs = c .before .before .before .read-record .ensures .1 (c .enum-told .given .1)
+states-for-requires : tie.Need-states-for-requires
+states-for-requires c κs = search needs
 
 returns : tie.Need-returns
 returns c =
-    let s = c .before .before .before .before .before .before .args in
-    words-refused (now (s .«record»)) (s .nodes) (sym (ap (λ r. r .verdict) (c .before .before .before .before .read-record .ensures .0)) ∙ c .before .v .given .1)
+    let s = c .before .before .before .args in
+    let e = size-none (wordsFor (s .nodes)) (now (s .«record»)) (s .nodes) (c .before .states-for .result) (c .before .states-for .ensures) (c .if1 .taken) in
+    (e, λ budget plan. rw e (just-enough (now (s .«record»)) (s .nodes) budget plan))
+
+add-result : tie.Need-add-result
+add-result c = search needs
+
+add-result-2 : tie.Need-add-result-2
+add-result-2 c = let (_, (few, nodes)) = sized c in omega (arith, few)
+
+mul-result : tie.Need-mul-result
+mul-result c =
+    let s = c .before .before .before .args in
+    let (_, (few, nodes)) = sized c in
+    let most : (s .nodes + 1) * (40 + c .before .states-for .result) ≤ 4097 * 1064 = mul-le-mul {n₂ = 4097} {m₂ = 1064} (omega (arith, nodes)) (omega (arith, few)) in
+    omega (arith, most)
 
 returns-2 : tie.Need-returns-2
 returns-2 c =
-    let s = c .before .before .before .before .before .before .args in
-    let read = c .before .before .before .before .read-record .ensures .0 in
-    words-accepted (now (s .«record»)) (s .nodes) (sym (ap (λ r. r .verdict) read) ∙ c .before .enum-told .given .1)
-    (c .task-words .ensures ∙ ap (λ r. taskWords (r .task) (s .nodes)) read)
+    let s = c .before .before .before .args in
+    let e = sized c .0 in
+    (e, λ budget plan. rw e (just-enough (now (s .«record»)) (s .nodes) budget plan))
 
 pub depot-table-words-spec : {M : Type 1} → statement M
-depot-table-words-spec =
-    tie.close
-    (tie.spec read-record-requires enum-known-v enum-told task-words-requires returns returns-2)
+depot-table-words-spec = tie.close (tie.spec states-for-requires returns add-result add-result-2 mul-result returns-2)

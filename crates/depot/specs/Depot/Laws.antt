@@ -1,20 +1,38 @@
--- The words of an answer and of a table, case by case. Assumes nothing.
-use mathlib.Core.Path.{_≡_, refl, _∙_}
-use mathlib.Core.Bool.{true, false, _&&_}
+-- The words of an answer, and the sizes of what is lent, case by case. Assumes nothing.
+use mathlib.Core.Path.{_≡_, refl, sym, _∙_}
+use mathlib.Core.Logic.{_⊎_, inl, inr}
+use mathlib.Core.Bool.{Bool, true, false, _&&_}
 use mathlib.Core.List.{List, [], _∷_}
-use Prim.Native.Nat.{ℕ, _≤_, _<_}
+use Prim.Native.Nat.{ℕ, zero, suc, _+_, _*_, _≤_, _<_}
+use native.Mathlib.Decide.{decLe}
+use native.Mathlib.Nat.{mul-le-mul-right}
 use native.Mathlib.Omega.{arith}
 use lib.Dec.{leb}
 use lib.ListN.{length, set, drop}
-use borrow.Author.Tests.{lt-leb, le-leb}
-use Rattle.loops.specs.Count.Laws.{and-in}
+use borrow.Author.Tests.{lt-leb, le-leb, leb-true}
+use Rattle.loops.specs.Count.{sum}
+use Rattle.loops.specs.Count.Laws.{and-out}
 use Rattle.task.specs.declared.Task.{Task}
+use Rattle.task.specs.Factors.{states, allStates}
+use Rattle.task.specs.Valid.{Valid}
+use Rattle.task.specs.Star.{number-lt}
 use Rattle.fields.specs.declared.Refusal.{Refusal}
+use Rattle.whole.specs.declared.Verdict.{Verdict}
 use Rattle.whole.specs.declared.Verdict.the-variants.{Accepted, Refused as NotAccepted}
-use Rattle.record.specs.Record.{readRecord}
+use Rattle.record.specs.Record.{verdictNumber, readRecord}
+use Rattle.record.specs.Record.Laws.{accepted-valid}
+use Rattle.answers.specs.declared.Told.{Told}
+use Rattle.answers.specs.Told.{planTold}
+use Rattle.answers.specs.Told.Laws.{record-number}
 use Rattle.solve.specs.Solve.{tableWords}
-use Rattle.depot.specs.declared.Told.{Told}
-use Rattle.depot.specs.Depot.{answered, taskWords, recordWords}
+use Rattle.planner.specs.Planner.{recordPlan, callOn, givenWith}
+use Rattle.planner.specs.Planner.Demands.{Decided, NodesOutside}
+use Rattle.planner.specs.Planner.Demands.Laws.{not-early, not-outside, record-meets}
+use Rattle.planner.specs.Planner.Room.{record-fits}
+use Rattle.depot.specs.Depot.{answered, forNodes, onVerdict, forRecord, wordsFor, bytesFor}
+use Rattle.depot.specs.Depot.Demands.{RefusedEarly, JustEnough, Enough}
+
+-- ---- the answer
 
 -- a slice of less than four words, and one of four or more
 pub answered-short : (t : Told) (answer : List ℕ) → length answer < 4 → answer ≡ answered t answer
@@ -33,29 +51,184 @@ four-words a b c d (x ∷ y ∷ []) h = absurd (omega arith)
 four-words a b c d (x ∷ y ∷ z ∷ []) h = absurd (omega arith)
 four-words a b c d (x ∷ y ∷ z ∷ w ∷ xs) h = refl
 
--- 20, and the nodes that are allowed
-pub words-none : (t : Task) (nodes : ℕ) → nodes ≡ 0 → 0 ≡ taskWords t nodes
-unfolding taskWords
-words-none t nodes e = let f : leb 1 nodes ≡ false = lt-leb 1 nodes (omega arith) in rw (f, taskWords)
+-- ---- sizes
 
-pub words-many : (t : Task) (nodes : ℕ) → 4096 < nodes → 0 ≡ taskWords t nodes
-unfolding taskWords
-words-many t nodes h =
+-- 20, and the nodes that are allowed
+pub nodes-none : (size : ℕ → ℕ) (states nodes : ℕ) → NodesOutside nodes → 0 ≡ forNodes size states nodes
+unfolding forNodes
+nodes-none size states nodes (inl e) = let f : leb 1 nodes ≡ false = lt-leb 1 nodes (omega arith) in rw (f, forNodes)
+nodes-none size states nodes (inr h) =
     let f : leb 1 nodes ≡ true = le-leb 1 nodes (omega arith) in
     let g : leb nodes 4096 ≡ false = lt-leb nodes 4096 h in
-    rw (f, g, taskWords)
+    rw (f, g, forNodes)
 
-pub words-some : (t : Task) (nodes n : ℕ) → 1 ≤ nodes → nodes ≤ 4096 → n ≡ tableWords t nodes → n ≡ taskWords t nodes
-unfolding taskWords
-words-some t nodes n some few e =
-    let f : (leb 1 nodes && leb nodes 4096) ≡ true = and-in {a = leb 1 nodes} (le-leb 1 nodes some) (le-leb nodes 4096 few) in
-    e ∙ rw (f, taskWords)
+pub nodes-some : (size : ℕ → ℕ) (states nodes : ℕ) → 1 ≤ nodes → nodes ≤ 4096 → size states ≡ forNodes size states nodes
+unfolding forNodes
+nodes-some size states nodes some few =
+    let f : leb 1 nodes ≡ true = le-leb 1 nodes some in
+    let g : leb nodes 4096 ≡ true = le-leb nodes 4096 few in
+    rw (f, g, forNodes)
 
-module _ (rec : List ℕ) (nodes : ℕ) where
-  pub words-refused : {why : Refusal} → readRecord rec .verdict ≡ NotAccepted why → 0 ≡ recordWords rec nodes
-  unfolding recordWords
-  words-refused e = rw e
+module _ (size : ℕ → ℕ) (rec : List ℕ) (nodes : ℕ) where
+  -- a refused record, and an accepted one
+  pub record-none : {why : Refusal} → readRecord rec .verdict ≡ NotAccepted why → 0 ≡ forRecord size rec nodes
+  unfolding forRecord
+  record-none e = rw e
 
-  pub words-accepted : {n : ℕ} → readRecord rec .verdict ≡ Accepted → n ≡ taskWords (readRecord rec .task) nodes → n ≡ recordWords rec nodes
-  unfolding recordWords
-  words-accepted e f = f ∙ rw e
+  pub record-some : {n : ℕ} → readRecord rec .verdict ≡ Accepted → n ≡ forNodes size (allStates (readRecord rec .task)) nodes → n ≡ forRecord size rec nodes
+  unfolding forRecord
+  record-some e f = f ∙ rw e
+
+-- an accepted task has a leaf state
+states-some : (t : Task) → Valid t → 1 ≤ allStates t
+unfolding allStates sum
+states-some t ok = go (t .leaves) refl
+  where
+    go : (n : ℕ) → t .leaves ≡ n → 1 ≤ sum n (λ i. states t (suc i))
+    go zero e = absurd (omega (arith, ok .fields .some-leaf))
+    go (suc n) e = omega (arith, number-lt t (suc n) (ok .fields .initial-inside))
+
+-- the record or the number of nodes is refused: every size is 0, and every call is refused early
+record Blank (rec : List ℕ) (nodes : ℕ) : Type 0 where
+  sizes : (size : ℕ → ℕ) → forRecord size rec nodes ≡ 0
+  early : (budget : ℕ) (plan words : List ℕ) → RefusedEarly (planTold (recordPlan rec nodes budget plan words .answer) .number)
+
+-- neither is: sizes go by S
+record Whole (rec : List ℕ) (nodes : ℕ) : Type 0 where
+  read : verdictNumber (readRecord rec .verdict) ≡ 0
+  some-nodes : 1 ≤ nodes
+  few-nodes : nodes ≤ 4096
+  some-states : 1 ≤ allStates (readRecord rec .task)
+  few-states : allStates (readRecord rec .task) ≤ 1024
+  sizes : (size : ℕ → ℕ) → forRecord size rec nodes ≡ size (allStates (readRecord rec .task))
+
+-- what the planner's number says
+abbrev decided : (rec : List ℕ) (nodes budget : ℕ) (plan words : List ℕ)
+    → Decided (callOn rec nodes plan words) (givenWith rec nodes budget words) (planTold (recordPlan rec nodes budget plan words .answer))
+decided rec nodes budget plan words = record-meets rec nodes budget plan words .decided
+
+-- one of the two is so
+size-cases : (rec : List ℕ) (nodes : ℕ) → Blank rec nodes ⊎ Whole rec nodes
+size-cases rec nodes = go (readRecord rec .verdict) refl
+  where
+    outside : readRecord rec .verdict ≡ Accepted → NodesOutside nodes → Blank rec nodes
+    outside e h =
+        record {
+          sizes = λ size. sym (record-some size rec nodes e (nodes-none size (allStates (readRecord rec .task)) nodes h));
+          early = λ budget plan words. let n = decided rec nodes budget plan words .nodes-wrong .1 (rw e, h) in (omega arith, omega arith);
+        }
+
+    inside : readRecord rec .verdict ≡ Accepted → 1 ≤ nodes → nodes ≤ 4096 → Whole rec nodes
+    inside e some few =
+        record {
+          read = rw e;
+          some-nodes = some;
+          few-nodes = few;
+          some-states = states-some (readRecord rec .task) (accepted-valid rec e);
+          few-states = accepted-valid rec e .whole .few-all-states;
+          sizes = λ size. sym (record-some size rec nodes e (nodes-some size (allStates (readRecord rec .task)) nodes some few));
+        }
+
+    which : readRecord rec .verdict ≡ Accepted → Dec (1 ≤ nodes) → Dec (nodes ≤ 4096) → Blank rec nodes ⊎ Whole rec nodes
+    which e (yes some) (yes few) = inr (inside e some few)
+    which e (yes some) (no n) = inl (outside e (inr (omega arith)))
+    which e (no n) d = inl (outside e (inl (omega arith)))
+
+    go : (v : Verdict) → readRecord rec .verdict ≡ v → Blank rec nodes ⊎ Whole rec nodes
+    go Accepted e = which e (decLe 1 nodes) (decLe nodes 4096)
+    go (NotAccepted why) e =
+        let (some, few) = record-number why in
+        inl (record {
+          sizes = λ size. sym (record-none size rec nodes e);
+          early = λ budget plan words. let n = decided rec nodes budget plan words .in-record _ some few .1 (rw e) in (omega arith, omega arith);
+        })
+
+-- no state is told: the size is 0. A state is told: the size goes by it, and neither it nor the nodes are many
+pub size-none : (size : ℕ → ℕ) (rec : List ℕ) (nodes s : ℕ) → s ≡ forRecord (λ x. x) rec nodes → s ≡ 0 → 0 ≡ forRecord size rec nodes
+size-none size rec nodes s e z = go (size-cases rec nodes)
+  where
+    go : Blank rec nodes ⊎ Whole rec nodes → 0 ≡ forRecord size rec nodes
+    go (inl b) = sym (b .sizes size)
+    go (inr w) = absurd (omega (arith, w .sizes (λ x. x), w .some-states))
+
+pub size-some : (size : ℕ → ℕ) (rec : List ℕ) (nodes s : ℕ) → s ≡ forRecord (λ x. x) rec nodes → (s ≡ 0 → ⊥)
+    → (size s ≡ forRecord size rec nodes) × ((s ≤ 1024) × (nodes ≤ 4096))
+size-some size rec nodes s e n = go (size-cases rec nodes)
+  where
+    go : Blank rec nodes ⊎ Whole rec nodes → (size s ≡ forRecord size rec nodes) × ((s ≤ 1024) × (nodes ≤ 4096))
+    go (inl b) = absurd (n (e ∙ b .sizes (λ x. x)))
+    go (inr w) =
+        let q : s ≡ allStates (readRecord rec .task) = e ∙ w .sizes (λ x. x) in
+        (rw q (sym (w .sizes size)), (rw q (w .few-states), w .few-nodes))
+
+-- ---- what the sizes promise
+
+-- the words that the demands speak of
+need-is : (t : Task) (nodes : ℕ) → tableWords t nodes ≡ wordsFor nodes (allStates t)
+unfolding tableWords
+need-is t nodes = refl
+
+-- neither size is 0 where there is a node
+words-positive : (nodes states : ℕ) → wordsFor nodes states ≡ 0 → ⊥
+words-positive nodes states e = absurd (omega (arith, mul-le-mul-right (40 + states) (one-le nodes)))
+  where
+    one-le : (n : ℕ) → 1 ≤ n + 1
+    one-le n = omega arith
+
+bytes-positive : (nodes states : ℕ) → 1 ≤ nodes → bytesFor nodes states ≡ 0 → ⊥
+bytes-positive nodes states some e = absurd (omega (arith, mul-le-mul-right (states + 1) some))
+
+module _ (rec : List ℕ) (nodes budget : ℕ) where
+  -- a call that is not refused early: 21, or an answer of its search
+  not-refused : Whole rec nodes → (plan words : List ℕ) → RefusedEarly (planTold (recordPlan rec nodes budget plan words .answer) .number) → ⊥
+  not-refused w plan words r = go (decLe (tableWords (readRecord rec .task) nodes) (length words))
+    where
+      d : Decided (callOn rec nodes plan words) (givenWith rec nodes budget words) (planTold (recordPlan rec nodes budget plan words .answer))
+      d = decided rec nodes budget plan words
+
+      go : Dec (tableWords (readRecord rec .task) nodes ≤ length words) → ⊥
+      go (yes long) =
+          not-early _ (r .0) (omega (arith, r .1))
+          (d .searched .1 (record { read = w .read; some-nodes = w .some-nodes; few-nodes = w .few-nodes; long-table = long }))
+      go (no n) = let e = d .table-short .1 (w .read, (w .some-nodes, (w .few-nodes, omega arith))) in absurd (omega (arith, r .1))
+
+  pub just-enough : (plan : List ℕ) → JustEnough (forRecord (wordsFor nodes) rec nodes) (λ table. planTold (recordPlan rec nodes budget plan table .answer) .number)
+  just-enough plan = go (size-cases rec nodes)
+    where
+      number : List ℕ → ℕ
+      number table = planTold (recordPlan rec nodes budget plan table .answer) .number
+
+      go : Blank rec nodes ⊎ Whole rec nodes → JustEnough (forRecord (wordsFor nodes) rec nodes) number
+      go (inl b) =
+          rw (b .sizes (wordsFor nodes))
+          (record {
+            none = λ table. (λ _. b .early budget plan table, λ _. refl);
+            short = λ table. (λ e. absurd (omega (arith, b .early budget plan table .1)), λ l. absurd (omega arith));
+          })
+      go (inr w) =
+          rw (w .sizes (wordsFor nodes))
+          (record {
+            none = λ table. (λ e. absurd (words-positive nodes (allStates (readRecord rec .task)) e), λ r. absurd (not-refused w plan table r));
+            short = λ table. (
+              λ e. rw (need-is (readRecord rec .task) nodes) at (decided rec nodes budget plan table .table-short .0 e .1 .1 .1),
+              λ l. decided rec nodes budget plan table .table-short .1
+                  (w .read, (w .some-nodes, (w .few-nodes, rw (need-is (readRecord rec .task) nodes) l)))
+            );
+          })
+
+  pub enough : (table : List ℕ) → Enough (forRecord (bytesFor nodes) rec nodes) (λ plan. planTold (recordPlan rec nodes budget plan table .answer) .number)
+  enough table = go (size-cases rec nodes)
+    where
+      go : Blank rec nodes ⊎ Whole rec nodes → Enough (forRecord (bytesFor nodes) rec nodes) (λ plan. planTold (recordPlan rec nodes budget plan table .answer) .number)
+      go (inl b) =
+          rw (b .sizes (bytesFor nodes))
+          (record {
+            none = λ plan. (λ _. b .early budget plan table, λ _. refl);
+            fits = λ plan l e. absurd (omega (arith, b .early budget plan table .1));
+          })
+      go (inr w) =
+          rw (w .sizes (bytesFor nodes))
+          (record {
+            none = λ plan. (λ e. absurd (bytes-positive nodes (allStates (readRecord rec .task)) (w .some-nodes) e), λ r. absurd (not-refused w plan table r));
+            fits = λ plan l e. absurd (omega (arith, record-fits rec nodes budget plan table e));
+          })

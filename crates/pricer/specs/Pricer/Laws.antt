@@ -232,7 +232,7 @@ module _ (c : PathCall) where
             }
 
 -- an outcome as the demands see it
-abbrev Met : PathCall → Outcome → Type 0
+abbrev pub Met : PathCall → Outcome → Type 0
 Met c o = PathMeets c mark (priceIn (c .task) (o .words)) (o .words) (priceTold (o .answer) .number)
 
 -- a refusal leaves the slice as it was
