@@ -5,15 +5,15 @@
 // counts both. The last line counts the moves of all leaves and says whether the goal holds at the end.
 //
 // The record stands on standard input; where the command names files, each of them holds one.
+use answers::PlanAnswer;
+use answers::PlanRefusal;
+use answers::Solution;
+use answers::plan_refusal_number;
 use libc::STDIN_FILENO;
 use libc::STDOUT_FILENO;
 use planner::fitting_nodes;
 use planner::plan;
-use answers::plan_refusal_number;
 use record::read_record;
-use answers::PlanAnswer;
-use answers::PlanRefusal;
-use answers::Solution;
 use steps::holds;
 use steps::put;
 use task::FREE;
@@ -376,7 +376,7 @@ fn run_task(t: Task, rec: &[u8])
         PlanAnswer::Unsolvable(_) => {
             io::write_all(STDOUT_FILENO, b"unsolvable\n");
         }
-        PlanAnswer::Refused(why, _) => print_refused(refusal_number(why)),
+        PlanAnswer::Refused(why, _) => print_refused(plan_refusal_number(why)),
     }
 }
 

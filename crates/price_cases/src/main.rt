@@ -6,12 +6,12 @@
 // The line of an answered call has the number of prices, a checksum over all of them and the first twelve, a minus sign for unreachable;
 // the line of a refused one has the refusal's number. The lent words lie between other words. All of them hold a pattern before the call;
 // behind it, those outside the lent part must hold it still, and so must those behind the prices, or on a refusal all.
-use libc::STDIN_FILENO;
-use libc::STDOUT_FILENO;
 use answers::PriceAnswer;
 use answers::PriceRefusal;
-use pricer::prices;
 use answers::price_refusal_number;
+use libc::STDIN_FILENO;
+use libc::STDOUT_FILENO;
+use pricer::prices;
 ghost use mathlib.Core.Path.{_≡_};
 ghost use Prim.Native.Nat.{_<_, _≤_};
 ghost use lib.ListN.{length};
@@ -130,7 +130,7 @@ fn print_answered(words: &[u64; 1116], count: usize) {
 // The rest of a refused call's line.
 fn print_refused(words: &[u64; 1116], why: PriceRefusal) {
     io::write_all(STDOUT_FILENO, b" refused");
-    print_number(refusal_number(why) as u64);
+    print_number(price_refusal_number(why) as u64);
     print_kept(same(words, 0, ALL));
 }
 

@@ -4,6 +4,7 @@ pub mod Staged
 pub mod Real
 pub mod Depths
 pub mod WayBack
+pub mod Depth
 pub mod Stages
 pub mod Reaches
 pub mod Found
@@ -42,7 +43,7 @@ unfoldable pub tightTo : Task → ℕ → List ℕ → ℕ → ℕ → ℕ
 tightTo t l P a x = elim (to t l a x) [ zero ↦ 0 | suc y ↦ cond (tight t l P a x y) (suc y) 0 ]
 
 -- "a state's depth is the fewest leaf actions, since the layer began, that give its price": settling once more, each action at cost 1, from the
--- states that have kept the price that they began with
+-- states that have kept the price that they began with. Depth proves that this is the fewest (depth-fewest)
 unfoldable pub depths : Task → ℕ → List ℕ → List ℕ → List ℕ → List ℕ
 depths t l acts B P =
     settled mark (length acts) (λ j. 1) (λ j x. tightTo t l P (getD acts j 0) x)

@@ -10,7 +10,7 @@ use lib.ListN.{length, getD, take, drop, List·getD-append}
 use lib.Seq.{getD-take, getD-drop, drop-at}
 use borrow.Author.Tests.{ltb-true, lt-ltb, lt-leb, le-leb, leb-true, leb-false}
 use Rattle.loops.specs.Count.{all, sum}
-use Rattle.loops.specs.Count.Laws.{and-in, and-out, all-out, all-ext, sum-ext}
+use Rattle.loops.specs.Count.Laws.{and-in, and-out, all-out, all-fails, all-ext, sum-ext}
 use Rattle.task.specs.declared.Task.{Task}
 use Rattle.task.specs.Meaning.{initial}
 use Rattle.task.specs.Factors.{centreAction, states, allStates, leafCost}
@@ -40,17 +40,6 @@ use Rattle.answers.specs.declared.PriceRefusal.the-variants.{InRecord as PriceI
 use Rattle.answers.specs.Told.{priceRefusalNumber, priceTold}
 use Rattle.answers.specs.Told.Laws.{record-number}
 use Rattle.pricer.specs.Pricer.{Outcome, refuse, unless, onVerdict, pathFits, atEnd, taskPrices, pricesOf, callOn, priceIn}
-
--- a number at which a test fails that does not pass at all of them
-all-fails : (n : ℕ) (p : ℕ → Bool) → all n p ≡ false → (k : ℕ) × ((k < n) × (p k ≡ false))
-unfolding all
-all-fails zero p e = absurd (true≢false e)
-all-fails (suc n) p e = go (all n p) refl (p n) refl (all-fails n p)
-  where
-    go : (a : Bool) → all n p ≡ a → (b : Bool) → p n ≡ b → (all n p ≡ false → (k : ℕ) × ((k < n) × (p k ≡ false))) → (k : ℕ) × ((k < suc n) × (p k ≡ false))
-    go true f true g r = absurd (true≢false (sym (and-in f g) ∙ e))
-    go true f false g r = (n, (omega arith, g))
-    go false f b g r = let w = r f in (w .0, (omega (arith, w .1 .0), w .1 .1))
 
 -- ---- the path
 

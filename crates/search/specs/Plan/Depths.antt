@@ -134,7 +134,7 @@ walk-cases (step {y} {w} a r h e) = inr (record { act = a; source = y; before = 
 -- ---- the depths of a settled layer
 
 -- what the tight edges make of a state: those of the settled prices, by the enabled actions
-abbrev edges : Task → ℕ → Centre → List ℕ → ℕ → ℕ → ℕ
+abbrev pub edges : Task → ℕ → Centre → List ℕ → ℕ → ℕ → ℕ
 edges t l c B j x = tightTo t l (settleLeaf t l c B) (getD (enabled t l c) j 0) x
 
 -- the depths of a layer of leaf l with centre c that began with prices B
@@ -161,7 +161,7 @@ module _ (t : Task) (ok : Valid t) (i : ℕ) (m : i < t .leaves) (c : Centre) (B
   edges-ranged j x y h k e = to-in t ok (suc i) _ x y (enabled-at t (suc i) c j h .0) (tightTo-out t (suc i) (settleLeaf t (suc i) c B) _ x y e .0)
 
   -- a tight edge leads one deeper at most
-  depth-step : (x j y : ℕ) → x < states t (suc i) → j < length (enabled t (suc i) c) → edges t (suc i) c B j x ≡ suc y
+  pub depth-step : (x j y : ℕ) → x < states t (suc i) → j < length (enabled t (suc i) c) → edges t (suc i) c B j x ≡ suc y
       → getD (depthsIn t (suc i) c B) y mark ≤ getD (depthsIn t (suc i) c B) x mark + 1
   unfolding depths Closed
   depth-step x j y h k e =
@@ -175,7 +175,7 @@ module _ (t : Task) (ok : Valid t) (i : ℕ) (m : i < t .leaves) (c : Centre) (B
       omega (arith, leaf-length t (suc i) c B, len)
 
   -- a state that has kept its price has depth 0
-  depth-kept : (x : ℕ) → getD (settleLeaf t (suc i) c B) x mark < mark → getD B x mark ≡ getD (settleLeaf t (suc i) c B) x mark → getD (depthsIn t (suc i) c B) x mark ≡ 0
+  pub depth-kept : (x : ℕ) → getD (settleLeaf t (suc i) c B) x mark < mark → getD B x mark ≡ getD (settleLeaf t (suc i) c B) x mark → getD (depthsIn t (suc i) c B) x mark ≡ 0
   unfolding depths
   depth-kept x h e =
       omega (arith, settled-below mark (length (enabled t (suc i) c)) (λ j. 1) (edges t (suc i) c B) (depth0 B (settleLeaf t (suc i) c B)) x, depth0-in B (settleLeaf t (suc i) c B) x h e)

@@ -19,20 +19,13 @@ use Rattle.search.specs.Explore.Rounds.{explored-base}
 use Rattle.search.specs.Plan.{lowest, source, back, begins, backIn, goalState, planOf}
 use Rattle.search.specs.Plan.Real.{Real, node-part, begins-length, begins-cap}
 use Rattle.search.specs.Plan.Depths.{depth-bound, depth-all}
+use Rattle.search.specs.Plan.WayBack.{back-count}
 use Rattle.search.specs.Plan.Stages.{priceIn, Priced, backIn-led, over-is}
 use Rattle.search.specs.Plan.Reaches.{goal-priced}
 use Rattle.search.specs.Plan.Found.{explored-real}
 use Rattle.search.specs.Plan.Backwards.{layerBack, statesBefore, planBack, planBack-last, planBack-more, plan-back}
 
 -- ---- inside a layer
-
--- the way back has as many actions as the depth from which it starts
-back-count : (t : Task) (l : ℕ) (acts P D : List ℕ) (k y : ℕ) → length (back t l acts P D k y .acts) ≡ k
-unfolding back
-back-count t l acts P D zero y = refl
-back-count t l acts P D (suc k) y =
-    let a = getD acts (lowest (length acts) (λ j. any (length P) (source t l P D k y (getD acts j 0)))) 0 in
-    simp length-append (omega (arith, back-count t l acts P D k (lowest (length P) (source t l P D k y a))))
 
 module _ (t : Task) (ok : Valid t) (s : Search) (r : Real t s) where
   -- from a state whose price is below the mark it has no more than the leaf has states

@@ -4,7 +4,7 @@ use mathlib.Core.Bool.{true}
 use mathlib.Core.List.{List}
 use Prim.Native.Nat.{ℕ, zero, suc, _+_, _<_}
 use native.Mathlib.Omega.{arith}
-use lib.ListN.{length, getD}
+use lib.ListN.{length, getD, length-append}
 use borrow.Author.Tests.{eqb-true, eq-eqb}
 use Rattle.loops.specs.Count.{any}
 use Rattle.loops.specs.Count.Laws.{and-in, and-out, any-in, any-out}
@@ -41,6 +41,12 @@ module _ (t : Task) (l : ℕ) (P D : List ℕ) (k y a x : ℕ) where
       (w .0, w .1, eqb-true (getD D x mark) k (u .1))
 
 -- ---- back
+
+-- the way back from depth k has k actions
+pub back-count : (t : Task) (l : ℕ) (acts P D : List ℕ) (k y : ℕ) → length (back t l acts P D k y .acts) ≡ k
+unfolding back
+back-count t l acts P D zero y = refl
+back-count t l acts P D (suc k) y = rw (length-append, back-count t l acts P D k) (omega arith)
 
 -- actions that lead inside a layer with prices P from a state to y: the state has kept its price of B, and they add up to the price of y
 pub record Led (t : Task) (l : ℕ) (c : Centre) (B P : List ℕ) (y : ℕ) (b : Back) : Type 0 where

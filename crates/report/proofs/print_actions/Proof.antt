@@ -1,10 +1,10 @@
--- `plan::print_actions` is safe and ends. Assumes nothing.
+-- `report::print_actions` is safe and ends. Assumes nothing.
 use Prim.Native.Nat.{_≤_, _-_}
 use mathlib.Core.Path.{_≡_}
 use lib.ListN.{length as count}
 use borrow.Author.Needs.{needs}
-use Rattle.plan.proofs.print_actions.Statement.{statement}
-use Rattle.plan.proofs.print_actions.Tie as tie
+use Rattle.report.proofs.print_actions.Statement.{statement}
+use Rattle.report.proofs.print_actions.Tie as tie
 
 abbrev Inv-loop : tie.InvT-loop
 Inv-loop plan length k₀ k-end k = (k ≤ count plan) × (k-end ≡ count plan)
