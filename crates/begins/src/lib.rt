@@ -1,6 +1,7 @@
 // The begin of a layer behind a centre action, and what makes it cheap: only leaves that the action moves pass, and an action that is stuck makes none.
 use keys::least;
 use leaf::add_price;
+use leaf::fill;
 use leaf::pass;
 use leaf::passes;
 use rows::sign_of;
@@ -97,6 +98,7 @@ fn carry(old: &[u64], moves: &[u16], at: usize, still: u8, new: &mut [u64]) -> u
     if still != 0 {
         return 0;
     }
+    fill(new);
     pass(old, moves, at, new);
     least(&new[..]) - least(old)
 }

@@ -68,3 +68,7 @@ nextField rec kind k =
 -- "nothing follows": the record has just the bytes that the bits before bit k need
 abbrev pub endsAt : List ℕ → ℕ → Bool
 endsAt rec k = eqb (length rec) ((k + 7) / 8)
+
+-- "Zero bits fill the last byte": the number that the bits from bit k to the end of its byte write
+abbrev pub fillOf : List ℕ → ℕ → ℕ
+fillOf rec k = fieldOf rec k ((k + 7) / 8 * 8 - k)

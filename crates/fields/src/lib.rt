@@ -1,8 +1,10 @@
 // The fields of a task record, most significant bit first, and what a record can be refused for.
 ghost use mathlib.Core.Path.{_≡_};
+ghost use mathlib.Core.Bool.{_&&_};
 ghost use Prim.Native.Nat.{_+_, _*_, _<_, _≤_, _^_};
+ghost use lib.Dec.{eqb};
 ghost use lib.ListN.{length};
-ghost use Rattle.fields.specs.Fields.{fieldOf, nextField, endsAt};
+ghost use Rattle.fields.specs.Fields.{fieldOf, nextField, endsAt, fillOf};
 ghost use Rattle.fields.specs.Answers.{numberOf, fieldTold};
 
 // The width of every field in bits, by its kind.
@@ -72,7 +74,7 @@ pub enum FieldRead {
 }
 
 // The number that `width` bits from bit `at` on write; the record has them.
-pub fn bits(rec: &[u8], at: usize, width: usize) -> u16
+fn bits(rec: &[u8], at: usize, width: usize) -> u16
     requires { ⌜ (at < 2 ^ 32) × (width ≤ 12) × (at + width ≤ 8 * length (now rec)) ⌝ }
     ensures { λ r. ⌜ r ≡ fieldOf (now (rec .entry)) at width ⌝ }
 {
@@ -100,12 +102,16 @@ fn field_at(rec: &[u8], at: usize, kind: usize) -> FieldRead
     FieldRead::Bits(value, at + width)
 }
 
-// Whether the record has just the bytes that the bits before `at` need.
+// Whether zero bits fill the byte in which bit `at` lies, and nothing follows: the work, on a slice and a number.
 fn ends_at(rec: &[u8], at: usize) -> bool
     requires { ⌜ at < 2 ^ 32 ⌝ }
-    ensures { λ r. ⌜ r ≡ endsAt (now (rec .entry)) at ⌝ }
+    ensures { λ r. ⌜ r ≡ (endsAt (now (rec .entry)) at && eqb (fillOf (now (rec .entry)) at) 0) ⌝ }
 {
-    rec.len() == (at + 7) / 8
+    let bytes = (at + 7) / 8;
+    if rec.len() != bytes {
+        return false;
+    }
+    bits(rec, at, bytes * 8 - at) == 0
 }
 
 // A bit reader: the record it was given and the bit it has reached. Each function over one takes it apart and leaves the work to a
@@ -137,10 +143,10 @@ pub fn moved<'a>(r: BitReader<'a>, at: usize) -> BitReader<'a>
     BitReader { bytes: r.bytes, at }
 }
 
-// Whether the reader has reached the record's end: at most the fill of its last byte is left.
+// Whether the reader has reached the record's end: zero bits fill the last byte, and nothing follows.
 pub fn ended<'a>(r: BitReader<'a>) -> bool
     requires { ⌜ r .at < 2 ^ 32 ⌝ }
-    ensures { λ b. ⌜ b ≡ endsAt (now (r .entry .bytes)) (r .entry .at) ⌝ }
+    ensures { λ b. ⌜ b ≡ (endsAt (now (r .entry .bytes)) (r .entry .at) && eqb (fillOf (now (r .entry .bytes)) (r .entry .at)) 0) ⌝ }
 {
     ends_at(r.bytes, r.at)
 }
@@ -156,7 +162,7 @@ pub fn field(rec: &[u8], at: usize, kind: usize) -> FieldRead
 // Whether a reader of the record that is at bit `at` has reached the end. Its parameters are plain as well.
 pub fn at_end(rec: &[u8], at: usize) -> bool
     requires { ⌜ at < 2 ^ 32 ⌝ }
-    ensures { λ r. ⌜ r ≡ endsAt (now (rec .entry)) at ⌝ }
+    ensures { λ r. ⌜ r ≡ (endsAt (now (rec .entry)) at && eqb (fillOf (now (rec .entry)) at) 0) ⌝ }
 {
     ended(moved(reader(rec), at))
 }

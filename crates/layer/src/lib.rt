@@ -1,5 +1,4 @@
 // Layers: the prices of all leaves. A layer begins with what comes through a centre action, and settles by the leaf actions that its centre enables.
-use leaf::fill;
 use leaf::pass;
 use leaf::passes;
 use settle::settle;
@@ -10,11 +9,12 @@ ghost use mathlib.Core.Bool.{not, _&&_, _||_};
 ghost use mathlib.Core.List.{[], _++_};
 ghost use Prim.Native.Nat.{ℕ, _+_, _*_, _-_, _<_, _≤_};
 ghost use lib.Dec.{eqb};
-ghost use lib.ListN.{length, getD, drop};
+ghost use lib.ListN.{length, getD, drop, replicate};
 ghost use Rattle.loops.specs.Count.{list};
 ghost use Rattle.task.specs.Meaning.{met};
+ghost use Rattle.leaf.specs.Price.{mark};
 ghost use Rattle.layer.specs.Board.{Sound, metOn, enabledOn, settleOn, firstOn, beginOn, settledOn, nextOn, appliesOn};
-ghost use Rattle.layer.specs.Lent.{Front, boardOf, testsOf, firstLeafOn};
+ghost use Rattle.layer.specs.Lent.{Front, Unreached, boardOf, testsOf, firstLeafOn};
 ghost use Rattle.layer.specs.First.{First, Firsts, asksOf};
 
 // The conditions of an action.
@@ -182,7 +182,7 @@ fn settle_leaf(
     settle(prices, moves, row, at, costs, &acts[..count], count);
 }
 
-// The first prices of the leaf behind i leaves: its initial state has price 0, and settling reaches the others.
+// The first prices of the leaf behind i leaves: every state starts as unreachable, its initial state has price 0, and settling reaches the others.
 fn first_leaf(
     leaves: usize,
     actions: usize,
@@ -198,11 +198,10 @@ fn first_leaf(
     prices: &mut [u64],
 )
     requires { ⌜ Sound (boardOf leaves actions (now bases) (now moves) (now costs) (now kinds) factors (now conditions))
-        × (i < leaves) × (start < length (now prices)) × (length (now prices) ≡ getD (now bases) (i + 1) 0 - getD (now bases) i 0) ⌝ }
+        × (i < leaves) × (start < length (now prices)) × (now prices ≡ replicate (getD (now bases) (i + 1) 0 - getD (now bases) i 0) mark) ⌝ }
     ensures { λ _. ⌜ now (prices .exit) ≡ firstLeafOn (boardOf leaves actions (now (bases .entry)) (now (moves .entry)) (now (costs .entry)) (now (kinds .entry))
         factors (now (conditions .entry))) i centre start ⌝ }
 {
-    fill(prices);
     prices[start] = 0;
     settle_leaf(
         leaves,
@@ -219,7 +218,8 @@ fn first_leaf(
     );
 }
 
-// The first layer: the prices of all leaves, one behind the other, at the front of `new`. Leaf i + 1 begins in state `starts[i]`.
+// The first layer: the prices of all leaves, one behind the other, at the front of `new`, where every state starts as unreachable. Leaf i + 1 begins
+// in state `starts[i]`.
 pub fn first_layer(
     leaves: usize,
     actions: usize,
@@ -235,7 +235,8 @@ pub fn first_layer(
 )
     requires { ⌜ Sound (boardOf leaves actions (now bases) (now moves) (now costs) (now kinds) factors (now conditions))
         × (getD (now bases) leaves 0 ≤ length (now new)) × (leaves ≤ length (now starts))
-        × ((i : ℕ) → i < leaves → getD (now starts) i 0 < getD (now bases) (i + 1) 0 - getD (now bases) i 0) ⌝ }
+        × ((i : ℕ) → i < leaves → getD (now starts) i 0 < getD (now bases) (i + 1) 0 - getD (now bases) i 0)
+        × Unreached (getD (now bases) leaves 0) (now new) ⌝ }
     ensures { λ _. ⌜ now (new .exit) ≡ firstOn (boardOf leaves actions (now (bases .entry)) (now (moves .entry)) (now (costs .entry)) (now (kinds .entry))
         factors (now (conditions .entry))) (now (starts .entry)) centre ++ drop (getD (now (bases .entry)) leaves 0) (now (new .entry)) ⌝ }
 {
@@ -259,7 +260,8 @@ pub fn first_layer(
     }
 }
 
-// The begin of the layer behind a centre action, at the front of `new`: what comes through of the prices of `old`, before it settles.
+// The begin of the layer behind a centre action, at the front of `new`, where every state starts as unreachable: what comes through of the prices of
+// `old`, before it settles.
 pub fn begin_layer(
     leaves: usize,
     actions: usize,
@@ -274,7 +276,8 @@ pub fn begin_layer(
     new: &mut [u64],
 )
     requires { ⌜ Sound (boardOf leaves actions (now bases) (now moves) (now costs) (now kinds) factors (now conditions))
-        × (action < actions) × (getD (now bases) leaves 0 ≤ length (now old)) × (getD (now bases) leaves 0 ≤ length (now new)) ⌝ }
+        × (action < actions) × (getD (now bases) leaves 0 ≤ length (now old)) × (getD (now bases) leaves 0 ≤ length (now new))
+        × Unreached (getD (now bases) leaves 0) (now new) ⌝ }
     ensures { λ _. ⌜ now (new .exit) ≡ beginOn (boardOf leaves actions (now (bases .entry)) (now (moves .entry)) (now (costs .entry)) (now (kinds .entry))
         factors (now (conditions .entry))) action (now (old .entry)) ++ drop (getD (now (bases .entry)) leaves 0) (now (new .entry)) ⌝ }
 {
@@ -328,7 +331,8 @@ fn settle_layer(
     }
 }
 
-// The layer behind a centre action, at the front of `new`; `old` has the prices before it, and `centre` is the centre state behind it.
+// The layer behind a centre action, at the front of `new`, where every state starts as unreachable; `old` has the prices before it, and `centre` is the
+// centre state behind it.
 pub fn next_layer(
     leaves: usize,
     actions: usize,
@@ -344,7 +348,8 @@ pub fn next_layer(
     new: &mut [u64],
 )
     requires { ⌜ Sound (boardOf leaves actions (now bases) (now moves) (now costs) (now kinds) factors (now conditions))
-        × (action < actions) × (getD (now bases) leaves 0 ≤ length (now old)) × (getD (now bases) leaves 0 ≤ length (now new)) ⌝ }
+        × (action < actions) × (getD (now bases) leaves 0 ≤ length (now old)) × (getD (now bases) leaves 0 ≤ length (now new))
+        × Unreached (getD (now bases) leaves 0) (now new) ⌝ }
     ensures { λ _. ⌜ now (new .exit) ≡ nextOn (boardOf leaves actions (now (bases .entry)) (now (moves .entry)) (now (costs .entry)) (now (kinds .entry))
         factors (now (conditions .entry))) centre action (now (old .entry)) ++ drop (getD (now (bases .entry)) leaves 0) (now (new .entry)) ⌝ }
 {

@@ -65,14 +65,14 @@ pub fn fill(prices: &mut [u64])
     }
 }
 
-// Each state of a leaf passes over a centre action, at its own price. The action's moves of the leaf begin at `at`.
+// Each state of a leaf passes over a centre action, at its own price. The action's moves of the leaf begin at `at`; every state of `new` starts as
+// unreachable.
 pub fn pass(old: &[u64], moves: &[u16], at: usize, new: &mut [u64])
-    requires { ⌜ (length (now new) ≡ length (now old)) × (at + length (now old) ≤ length (now moves))
+    requires { ⌜ (now new ≡ replicate (length (now old)) mark) × (at + length (now old) ≤ length (now moves))
         × ((x : ℕ) → x < length (now old) → getD (now moves) (at + x) 0 ≤ length (now old)) ⌝ }
     ensures { λ _. ⌜ now (new .exit)
         ≡ pass mark (length (now (old .entry))) (λ x. getD (now (moves .entry)) (at + x) 0) (now (old .entry)) (length (now (old .entry))) ⌝ }
 {
-    fill(new);
     for x in 0..old.len() {
         lower(new, moves[at + x] as usize, old[x]);
     }

@@ -12,9 +12,10 @@ use task::Task;
 use words::copy_words;
 ghost use mathlib.Core.Path.{_≡_};
 ghost use Prim.Native.Nat.{ℕ, _<_, _≤_};
-ghost use lib.ListN.{length, getD, take};
+ghost use lib.ListN.{length, getD, take, replicate};
 ghost use Rattle.task.specs.Factors.{allStates};
 ghost use Rattle.task.specs.Valid.{Valid};
+ghost use Rattle.leaf.specs.Price.{mark};
 ghost use Rattle.layer.specs.Board.{Sound};
 ghost use Rattle.layer.specs.Lent.{boardOf};
 ghost use Rattle.tables.specs.Tables.{Bases, Kinds, Tabled};
@@ -107,7 +108,7 @@ fn advance(
     }
 }
 
-// The layers along the path: where it ends, with the last layer's prices at the front of `layer`.
+// The layers along the path: where it ends, with the last layer's prices at the front of `layer`, where every state starts as unreachable.
 fn walk_path(
     task: Task,
     bases: &[usize],
@@ -121,7 +122,7 @@ fn walk_path(
     requires { ⌜ Valid task ⌝ }
     requires { ⌜ Tabled task (now bases) (now moves) (now costs) (now kinds) (now starts) ⌝ }
     requires { ⌜ ((k : ℕ) → k < length (now path) → getD (now path) k 0 < task .actions) ⌝ }
-    requires { ⌜ length (now layer) ≡ 1024 ⌝ }
+    requires { ⌜ now layer ≡ replicate 1024 mark ⌝ }
     ensures { λ r. ⌜ walked r (take (allStates task) (now (layer .exit))) ≡ walk task (firstLayer task) (now (path .entry)) ⌝ }
 {
     let leaves = task.leaves as usize;
@@ -167,7 +168,7 @@ fn walk_path(
     Walked { ends: true, spot }
 }
 
-// The walk, by tables that are made here.
+// The walk, by tables that are made here; `layer` is lent with every state as unreachable.
 pub fn walk_task(
     task: Task,
     kinds: [u8; 256],
@@ -178,7 +179,7 @@ pub fn walk_task(
     requires { ⌜ Valid task ⌝ }
     requires { ⌜ Kinds task kinds × Bases task bases ⌝ }
     requires { ⌜ ((k : ℕ) → k < length (now path) → getD (now path) k 0 < task .actions) ⌝ }
-    requires { ⌜ length (now layer) ≡ 1024 ⌝ }
+    requires { ⌜ now layer ≡ replicate 1024 mark ⌝ }
     ensures { λ r. ⌜ walked r (take (allStates task) (now (layer .exit))) ≡ walk task (firstLayer task) (now (path .entry)) ⌝ }
 {
     let mut moves = [0u16; 261120];

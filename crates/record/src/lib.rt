@@ -1,7 +1,6 @@
 // The record reader: for every byte string the task that it writes down, or the one refusal of 1 to 11 that it meets first.
 use fields::Refusal;
 use fields::at_end;
-use fields::bits;
 use lists::read_actions;
 use lists::read_list;
 use parts::HeadRead;
@@ -21,7 +20,7 @@ ghost use Rattle.fields.specs.Fields.{nextField};
 ghost use Rattle.parts.specs.Told.{placeTold, placeOf};
 ghost use Rattle.whole.specs.declared.Verdict.the-variants.{Accepted};
 ghost use Rattle.parts.specs.Grammar.{listsOf};
-ghost use Rattle.record.specs.Record.{filledOf, refusedFor, verdictOf, bodyOf, readRecord};
+ghost use Rattle.record.specs.Record.{refusedFor, verdictOf, bodyOf, readRecord};
 
 // What reading a record gives: the verdict and, where it is "accepted", the task; else a blank one.
 pub struct TaskRead {
@@ -51,19 +50,7 @@ fn refuse(why: Refusal) -> TaskRead
     }
 }
 
-// Whether zero bits fill the byte in which bit `at` lies, and nothing follows.
-fn filled(rec: &[u8], at: usize) -> bool
-    requires { ⌜ at < 2 ^ 31 ⌝ }
-    ensures { λ r. ⌜ r ≡ filledOf (now (rec .entry)) at ⌝ }
-{
-    if !at_end(rec, at) {
-        return false;
-    }
-    let bytes = (at + 7) / 8;
-    bits(rec, at, bytes * 8 - at) == 0
-}
-
-// The verdict on a record whose fields end at bit `at`: 8, then 9, 10 and 11.
+// The verdict on a record whose fields end at bit `at`: 8 where a reader there has not reached the end, then 9, 10 and 11.
 fn verdict(
     rec: &[u8],
     at: usize,
@@ -81,7 +68,7 @@ fn verdict(
         (λ v. getD (now (factors .entry)) v 0) (λ a v. getD (now (conditions .entry)) (a * 32 + v) 0)
         (λ a v. getD (now (effects .entry)) (a * 32 + v) 0) ⌝ }
 {
-    if !filled(rec, at) {
+    if !at_end(rec, at) {
         return Verdict::Refused(Refusal::NotFilled);
     }
     whole(

@@ -17,8 +17,13 @@ returns c =
     let stays = c .if1 .taken in
     copy-passes (λ x. getD (a .moves .now) (a .at + x) 0) (a .old .now) (a .new .now) (λ x. omega (arith, words x)) (s .pre .3 stays) (s .pre .4 stays)
 
+fill-requires : tie.Need-fill-requires
+fill-requires c κs = search needs
+
 pass-requires : tie.Need-pass-requires
-pass-requires c κs = search needs
+pass-requires c κs =
+    let s = c .before .before .before .before .before .before .before .before .before in
+    (rw (← s .pre .0) (c .before .before .before .fill .ensures), s .pre .1, s .pre .2)
 
 least-requires : tie.Need-least-requires
 least-requires c κs = search needs
@@ -29,7 +34,7 @@ least-requires-2 c κs = search needs
 -- the least price does not fall
 rises : (c : tie.After-least2) → c .least2 .result ≤ c .before .least .result
 rises c =
-    let a = c .before .before .before .before .before .before .before .before .before .before .before .args in
+    let a = c .before .before .before .before .before .before .before .before .before .before .before .before .before .before .before .args in
     omega (arith, pass-rises (length (a .old .now)) (λ x. getD (a .moves .now) (a .at + x) 0) (a .old .now), ap leastOf (c .before .before .before .before .before .pass .ensures), c .before .least .ensures, c .least2 .ensures)
 
 sub-result : tie.Need-sub-result
@@ -47,6 +52,7 @@ carry-spec =
     tie.close
     (tie.spec
     returns
+    fill-requires
     pass-requires
     least-requires
     least-requires-2

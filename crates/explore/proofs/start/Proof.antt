@@ -9,6 +9,7 @@ use Rattle.task.specs.Meaning.{factor, initial}
 use Rattle.task.specs.Centre.{centreAfter}
 use Rattle.task.specs.Star.{initial-centre}
 use Rattle.leaf.specs.Price.{mark}
+use Rattle.leaf.specs.Settle.Turns.{take-replicate}
 use Rattle.layer.specs.Board.{Board, Sound}
 use Rattle.layer.specs.Board.Laws.{row-on}
 use Rattle.layer.specs.Lent.{boardOf}
@@ -76,7 +77,13 @@ first-layer-requires c κs =
     let t = s .args .t1 in
     let w = fit s in
     let h = s .pre .1 .0 .0 .is-starts in
-    (w .1, w .1 .few-all, omega (arith, s .pre .0 .fields .few-leaves, h .long), start-in t (s .pre .0) (board s) (w .0 .fits) (now (s .args .starts)) h)
+    let few = w .1 .few-all in (
+      w .1,
+      few,
+      omega (arith, s .pre .0 .fields .few-leaves, h .long),
+      start-in t (s .pre .0) (board s) (w .0 .fits) (now (s .args .starts)) h,
+      take-replicate _ 1024 mark few,
+    )
 
 slice-aggregate-key-of : tie.Need-slice-aggregate-key-of
 slice-aggregate-key-of c = search needs

@@ -1,13 +1,13 @@
 -- `layer::begin_layer` meets its contract. The invariant: what came through of the leaves so far stands one leaf's behind the other, and behind
 -- them the prices are as they were. Assumes nothing.
-use mathlib.Core.Path.{_≡_, sym, _∙_}
+use mathlib.Core.Path.{_≡_, _∙_}
 use mathlib.Core.List.{List, []}
 use Prim.Native.Nat.{ℕ, _+_, _*_, _-_, _≤_}
 use native.Mathlib.Omega.{arith}
 use lib.ListN.{length, getD}
 use borrow.Author.Needs.{needs}
 use Rattle.layer.specs.Board.{Board, baseOn, rowOn, partOn, passOn, beginOn}
-use Rattle.layer.specs.Board.Turns.{base-in, moves-here, moves-stay, leaf-passed, part-length, Laid, laid-none, laid-more}
+use Rattle.layer.specs.Board.Turns.{base-in, moves-here, moves-stay, leaf-passed, part-length, Laid, laid-none, laid-more, laid-unreached}
 use Rattle.layer.specs.Lent.{boardOf}
 use Rattle.layer.proofs.begin_layer.Statement.{statement}
 use Rattle.layer.proofs.begin_layer.Tie as tie
@@ -52,6 +52,7 @@ abbrev to : tie.In-loop Inv-loop μ-loop → ℕ
 to c = baseOn (board c) (c .before .loop .i + 1)
 
 room : (c : tie.In-loop Inv-loop μ-loop) → (from c ≤ to c) × (to c ≤ 1024) × (to c ≤ length (start c .args .old .now)) × (to c ≤ length (c .before .loop .new))
+    × (to c ≤ rowOn (board c))
 room c =
     let s = start c in
     let i = c .before .loop .i in
@@ -112,9 +113,10 @@ pass-requires c κs =
     let t = c .before .before .before .before in
     let s = start t in
     let old = part-length (s .args .old .now) (from t) (to t) (room t .2) in
-    let new = part-length (t .before .loop .new) (from t) (to t) (room t .3) in
+    let r = room t in
+    let new = laid-unreached (rowOn (board t)) (to t) (t .before .loop .inv .1) (r .0) (r .4) (s .pre .3) (s .pre .4) in
     let stay = moves-stay (board t) (s .pre .0) (t .before .loop .i) (s .args .action) (t .loop-test .taken) (s .pre .1) in
-    (new ∙ sym old, rw old (in-moves t), rw old stay)
+    (rw old new, rw old (in-moves t), rw old stay)
 
 add-i : tie.Need-add-i Inv-loop μ-loop
 add-i c = search needs

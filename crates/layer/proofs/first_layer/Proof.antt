@@ -7,8 +7,8 @@ use native.Mathlib.Omega.{arith}
 use lib.ListN.{length, getD}
 use borrow.Author.Needs.{needs}
 use Rattle.task.specs.declared.Centre.{Centre}
-use Rattle.layer.specs.Board.{Board, baseOn, firstOn}
-use Rattle.layer.specs.Board.Turns.{base-in, part-length, Laid, laid-none, laid-more}
+use Rattle.layer.specs.Board.{Board, baseOn, rowOn, firstOn}
+use Rattle.layer.specs.Board.Turns.{base-in, part-length, Laid, laid-none, laid-more, laid-unreached}
 use Rattle.layer.specs.Lent.{boardOf, firstLeafOn}
 use Rattle.layer.proofs.first_layer.Statement.{statement}
 use Rattle.layer.proofs.first_layer.Tie as tie
@@ -45,7 +45,7 @@ from c = baseOn (board c) (c .before .loop .i)
 abbrev to : tie.In-loop Inv-loop μ-loop → ℕ
 to c = baseOn (board c) (c .before .loop .i + 1)
 
-room : (c : tie.In-loop Inv-loop μ-loop) → (from c ≤ to c) × (to c ≤ 1024) × (to c ≤ length (c .before .loop .new))
+room : (c : tie.In-loop Inv-loop μ-loop) → (from c ≤ to c) × (to c ≤ 1024) × (to c ≤ length (c .before .loop .new)) × (to c ≤ rowOn (board c))
 room c =
     let s = start c in
     let i = c .before .loop .i in
@@ -90,8 +90,13 @@ first-leaf-requires : tie.Need-first-leaf-requires Inv-loop μ-loop
 first-leaf-requires c κs =
     let t = c .before .before .before .before in
     let s = start t in
-    let new = part-length (t .before .loop .new) (from t) (to t) (room t .2) in
-    (s .pre .0, t .loop-test .taken, omega (arith, new, s .pre .3 (t .before .loop .i) (t .loop-test .taken)), new)
+    let r = room t in
+    let new = part-length (t .before .loop .new) (from t) (to t) (r .2) in (
+      s .pre .0,
+      t .loop-test .taken,
+      omega (arith, new, s .pre .3 (t .before .loop .i) (t .loop-test .taken)),
+      laid-unreached (rowOn (board t)) (to t) (t .before .loop .inv .1) (r .0) (r .3) (s .pre .1) (s .pre .4),
+    )
 
 add-i : tie.Need-add-i Inv-loop μ-loop
 add-i c = search needs

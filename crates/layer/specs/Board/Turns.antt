@@ -9,18 +9,19 @@ use native.Mathlib.Numerals.{add-one}
 use native.Mathlib.Decide.{ℕ-discrete}
 use native.Mathlib.Omega.{arith}
 use lib.Dec.{ltb, eqb}
-use lib.ListN.{length, getD, set, take, drop, length-append, length-take, length-drop, List·getD-append}
-use lib.Seq.{getD-at, set-at, take-at, drop-at, drop-cons, drop-drop}
+use lib.ListN.{length, getD, set, take, drop, replicate, length-append, length-take, length-drop, length-replicate, replicate-append-replicate, List·getD-append}
+use lib.Seq.{getD-at, set-at, take-at, drop-at, drop-cons, drop-drop, take-take, take-add, length-take-le}
 use Rattle.loops.specs.Count.{any}
 use Rattle.loops.specs.Count.Laws.{below-cases}
 use Rattle.task.specs.declared.Centre.{Centre}
 use Rattle.leaf.specs.Price.{mark}
 use Rattle.leaf.specs.Settle.{settled}
+use Rattle.leaf.specs.Settle.Turns.{take-replicate}
 use Rattle.leaf.specs.Pass.{pass}
 use Rattle.leaf.specs.Lent.{Lent, costBy, moveBy}
 use Rattle.layer.specs.Layer.{joined}
 use Rattle.layer.specs.Board.{Board, Sound, baseOn, rowOn, statesOn, metOn, enabledOn, settleBy, settleOn, passOn, passesOn}
-use Rattle.layer.specs.Lent.{Front, testsOf}
+use Rattle.layer.specs.Lent.{Front, Unreached, testsOf}
 
 -- ---- rows and bases
 
@@ -163,3 +164,19 @@ laid-more f i a e xs ys Q r h l q k =
 -- behind the lists so far the prices are as they were
 pub laid-rest : {f : ℕ → List ℕ} {i at : ℕ} {xs ys : List ℕ} → Laid f i at xs ys → drop at ys ≡ drop at xs
 laid-rest {f} {i} {at} {xs} l = rw (l .laid) (drop-at (joined i f) (drop at xs) at (l .long))
+
+-- where every state started as unreachable, so did those before a and those from there to e
+part-unreached : (n a e : ℕ) (xs : List ℕ) → a ≤ e → e ≤ n → Unreached n xs
+    → take a xs ++ take (e - a) (drop a xs) ≡ replicate a mark ++ replicate (e - a) mark
+part-unreached n a e xs r h u =
+    let whole : a + (e - a) ≡ e = omega arith in
+    rw (← take-add a (e - a) xs, replicate-append-replicate, whole, ← take-take e n xs h, u) (take-replicate e n mark h)
+
+-- and behind the leaves so far they are still
+pub laid-unreached : {f : ℕ → List ℕ} {i a : ℕ} {xs ys : List ℕ} (n e : ℕ) → Laid f i a xs ys → a ≤ e → e ≤ n → n ≤ length xs → Unreached n xs
+    → take (e - a) (drop a ys) ≡ replicate (e - a) mark
+laid-unreached {f} {i} {a} {xs} n e l r h k u =
+    rw (laid-rest l)
+    (sym (drop-at (take a xs) (take (e - a) (drop a xs)) a (length-take-le a xs (omega arith)))
+    ∙ ap (λ (zs : List ℕ). drop a zs) (part-unreached n a e xs r h u)
+    ∙ drop-at (replicate a mark) (replicate (e - a) mark) a (length-replicate a mark))

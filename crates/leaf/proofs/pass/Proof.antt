@@ -1,9 +1,9 @@
--- `leaf::pass` meets its contract. The invariant: the states so far have passed. Assumes nothing.
-use mathlib.Core.Path.{_≡_, refl, _∙_}
+-- `leaf::pass` meets its contract. The invariant: the states so far have passed; before the first all are unreachable, as they were lent. Assumes nothing.
+use mathlib.Core.Path.{_≡_, refl, sym, ap, _∙_}
 use Prim.Native.Nat.{_+_, _-_, _≤_}
 use native.Mathlib.Nat.{le-antisymm}
 use native.Mathlib.Omega.{arith}
-use lib.ListN.{length, getD}
+use lib.ListN.{length, getD, length-replicate}
 use borrow.Author.Needs.{needs}
 use Rattle.leaf.specs.Price.{mark}
 use Rattle.leaf.specs.Pass.{pass}
@@ -18,14 +18,13 @@ Inv-loop old moves at new₀ x₀ x-end new x =
 abbrev μ-loop : tie.MeasureT-loop
 μ-loop old moves at new₀ x₀ x-end new x = x-end - x
 
-fill-requires : tie.Need-fill-requires Inv-loop μ-loop
-fill-requires c κs = search needs
+-- as many states in both lists
+long : (s : tie.Start Inv-loop μ-loop) → length (s .args .new .now) ≡ length (s .args .old .now)
+long s = ap length (s .pre .0) ∙ length-replicate _ _
 
 loop-holds : tie.Need-loop-holds Inv-loop μ-loop
 unfolding pass
-loop-holds c =
-    let s = c .before .before .before .before .before .before .before in
-    (refl, omega arith, c .before .before .fill .kept .0 ∙ s .pre .0, rw (← s .pre .0) (c .before .before .fill .ensures))
+loop-holds c = let s = c .before .before .before in (refl, omega arith, long s, s .pre .0)
 
 add-lower : tie.Need-add-lower Inv-loop μ-loop
 add-lower c = search needs
@@ -38,7 +37,7 @@ shared-slice-read-lower c = search needs
 
 cast-lower : tie.Need-cast-lower Inv-loop μ-loop
 cast-lower c =
-    let s = c .before .before .before .before .before .before .before .before .before .before .before in
+    let s = c .before .before .before .before .before .before .before in
     omega (arith, c .shared-slice-known3 .given (s .args .at + c .before .before .before .loop .x))
 
 mul-lower-2 : tie.Need-mul-lower-2 Inv-loop μ-loop
@@ -50,7 +49,7 @@ shared-slice-read-lower-2 c = search needs
 lower-requires : tie.Need-lower-requires Inv-loop μ-loop
 lower-requires c κs =
     let l = c .before .before .before .before .loop in
-    let s = c .before .before .before .before .before .before .before .before .before .before .before .before in
+    let s = c .before .before .before .before .before .before .before .before in
     omega (arith, l .inv .2, s .pre .2 (l .x) (c .before .before .before .loop-test .taken))
 
 add-x : tie.Need-add-x Inv-loop μ-loop
@@ -67,9 +66,7 @@ loop-again c =
     (refl, omega arith, called .lower .kept .0 ∙ l .inv .2, called .lower .ensures ∙ pass-more mark _ _ _ (l .new) (l .x) (t .loop-test .taken) (l .inv .3))
 
 same-length : tie.Need-same-length Inv-loop μ-loop
-same-length c =
-    let s = c .before .before .before .before .before .before .before .before .before in
-    omega (arith, c .before .loop .inv .2, s .pre .0)
+same-length c = c .before .loop .inv .2 ∙ sym (long (c .before .before .before .before .before))
 
 returns : tie.Need-returns Inv-loop μ-loop
 returns c = rw (le-antisymm (c .before .loop .inv .1) (c .loop-test .left)) at (c .before .loop .inv .3)
@@ -80,7 +77,6 @@ pass-spec =
     (tie.spec
     Inv-loop
     μ-loop
-    fill-requires
     loop-holds
     add-lower
     mul-lower

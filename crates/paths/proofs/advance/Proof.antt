@@ -5,6 +5,8 @@ use denote.Ref.{now}
 use lib.ListN.{length}
 use borrow.Author.Needs.{needs}
 use borrow.Author.Tests.{not-true, not-false}
+use Rattle.leaf.specs.Price.{mark}
+use Rattle.leaf.specs.Settle.Turns.{take-replicate}
 use Rattle.layer.specs.Board.{Board}
 use Rattle.layer.specs.Lent.{boardOf}
 use Rattle.paths.specs.Paths.Laws.{stepped-not, stepped-on}
@@ -40,7 +42,8 @@ slice-aggregate-next-layer c = search needs
 next-layer-requires : tie.Need-next-layer-requires
 next-layer-requires c κs =
     let s = c .before .before .before .before .before .before .before .before .before .before .before .before .before .before in
-    (s .pre .0, s .pre .1, omega (arith, s .pre .0 .few-all, s .pre .3), s .pre .0 .few-all)
+    let few = s .pre .0 .few-all in
+    (s .pre .0, s .pre .1, omega (arith, few, s .pre .3), few, take-replicate _ 1024 mark few)
 
 mul-states : tie.Need-mul-states
 mul-states c = let s = c .before .before .before .before .before .before .before .before .before .before .before .before .before .before .before .before in omega (arith, s .pre .0 .few-leaves)

@@ -4,12 +4,14 @@ use mathlib.Core.Path.{_≡_, refl, ap, sym, _∙_}
 use mathlib.Core.Bool.{false}
 use native.Mathlib.Omega.{arith}
 use denote.Ref.{now}
-use lib.ListN.{length, getD, drop}
+use lib.ListN.{length, getD, drop, length-replicate}
 use borrow.Author.Needs.{needs}
 use borrow.Author.Tests.{not-true, not-false}
 use Rattle.task.specs.Meaning.{factor, initial}
 use Rattle.task.specs.Centre.{centreAfter}
 use Rattle.task.specs.Star.{initial-centre}
+use Rattle.leaf.specs.Price.{mark}
+use Rattle.leaf.specs.Settle.Turns.{take-replicate}
 use Rattle.layer.specs.Board.{Board, Fits, Sound}
 use Rattle.layer.specs.Lent.{boardOf}
 use Rattle.tables.specs.Fit.{start-in, tables-fit}
@@ -35,6 +37,10 @@ board s =
 -- the lengths of the task's lists
 lists : (s : tie.Start Inv-loop μ-loop) → let t = s .args .task in (length (t .factors) ≡ 32) × (length (t .conditions) ≡ 8192) × (length (t .effects) ≡ 8192)
 lists s = (search needs, search needs, search needs)
+
+-- as many prices are lent as there can be
+long : (s : tie.Start Inv-loop μ-loop) → length (now (s .args .layer)) ≡ 1024
+long s = ap length (s .pre .1 .1 .1) ∙ length-replicate 1024 mark
 
 -- it fits the task, and can be indexed
 fit : (s : tie.Start Inv-loop μ-loop) → Fits (s .args .task) (board s) × Sound (board s)
@@ -76,16 +82,17 @@ first-layer-requires c κs =
     let t = s .args .task in
     let w = fit s in (
       w .1,
-      omega (arith, w .1 .few-all, s .pre .1 .1 .1),
+      omega (arith, w .1 .few-all, long s),
       omega (arith, s .pre .0 .fields .few-leaves, s .pre .1 .0 .is-starts .long),
       start-in t (s .pre .0) (board s) (w .0) (now (s .args .starts)) (s .pre .1 .0 .is-starts),
+      rw (s .pre .1 .1 .1) (take-replicate _ 1024 mark (w .1 .few-all)),
     )
 
 loop-holds : tie.Need-loop-holds Inv-loop μ-loop
 loop-holds c =
     let s = c .before .before .before .before .before .before .before .before .before .before .before .before .before .before .before .before .before .before .before .before in
     let kept : length (c .before .before .first-layer .last .1 .1 .1 .1 .1 .1 .1 .1 .1 .1 .0) ≡ length (now (s .args .layer)) = c .before .before .first-layer .kept .1 .1 .1 .1 .1 .1 .1 .1 .1 .1 .0 in
-    (omega arith, refl, kept ∙ s .pre .1 .1 .1, λ t f q. refl)
+    (omega arith, refl, kept ∙ long s, λ t f q. refl)
 
 slice-aggregate-advance : tie.Need-slice-aggregate-advance Inv-loop μ-loop
 slice-aggregate-advance c = sym (lists (c .before .before .before .before .before .before .before .before .before .before .before .before .before .before .before .before .before .before .before .before .before .before .before) .1)
@@ -110,7 +117,7 @@ same-length : tie.Need-same-length Inv-loop μ-loop
 same-length c =
     let s = c .before .before .before .before .before .before .before .before .before .before .before .before .before .before .before .before .before .before .before .before .before .before .before .before .before .before .before .before .before .before .before in
     let kept : length (c .before .before .before .before .advance .last .1 .1 .1 .1 .1 .1 .1 .1 .1 .1 .1 .0) ≡ length (c .before .before .before .before .before .before .before .before .before .before .loop .layer) = c .before .before .before .before .advance .kept .1 .1 .1 .1 .1 .1 .1 .1 .1 .1 .1 .0 in
-    kept ∙ c .before .before .before .before .before .before .before .before .before .before .loop .inv .2 ∙ sym (s .pre .1 .1 .1)
+    kept ∙ c .before .before .before .before .before .before .before .before .before .before .loop .inv .2 ∙ sym (long s)
 
 returns : tie.Need-returns Inv-loop μ-loop
 returns c =
@@ -146,7 +153,9 @@ loop-again c =
     )
 
 same-length-2 : tie.Need-same-length-2 Inv-loop μ-loop
-same-length-2 c = c .before .loop .inv .2 ∙ sym (c .before .before .before .before .before .before .before .before .before .before .before .before .before .before .before .before .before .before .before .before .before .before .pre .1 .1 .1)
+same-length-2 c =
+    c .before .loop .inv .2
+    ∙ sym (long (c .before .before .before .before .before .before .before .before .before .before .before .before .before .before .before .before .before .before .before .before .before .before))
 
 returns-2 : tie.Need-returns-2 Inv-loop μ-loop
 returns-2 c =

@@ -138,7 +138,7 @@ pass-requires c κs =
     let b = board s in
     let r = room (c .before .before) in
     let many = ap length (lent (c .before .before)) ∙ slice-length b (s .pre .0 .sound) (s .args .table .now) (s .args .i) _ (s .pre .1) (r .0) in (
-      long s ∙ sym many,
+      rw many (s .pre .2),
       rw many (moves-here b (s .pre .0 .sound) (s .args .i) _ (s .pre .1) (r .3)),
       rw many (moves-stay b (s .pre .0 .sound) (s .args .i) _ (s .pre .1) (r .3)),
     )
