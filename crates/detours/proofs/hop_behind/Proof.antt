@@ -54,7 +54,9 @@ shared-slice-read-action : tie.Need-shared-slice-read-action
 shared-slice-read-action c = search needs
 
 returns : tie.Need-returns
-returns c = rw (words (c .before .before .before .before), le-ltb _ _ (c .if1 .taken))
+returns c =
+    let s = c .before .before .before .before in
+    rw (words s, le-ltb (s .args .states) 128 (c .if1 .taken))
 
 returns-2 : tie.Need-returns-2
 returns-2 c = rw (words (c .before .before .before .before .before .before .before), lt-ltb _ _ (c .before .before .before .if1 .left), le-ltb _ _ (c .if2 .taken))

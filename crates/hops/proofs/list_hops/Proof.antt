@@ -1,9 +1,10 @@
 -- `hops::list_hops` meets its contract. The invariant: the actions so far have their words. Assumes nothing.
-use mathlib.Core.Path.{_≡_, refl, ap, _∙_}
-use Prim.Native.Nat.{_-_, _≤_, _<_}
+use mathlib.Core.Path.{_≡_, refl, ap, ap₂, _∙_}
+use mathlib.Core.List.{List}
+use Prim.Native.Nat.{ℕ, _-_, _≤_, _<_}
 use native.Mathlib.Nat.{le-antisymm}
 use native.Mathlib.Omega.{arith}
-use lib.ListN.{length}
+use lib.ListN.{length, set}
 use Rattle.loops.specs.Count.{list}
 use Rattle.stills.specs.Still.{padded, padded-length, padded-more}
 use Rattle.hops.specs.Hops.{hopWord, hopsBy}
@@ -51,7 +52,7 @@ loop-less c = omega (arith, c .before .loop-test .taken)
 loop-again : tie.Need-loop-again Inv-loop μ-loop
 loop-again c =
     let l = c .before .before .loop in
-    (omega (arith, c .before .loop-test .taken), rw (l .inv .1, c .hop-word .ensures) (padded-more 256 _ (l .a) (omega (arith, few c))))
+    (omega (arith, c .before .loop-test .taken), ap₂ (λ (xs : List ℕ) w. set xs (l .a) w) (l .inv .1) (c .hop-word .ensures) ∙ padded-more 256 _ (l .a) (omega (arith, few c)))
 
 returns : tie.Need-returns Inv-loop μ-loop
 unfolding hopsBy

@@ -1,9 +1,10 @@
 -- `stills::still_actions` meets its contract. The invariant: it holds of the actions so far. Assumes nothing.
-use mathlib.Core.Path.{_≡_, refl, ap, _∙_}
-use Prim.Native.Nat.{_-_, _≤_, _<_}
+use mathlib.Core.Path.{_≡_, refl, ap, ap₂, _∙_}
+use mathlib.Core.List.{List}
+use Prim.Native.Nat.{ℕ, _-_, _≤_, _<_}
 use native.Mathlib.Nat.{le-antisymm}
 use native.Mathlib.Omega.{arith}
-use lib.ListN.{length}
+use lib.ListN.{length, set}
 use borrow.Author.Needs.{needs}
 use Rattle.loops.specs.Count.{list}
 use Rattle.stills.specs.Still.{padded, stillBy, stillActions, padded-length, padded-more}
@@ -42,7 +43,7 @@ loop-again c =
     let l = c .before .before .loop in
     let below = c .before .loop-test .taken in
     let few : l .a < 256 = omega (arith, c .before .before .before .before .pre .1, below) in
-    (omega (arith, below), rw (l .inv .1, c .is-still .ensures) (padded-more 256 _ (l .a) few))
+    (omega (arith, below), ap₂ (λ (xs : List ℕ) f. set xs (l .a) f) (l .inv .1) (c .is-still .ensures) ∙ padded-more 256 _ (l .a) few)
 
 returns : tie.Need-returns Inv-loop μ-loop
 unfolding stillActions

@@ -1,9 +1,10 @@
 -- `stills::still_leaves` meets its contract. The invariant: it holds of the entries so far. Assumes nothing.
-use mathlib.Core.Path.{_≡_, refl, ap, _∙_}
-use Prim.Native.Nat.{_*_, _/_, _-_, _≤_, _<_}
+use mathlib.Core.Path.{_≡_, refl, ap, ap₂, _∙_}
+use mathlib.Core.List.{List}
+use Prim.Native.Nat.{ℕ, _*_, _/_, _-_, _≤_, _<_}
 use native.Mathlib.Nat.{le-antisymm}
 use native.Mathlib.Omega.{arith}
-use lib.ListN.{length, getD}
+use lib.ListN.{length, getD, set}
 use borrow.Author.Needs.{needs}
 use Rattle.loops.specs.Count.{list}
 use Rattle.stills.specs.Still.{padded, stillEntry, stillLeaves, action-in, padded-length, padded-more}
@@ -50,7 +51,7 @@ loop-again c =
     let s = c .before .before .before .before .before in
     let few : l .k < 2048 = omega (arith, s .pre .1, c .before .loop-test .taken) in (
       omega (arith, c .before .loop-test .taken),
-      rw (l .inv .1, c .still-entry .ensures) (padded-more 2048 _ (l .k) few),
+      ap₂ (λ (xs : List ℕ) f. set xs (l .k) f) (l .inv .1) (c .still-entry .ensures) ∙ padded-more 2048 _ (l .k) few,
     )
 
 returns : tie.Need-returns Inv-loop μ-loop
