@@ -2,17 +2,18 @@
 -- layer is made. And actions that are stuck. Assumes nothing.
 use mathlib.Core.Path.{_≡_, refl, sym, ap, _∙_}
 use mathlib.Core.Logic.{_⊎_, inl, inr}
-use mathlib.Core.Bool.{false, not, _&&_, and-false}
+use mathlib.Core.Bool.{Bool, true, false, not, _&&_, and-false}
 use mathlib.Core.List.{List, _++_}
-use Prim.Native.Nat.{ℕ, zero, suc, _+_, _-_, _*_, _≤_, _<_, min}
+use Prim.Native.Nat.{ℕ, zero, suc, _+_, _*_, _≤_, _<_, min}
 use native.Mathlib.Numerals.{add-one}
 use native.Mathlib.Decide.{decLe}
 use native.Mathlib.Omega.{arith}
 use lib.Dec.{ltb, eqb}
 use lib.ListN.{length, getD, take, drop, length-take, length-drop, List·getD-eq-default}
 use lib.Seq.{take-at, drop-at, take-add, getD-take, getD-drop}
+use borrow.Author.Tests.{not-true}
 use Rattle.loops.specs.Count.{any, sum}
-use Rattle.loops.specs.Count.Laws.{below-cases, all-not, sum-more, sum-ext}
+use Rattle.loops.specs.Count.Laws.{and-out, below-cases, all-not, any-out, sum-more, sum-ext}
 use Rattle.task.specs.declared.Centre.{Centre}
 use Rattle.task.specs.declared.Task.{Task}
 use Rattle.task.specs.Meaning.{cost}
@@ -26,17 +27,18 @@ use Rattle.layer.specs.Layer.Laws.{joined-part}
 use Rattle.layer.specs.Layer.Front.{part-take}
 use Rattle.layer.specs.Board.{Board, Sound, baseOn, rowOn, statesOn, toOn, metOn, passOn, passesOn, partOn, beginOn, appliesOn}
 use Rattle.layer.specs.Board.Laws.{joined-ext}
+use Rattle.layer.specs.Board.Turns.{leaf-passes}
 use Rattle.price.specs.Sums.{sum-le}
 use Rattle.search.specs.Node.{Node, nextNode, leastOf, key}
 use Rattle.search.specs.Node.Laws.{leastOf-le, leastOf-cap, leastOf-ge}
 use Rattle.search.specs.Begin.{pass-still, beginNode, part-begin, key-begin}
 use Rattle.stills.specs.Still.{Stays}
-use Rattle.keys.specs.Scan.{keyBy}
+use Rattle.keys.specs.Scan.{partBy, keyBy}
 use Rattle.rows.specs.Sign.{signOf}
 
 -- ---- keys that rise
 
--- over the first i leaves the least prices f rise to g, and the key from `low` to `key`
+-- over the first i leaves the least prices f rise to g, and the key from `low` to `key`: by as much as they do together, up to the mark
 pub record Risen (f g : ℕ → ℕ) (i low key : ℕ) : Type 0 where
   pub rise : ℕ
   pub sums : sum i f + rise ≡ sum i g
@@ -55,6 +57,16 @@ risen-more f g i low key r more s e q =
       sums = omega (arith, sum-more i f, sum-more i g, s .sums, e);
       capped = omega (arith, s .capped, q);
     }
+
+-- the least prices of the leaves, by the bases
+abbrev pub leasts : List ℕ → List ℕ → ℕ → ℕ
+leasts bases P i = leastOf (partBy bases i P)
+
+-- where `low` is the key with the old prices, the key that has risen is that with the new ones
+pub risen-key : (leaves : ℕ) (bases P Q : List ℕ) (low key spent : ℕ) → Risen (leasts bases P) (leasts bases Q) leaves low key
+    → low ≡ keyBy leaves bases spent P → key ≡ keyBy leaves bases spent Q
+unfolding keyBy
+risen-key leaves bases P Q low key spent risen isLow = omega (arith, risen .sums, risen .capped, isLow)
 
 -- ---- the begin
 
@@ -132,18 +144,18 @@ module _ (b : Board) (sound : Sound b) where
       ∙ ap (λ xs. take (statesOn b i) (drop (sum i (statesOn b)) xs)) (parts-front Q (b .leaves) (omega arith) ∙ sym e)
       ∙ joined-part (b .leaves) i f (statesOn b) fits l
 
-  -- the key of a begin, where the least prices of the leaves have risen
-  pub risen-key : (a spent : ℕ) (P Q rest : List ℕ) (low made : ℕ) → rowOn b ≤ length Q → Q ≡ joined (b .leaves) (λ k. passOn b k a (partOn b k P)) ++ rest
+  -- the least prices of a begin that is laid out, leaf by leaf, have risen to those of the list
+  pub risen-laid : (a : ℕ) (P Q rest : List ℕ) (low made : ℕ) → rowOn b ≤ length Q → Q ≡ joined (b .leaves) (λ k. passOn b k a (partOn b k P)) ++ rest
       → length (joined (b .leaves) (λ k. passOn b k a (partOn b k P))) ≡ rowOn b
-      → Risen (λ k. leastOf (partOn b k P)) (λ k. leastOf (passOn b k a (partOn b k P))) (b .leaves) low made
-      → low ≡ keyBy (b .leaves) (b .bases) spent P → made ≡ keyBy (b .leaves) (b .bases) spent Q
-  unfolding keyBy passOn
-  risen-key a spent P Q rest low made long isQ many risen isLow =
+      → Risen (leasts (b .bases) P) (λ k. leastOf (passOn b k a (partOn b k P))) (b .leaves) low made
+      → Risen (leasts (b .bases) P) (leasts (b .bases) Q) (b .leaves) low made
+  unfolding passOn
+  risen-laid a P Q rest low made long isQ many risen =
       let f : ℕ → List ℕ = λ k. passOn b k a (partOn b k P) in
       let front : joined (b .leaves) f ≡ take (rowOn b) Q = rw isQ (sym (take-at (joined (b .leaves) f) rest (rowOn b) many)) in
       let parts = parts-laid f (λ j l. pass-length mark (statesOn b j) (toOn b j a) (partOn b j P) (statesOn b j)) Q long front in
-      let same = sum-ext (b .leaves) (λ k. leastOf (partOn b k Q)) (λ k. leastOf (f k)) (λ i l. ap leastOf (parts i l)) in
-      omega (arith, same, risen .sums, risen .capped, isLow)
+      let same = sum-ext (b .leaves) (leasts (b .bases) Q) (λ k. leastOf (f k)) (λ i l. ap leastOf (parts i l)) in
+      record { rise = risen .rise; sums = omega (arith, same, risen .sums); capped = risen .capped }
 
   -- the begin behind an action that leaves all as it is: the old layer
   pub begin-still : (a : ℕ) (P : List ℕ) → rowOn b ≤ length P → Capped mark P → Stays (b .leaves) (b .bases) (b .moves) (a * rowOn b)
@@ -161,28 +173,26 @@ module _ (b : Board) (sound : Sound b) where
           go (no l) =
               omega (arith, List·getD-eq-default (partOn b i P) mark {n = x} (simp (length-take, length-drop) (omega arith)))
 
-  -- words behind the prices do not count for the key
-  key-take : (paid : ℕ) (P : List ℕ) → keyBy (b .leaves) (b .bases) paid (take (rowOn b) P) ≡ keyBy (b .leaves) (b .bases) paid P
-  unfolding keyBy
-  key-take paid P =
-      ap (λ k. min (paid + k) mark)
-      (sum-ext (b .leaves) _ _ (λ i l. ap leastOf (part-take (statesOn b i) (baseOn b i) (rowOn b) P (part-fits i l))))
-
-  -- two lists with the same prices at the front have the same key
-  pub key-front : (paid : ℕ) (P Q : List ℕ) → take (rowOn b) P ≡ take (rowOn b) Q
-      → keyBy (b .leaves) (b .bases) paid P ≡ keyBy (b .leaves) (b .bases) paid Q
-  key-front paid P Q e = sym (key-take paid P) ∙ ap (keyBy (b .leaves) (b .bases) paid) e ∙ key-take paid Q
+  -- words behind the prices do not count for the least prices, so that lists with the same prices at the front have the same ones
+  leasts-front : (P Q : List ℕ) → take (rowOn b) P ≡ take (rowOn b) Q → sum (b .leaves) (leasts (b .bases) P) ≡ sum (b .leaves) (leasts (b .bases) Q)
+  leasts-front P Q e = sum-ext (b .leaves) (leasts (b .bases) P) (leasts (b .bases) Q) (λ i l. ap leastOf (part i l))
+    where
+      part : (i : ℕ) → i < b .leaves → partOn b i P ≡ partOn b i Q
+      part i l =
+          sym (part-take (statesOn b i) (baseOn b i) (rowOn b) P (part-fits i l))
+          ∙ ap (λ xs. take (statesOn b i) (drop (baseOn b i) xs)) e
+          ∙ part-take (statesOn b i) (baseOn b i) (rowOn b) Q (part-fits i l)
 
   -- what is made of the begin behind such an action: the old prices at the front of Q, their key and signature
-  pub begun-still : (a : ℕ) (P rest : List ℕ) (low sign : ℕ) → rowOn b ≤ length P → ((x : ℕ) → getD P x 0 ≤ mark)
+  pub begun-still : (a : ℕ) (P rest : List ℕ) (low sign : ℕ) → low ≤ mark → rowOn b ≤ length P → ((x : ℕ) → getD P x 0 ≤ mark)
       → Stays (b .leaves) (b .bases) (b .moves) (a * rowOn b) → sign ≡ signOf (take (rowOn b) P)
       → (Q : List ℕ) → Q ≡ take (rowOn b) P ++ rest
-      → (Q ≡ beginOn b a P ++ rest) × ((spent : ℕ) → low ≡ keyBy (b .leaves) (b .bases) spent P → low ≡ keyBy (b .leaves) (b .bases) spent Q) × (sign ≡ signOf (take (rowOn b) Q))
-  begun-still a P rest low sign long words stays isSign Q isQ =
+      → (Q ≡ beginOn b a P ++ rest) × Risen (leasts (b .bases) P) (leasts (b .bases) Q) (b .leaves) low low × (sign ≡ signOf (take (rowOn b) Q))
+  begun-still a P rest low sign few long words stays isSign Q isQ =
       let front : take (rowOn b) Q ≡ take (rowOn b) P =
       rw isQ (take-at (take (rowOn b) P) rest (rowOn b) (simp length-take (omega arith))) in
       let begin = begin-still a P long (word-cap P words) stays in
-      (isQ ∙ ap (λ xs. xs ++ rest) (sym begin), λ spent isLow. isLow ∙ sym (key-front spent Q P front), isSign ∙ sym (ap signOf front))
+      (isQ ∙ ap (λ xs. xs ++ rest) (sym begin), record { rise = 0; sums = omega (arith, leasts-front Q P front); capped = omega arith }, isSign ∙ sym (ap signOf front))
 
 -- ---- keys
 
@@ -207,13 +217,23 @@ module _ (t : Task) (n : Node) (a : ℕ) where
 
 -- ---- actions that are stuck
 
--- over an action whose moves begin at `from` no state of the leaf behind i leaves passes
-abbrev pub StuckIn : ℕ → List ℕ → List ℕ → ℕ → List ℕ → Type 0
-StuckIn i bases moves from old =
-    let P = take (getD bases (i + 1) 0 - getD bases i 0) (drop (getD bases i 0) old) in
-    any (length P) (λ x. ltb (getD P x mark) mark && not (eqb (getD moves (from + getD bases i 0 + x) 0) 0)) ≡ false
+-- whether an action whose moves begin at `from` is stuck in the leaf behind i leaves: `stays` is 0, and no state that is reached passes
+unfoldable pub stuckIn : (i : ℕ) (bases moves : List ℕ) (from stays : ℕ) (old : List ℕ) → Bool
+stuckIn i bases moves from stays old =
+    let P = partBy bases i old in
+    eqb stays 0 && not (any (length P) (λ x. ltb (getD P x mark) mark && not (eqb (getD moves (from + getD bases i 0 + x) 0) 0)))
 
--- an action does not apply where in one leaf no state passes
-pub stuck-out : (b : Board) (c : Centre) (P : List ℕ) (a i : ℕ) → i < b .leaves → passesOn b i a (partOn b i P) ≡ false → appliesOn b c P a ≡ false
-unfolding appliesOn
-stuck-out b c P a i l e = rw (all-not (b .leaves) (λ k. passesOn b k a (partOn b k P)) i l e) (and-false (metOn b c a))
+-- whether action a is stuck: by `still` it moves leaf states, and in some leaf that it moves by `stills` no state that is reached passes
+unfoldable pub stuckBy : (leaves : ℕ) (bases moves still stills old : List ℕ) (a : ℕ) → Bool
+stuckBy leaves bases moves still stills old a =
+    eqb (getD still a 0) 0 && any leaves (λ i. stuckIn i bases moves (a * getD bases leaves 0) (getD stills (a * 8 + i) 0) old)
+
+-- an action that is stuck does not apply
+pub stuck-out : (b : Board) → Sound b → (c : Centre) (P still stills : List ℕ) (a : ℕ) → rowOn b ≤ length P
+    → stuckBy (b .leaves) (b .bases) (b .moves) still stills P a ≡ true → appliesOn b c P a ≡ false
+unfolding appliesOn stuckBy stuckIn
+stuck-out b sound c P still stills a long e =
+    let (i, (l, t)) = any-out (b .leaves) (λ i. stuckIn i (b .bases) (b .moves) (a * rowOn b) (getD stills (a * 8 + i) 0) P) (and-out (eqb (getD still a 0) 0) _ e .1) in
+    let none : passesOn b i a (partOn b i P) ≡ false =
+    sym (leaf-passes b i a (partOn b i P) (part-many b sound P long i l)) ∙ not-true _ (and-out (eqb (getD stills (a * 8 + i) 0) 0) _ t .1) in
+    rw (all-not (b .leaves) (λ k. passesOn b k a (partOn b k P)) i l none) (and-false (metOn b c a))

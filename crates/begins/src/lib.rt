@@ -8,20 +8,18 @@ use rows::sign_of;
 use task::Centre;
 use words::copy_words;
 ghost use mathlib.Core.Path.{_≡_};
-ghost use mathlib.Core.Bool.{true, false};
 ghost use mathlib.Core.List.{_++_};
 ghost use Prim.Native.Nat.{ℕ, _+_, _*_, _≤_, _<_};
 ghost use lib.ListN.{length, getD, take, drop};
 ghost use Rattle.leaf.specs.Price.{mark};
 ghost use Rattle.leaf.specs.Pass.{pass};
-ghost use Rattle.layer.specs.Board.{Sound, beginOn, appliesOn};
+ghost use Rattle.layer.specs.Board.{Sound, beginOn};
 ghost use Rattle.layer.specs.Lent.{boardOf};
 ghost use Rattle.search.specs.Node.{leastOf};
 ghost use Rattle.rows.specs.Begun.{begunWords};
-ghost use Rattle.keys.specs.Scan.{keyBy};
 ghost use Rattle.rows.specs.Sign.{signOf};
 ghost use Rattle.stills.specs.Still.{Still, Stills};
-ghost use Rattle.begins.specs.Begin.{StuckIn};
+ghost use Rattle.begins.specs.Begin.{stuckIn, stuckBy, leasts, Risen};
 
 // The key and the signature of a layer's begin.
 pub struct Begun {
@@ -41,7 +39,7 @@ fn is_stuck_in(
 ) -> bool
     requires { ⌜ (i + 1 < length (now bases)) × (getD (now bases) i 0 ≤ getD (now bases) (i + 1) 0) × (getD (now bases) (i + 1) 0 ≤ length (now old))
         × (from + getD (now bases) (i + 1) 0 ≤ length (now moves)) ⌝ }
-    ensures { λ r. ⌜ (r ≡ true → StuckIn i (now (bases .entry)) (now (moves .entry)) from (now (old .entry))) ⌝ }
+    ensures { λ r. ⌜ r ≡ stuckIn i (now (bases .entry)) (now (moves .entry)) from stays (now (old .entry)) ⌝ }
 {
     if stays != 0 {
         return false;
@@ -69,8 +67,7 @@ pub fn is_stuck(
 ) -> bool
     requires { ⌜ Sound (boardOf leaves actions (now bases) (now moves) (now costs) (now kinds) factors (now conditions)) ⌝ }
     requires { ⌜ (length (now still) ≡ 256) × (length (now stills) ≡ 2048) × (a < actions) × (getD (now bases) leaves 0 ≤ length (now old)) ⌝ }
-    ensures { λ r. ⌜ (r ≡ true → appliesOn (boardOf leaves actions (now (bases .entry)) (now (moves .entry)) (now (costs .entry)) (now (kinds .entry)) factors
-        (now (conditions .entry))) spot (now (old .entry)) a ≡ false) ⌝ }
+    ensures { λ r. ⌜ r ≡ stuckBy leaves (now (bases .entry)) (now (moves .entry)) (now (still .entry)) (now (stills .entry)) (now (old .entry)) a ⌝ }
 {
     if still[a] != 0 {
         return false;
@@ -104,7 +101,7 @@ fn carry(old: &[u64], moves: &[u16], at: usize, still: u8, new: &mut [u64]) -> u
 }
 
 // The begin of the layer behind a centre action, at the front of `new`, as in `layer::begin_layer`: all prices are copied at once, and only the leaves
-// that it moves pass. The key there, where `low` is the key with the prices of `old`: it rises with the least prices of the leaves.
+// that it moves pass. The key there: it rises from `low`, the key with the prices of `old`, with the least prices of the leaves.
 fn begin_moved(
     leaves: usize,
     actions: usize,
@@ -125,7 +122,7 @@ fn begin_moved(
         × (action < actions) × (getD (now bases) leaves 0 ≤ length (now old)) × (getD (now bases) leaves 0 ≤ length (now new)) ⌝ }
     ensures { λ r. ⌜ (now (new .exit) ≡ beginOn (boardOf leaves actions (now (bases .entry)) (now (moves .entry)) (now (costs .entry)) (now (kinds .entry))
         factors (now (conditions .entry))) action (now (old .entry)) ++ drop (getD (now (bases .entry)) leaves 0) (now (new .entry)))
-        × ((spent : ℕ) → low ≡ keyBy leaves (now (bases .entry)) spent (now (old .entry)) → r ≡ keyBy leaves (now (bases .entry)) spent (now (new .exit))) ⌝ }
+        × Risen (leasts (now (bases .entry)) (now (old .entry))) (leasts (now (bases .entry)) (now (new .exit))) leaves low r ⌝ }
 {
     let row = bases[leaves];
     copy_words(old, new, row);
@@ -171,10 +168,11 @@ pub fn begin_of(
     ensures { λ r. ⌜ (begunWords (getD (now (still .entry)) a 0) (getD (now (bases .entry)) leaves 0) (now (old .entry)) (now (next .exit))
         ≡ beginOn (boardOf leaves actions (now (bases .entry)) (now (moves .entry)) (now (costs .entry)) (now (kinds .entry))
         factors (now (conditions .entry))) a (now (old .entry)) ++ drop (getD (now (bases .entry)) leaves 0) (now (next .entry)))
-        × ((spent : ℕ) → low ≡ keyBy leaves (now (bases .entry)) spent (now (old .entry)) → r .key ≡ keyBy leaves (now (bases .entry)) spent
-        (begunWords (getD (now (still .entry)) a 0) (getD (now (bases .entry)) leaves 0) (now (old .entry)) (now (next .exit))))
+        × Risen (leasts (now (bases .entry)) (now (old .entry))) (leasts (now (bases .entry))
+        (begunWords (getD (now (still .entry)) a 0) (getD (now (bases .entry)) leaves 0) (now (old .entry)) (now (next .exit)))) leaves low (r .key)
         × (r .sign ≡ signOf (take (getD (now (bases .entry)) leaves 0)
-        (begunWords (getD (now (still .entry)) a 0) (getD (now (bases .entry)) leaves 0) (now (old .entry)) (now (next .exit))))) ⌝ }
+        (begunWords (getD (now (still .entry)) a 0) (getD (now (bases .entry)) leaves 0) (now (old .entry)) (now (next .exit)))))
+        × ((getD (now (still .entry)) a 0 ≡ 0 → ⊥) → now (next .exit) ≡ now (next .entry)) ⌝ }
 {
     let states = bases[leaves];
     if still[a] != 0 {

@@ -1,11 +1,8 @@
 // Detours: a hop behind a hop that goes back, or in place of which one hop goes all the way at no higher cost. What it makes is dealt with already.
 ghost use mathlib.Core.Path.{_≡_};
-ghost use mathlib.Core.Bool.{Bool, true, not, _&&_};
 ghost use Prim.Native.Nat.{ℕ, _+_, _*_, _≤_, _<_};
-ghost use lib.ListN.{length, getD, take};
-ghost use Rattle.rows.specs.Row.{nodeIn};
-ghost use Rattle.mets.specs.Listed.{Listed};
-ghost use Rattle.detours.specs.Detours.{detours, detoursFrom};
+ghost use lib.ListN.{length, getD};
+ghost use Rattle.detours.specs.Detours.{detours, detoursFrom, keptOf, keptIn, sameFront, hopBehind};
 
 // Whether action k behind a hop is a detour; `from` is 16 times the hop's variable plus the value that it left, c its cost.
 fn is_detour(hops: &[u16], ways: &[u8], costs: &[u16], from: usize, c: u16, k: usize) -> bool
@@ -32,7 +29,7 @@ fn is_detour(hops: &[u16], ways: &[u8], costs: &[u16], from: usize, c: u16, k: u
     costs[way - 1] as u32 <= c as u32 + costs[k] as u32
 }
 
-// Of the listed actions those stay that are no detours behind a hop of this word and cost, in their order: how many.
+// Of the listed actions those stay that are no detours behind a hop of this word and cost, in their order, at the front of `list`: how many.
 pub fn drop_detours(
     hops: &[u16],
     ways: &[u8],
@@ -44,8 +41,8 @@ pub fn drop_detours(
 ) -> usize
     requires { ⌜ (length (now hops) ≡ 256) × (length (now ways) ≡ 8192) × (length (now costs) ≡ 256) × (length (now list) ≡ 256) × (count ≤ 256)
         × (word ≤ 8192) × (word ≡ 0 → ⊥) × ((k : ℕ) → getD (now hops) k 0 ≤ 8192) ⌝ }
-    ensures { λ r. ⌜ (r ≤ 256) × ((p : ℕ → Bool) (n : ℕ) → Listed p n count (λ j. getD (now (list .entry)) j 0)
-        → Listed (λ k. p k && not (detours (now (hops .entry)) (now (ways .entry)) (now (costs .entry)) word c k)) n r (λ j. getD (now (list .exit)) j 0)) ⌝ }
+    ensures { λ r. ⌜ (r ≡ keptOf (detours (now (hops .entry)) (now (ways .entry)) (now (costs .entry)) word c) (now (list .entry)) count)
+        × (now (list .exit) ≡ keptIn (detours (now (hops .entry)) (now (ways .entry)) (now (costs .entry)) word c) (now (list .entry)) count) ⌝ }
 {
     let from = (word as usize - 1) / 16;
     let mut kept: usize = 0;
@@ -62,7 +59,7 @@ pub fn drop_detours(
 // Whether the first words of `ys` are those of `xs`. The bits in which they are apart are gathered: without a branch that is quicker.
 fn same_words(xs: &[u64], ys: &[u64]) -> bool
     requires { ⌜ length (now xs) ≤ length (now ys) ⌝ }
-    ensures { λ r. ⌜ (r ≡ true → now (xs .entry) ≡ take (length (now (xs .entry))) (now (ys .entry))) ⌝ }
+    ensures { λ r. ⌜ r ≡ sameFront (now (xs .entry)) (now (ys .entry)) ⌝ }
 {
     let mut apart: u64 = 0;
     for j in 0..xs.len() {
@@ -83,9 +80,7 @@ pub fn hop_behind(
 ) -> u16
     requires { ⌜ (states ≤ 1024) × (u < 4096) × (u * (40 + states) + (40 + states) ≤ length (now table)) × (length (now hops) ≡ 256) × (actions ≤ 255)
         × (states ≤ length (now prices)) ⌝ }
-    ensures { λ r. ⌜ ((r ≡ 0 → ⊥) → let n = nodeIn states (now (table .entry)) u in
-        (n .parent < u) × (n .action < actions) × (getD (now (hops .entry)) (n .action) 0 ≡ r)
-        × (nodeIn states (now (table .entry)) (n .parent) .prices ≡ take states (now (prices .entry)))) ⌝ }
+    ensures { λ r. ⌜ r ≡ hopBehind states actions (now (table .entry)) (now (hops .entry)) u (now (prices .entry)) ⌝ }
 {
     if states >= 128 {
         return 0;

@@ -59,10 +59,12 @@ fn list_all(states: usize, prices: &[u64], list: &mut [u16]) -> usize
     list_from(prices, list, x, states, many)
 }
 
-// Lists the states that the prices reach where there are 128 or more, and answers how many are listed. Fewer are told apart by the signature.
+// Lists the states that the prices reach where there are 128 or more, by rising number, and answers how many are listed. Fewer are told apart by the
+// signature: then none is listed, and `list` stays as it is. The words of `list` behind those listed are left to the program.
 pub fn list_reached(states: usize, prices: &[u64], list: &mut [u16]) -> usize
     requires { ⌜ (1024 ≤ length (now list)) × (states ≤ 1024) × (states ≤ length (now prices)) ⌝ }
-    ensures { λ r. ⌜ (r ≤ 1024) × (128 ≤ states → ReachesIn states (now (prices .entry)) (now (list .exit)) r) ⌝ }
+    ensures { λ r. ⌜ (r ≤ 1024) × (128 ≤ states → ReachesIn states (now (prices .entry)) (now (list .exit)) r)
+        × (states < 128 → r ≡ 0) × (states < 128 → now (list .exit) ≡ now (list .entry)) ⌝ }
 {
     if states >= 128 {
         return list_all(states, prices, list);
@@ -186,8 +188,8 @@ fn place_above(
     place_listed(row, states, prices, list)
 }
 
-// Whether the row's node has the same centre state, no higher centre cost and no higher price anywhere: then the answer is above the number of
-// states. Else it is the hint for the next node. `sign` is the signature of the prices, and `list` has the states that they reach
+// Whether the row's node has the same centre state, no higher centre cost and no higher price anywhere: then the answer is one more than the number of
+// states. Else it is the hint for the next node, which is left to the program: any number up to that of the states. `sign` is the signature of the prices, and `list` has the states that they reach
 // where there are 128 or more.
 pub fn test_row(
     row: &[u64],

@@ -119,7 +119,8 @@ fn fill_leaf(
     );
 }
 
-// The table of the edges of all leaf states. The edges of state s stand from `ends[s]` to `ends[s + 1]`.
+// The table of the edges of all leaf states. The edges of state s stand from `ends[s]` to `ends[s + 1]`. Where the first begin, and the words of both slices
+// that stand for no state, are left to the program; the lengths stay.
 pub fn fill_edges(
     leaves: usize,
     actions: usize,

@@ -317,7 +317,8 @@ fn list_turns(
 }
 
 // All actions of node u, whose key is given, by rising number; `mets`, `old`, `next` and `list` are lent to work in, and `room` has recent numbers behind
-// 1,024 words to work in (`offers::offer`).
+// 1,024 words to work in (`offers::offer`). The words of these five afterwards are left to the program, their lengths stay; those of `known` too, of which
+// `Known` holds.
 pub fn expand(
     leaves: usize,
     actions: usize,

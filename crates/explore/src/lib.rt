@@ -240,7 +240,8 @@ fn next_round<'a>(
     Round::Goes(after)
 }
 
-// The whole exploration of a task that the reader accepted.
+// The whole exploration of a task that the reader accepted. The table and the scan words hold the search it ends with; what else stands in them is left to the
+// program, their lengths stay.
 pub fn explore(
     task: Task,
     bases: &[usize],

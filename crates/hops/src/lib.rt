@@ -1,19 +1,18 @@
 // Hops: centre actions that move one centre variable and leave all leaves alone, such as the drives of a carriage.
 use task::FREE;
 ghost use mathlib.Core.Path.{_≡_};
-ghost use mathlib.Core.Bool.{true};
 ghost use Prim.Native.Nat.{ℕ, _+_, _*_, _≤_, _<_};
 ghost use lib.ListN.{length, getD};
 ghost use Rattle.layer.specs.Board.{Sound};
 ghost use Rattle.layer.specs.First.{Firsts};
 ghost use Rattle.layer.specs.Lent.{boardOf};
 ghost use Rattle.stills.specs.Still.{Still};
-ghost use Rattle.hops.specs.Hops.{PairWord, HopWord, Hops, Ways};
+ghost use Rattle.hops.specs.Hops.{namesOnly, pairWord, hopWord, hopsBy, waysBy};
 
 // Whether an action's row of conditions or effects, which begins at `at`, names no variable but v. All are looked at: without a branch that is quicker.
 fn names_only(pairs: &[u8], at: usize, v: usize) -> bool
     requires { ⌜ at + 32 ≤ length (now pairs) ⌝ }
-    ensures { λ r. ⌜ (r ≡ true → (w : ℕ) → w < 32 → (w ≡ v → ⊥) → getD (now (pairs .entry)) (at + w) 0 ≡ 16) ⌝ }
+    ensures { λ r. ⌜ r ≡ namesOnly (now (pairs .entry)) at v ⌝ }
 {
     let mut alone = true;
     for w in 0..32 {
@@ -25,7 +24,7 @@ fn names_only(pairs: &[u8], at: usize, v: usize) -> bool
 // The word of action a where its conditions and effects name variable v and no other, else 0.
 fn pair_word(conditions: &[u8], effects: &[u8], a: usize, v: usize) -> u16
     requires { ⌜ (length (now conditions) ≡ 8192) × (length (now effects) ≡ 8192) × (a < 256) × (v < 32) ⌝ }
-    ensures { λ r. ⌜ PairWord (now (conditions .entry)) (now (effects .entry)) a v r ⌝ }
+    ensures { λ r. ⌜ r ≡ pairWord (now (conditions .entry)) (now (effects .entry)) a v ⌝ }
 {
     let from = conditions[a * 32 + v] as u16;
     let into = effects[a * 32 + v] as u16;
@@ -63,8 +62,7 @@ fn hop_word(
         × (length (now effects) ≡ 8192) × (a < actions) ⌝ }
     requires { ⌜ Still leaves actions (now bases) (now moves) (now still)
         × Firsts (boardOf leaves actions (now bases) (now moves) (now costs) (now kinds) factors (now conditions)) (now firsts) ⌝ }
-    ensures { λ r. ⌜ HopWord (boardOf leaves actions (now (bases .entry)) (now (moves .entry)) (now (costs .entry)) (now (kinds .entry)) factors
-        (now (conditions .entry))) (now (effects .entry)) a r ⌝ }
+    ensures { λ r. ⌜ r ≡ hopWord (now (kinds .entry)) (now (conditions .entry)) (now (effects .entry)) (now (firsts .entry)) (now (still .entry)) a ⌝ }
 {
     if kinds[a] != 0 {
         return 0;
@@ -96,8 +94,7 @@ pub fn list_hops<'a>(
     requires { ⌜ Sound (boardOf leaves actions (now bases) (now moves) (now costs) (now kinds) factors (now conditions)) × (length (now effects) ≡ 8192) ⌝ }
     requires { ⌜ Still leaves actions (now bases) (now moves) (now still)
         × Firsts (boardOf leaves actions (now bases) (now moves) (now costs) (now kinds) factors (now conditions)) (now firsts) ⌝ }
-    ensures { λ r. ⌜ Hops actions (boardOf leaves actions (now (bases .entry)) (now (moves .entry)) (now (costs .entry)) (now (kinds .entry)) factors
-        (now (conditions .entry))) (now (effects .entry)) r ⌝ }
+    ensures { λ r. ⌜ r ≡ hopsBy actions (now (kinds .entry)) (now (conditions .entry)) (now (effects .entry)) (now (firsts .entry)) (now (still .entry)) ⌝ }
 {
     let mut hops = [0u16; 256];
     for a in 0..actions {
@@ -120,10 +117,10 @@ pub fn list_hops<'a>(
     hops
 }
 
-// For each hop from a value of a variable to another, one more than an action that makes it.
+// For each hop from a value of a variable to another, one more than the last action that makes it; 0 where none does.
 pub fn list_ways(actions: usize, hops: &[u16]) -> [u8; 8192]
     requires { ⌜ (actions ≤ 255) × (length (now hops) ≡ 256) × ((k : ℕ) → getD (now hops) k 0 ≤ 8192) ⌝ }
-    ensures { λ r. ⌜ Ways actions (now (hops .entry)) r ⌝ }
+    ensures { λ r. ⌜ r ≡ waysBy (now (hops .entry)) actions ⌝ }
 {
     let mut ways = [0u8; 8192];
     for a in 0..actions {

@@ -55,7 +55,8 @@ pub fn read_pair(rec: &[u8], sizes: &[u8], n: usize, low: usize, at: usize) -> P
     PairRead::Is(v as u8, x as u8, at2)
 }
 
-// `count` pairs from bit `at` on, each value into `pairs` at `base` plus its variable.
+// `count` pairs from bit `at` on, each value into `pairs` at `base` plus its variable. Where it refuses, the words of `pairs` are left to the program; its length
+// stays.
 pub fn read_pairs(
     rec: &[u8],
     sizes: &[u8],
@@ -69,6 +70,7 @@ pub fn read_pairs(
     ensures told { λ r. ⌜ pairsFrom (nextField (now (rec .entry))) (now (sizes .entry)) n base count (now (pairs .entry)) at
         ≡ placeTold (now (pairs .exit)) r ⌝ }
     ensures near { λ r. ⌜ placeOf r ≤ at + 9 * count ⌝ }
+    ensures room { λ _. ⌜ length (now (pairs .exit)) ≡ length (now (pairs .entry)) ⌝ }
 {
     let mut k = at;
     let mut low = 0;
@@ -89,7 +91,8 @@ pub fn read_pairs(
     Place::At(k)
 }
 
-// A list of pairs with its number in front: the goal's, or an action's conditions.
+// A list of pairs with its number in front: the goal's, or an action's conditions. Where it refuses, the words of `pairs` are left to the program; its length
+// stays.
 pub fn read_list(
     rec: &[u8],
     sizes: &[u8],
@@ -102,6 +105,7 @@ pub fn read_list(
     ensures told { λ r. ⌜ countedPairs (nextField (now (rec .entry))) (now (sizes .entry)) n base (now (pairs .entry)) at
         ≡ placeTold (now (pairs .exit)) r ⌝ }
     ensures near { λ r. ⌜ placeOf r ≤ at + 573 ⌝ }
+    ensures room { λ _. ⌜ length (now (pairs .exit)) ≡ length (now (pairs .entry)) ⌝ }
 {
     let f = field(rec, at, PAIRS);
     let FieldRead::Bits(count, at1) = f else {
@@ -110,7 +114,7 @@ pub fn read_list(
     read_pairs(rec, sizes, n, base, count as usize, at1, pairs)
 }
 
-// An action's effects: a list of pairs, and not an empty one.
+// An action's effects: a list of pairs, and not an empty one. Where it refuses, the words of `pairs` are left to the program; its length stays.
 pub fn read_effects(
     rec: &[u8],
     sizes: &[u8],
@@ -123,6 +127,7 @@ pub fn read_effects(
     ensures told { λ r. ⌜ effectPairs (nextField (now (rec .entry))) (now (sizes .entry)) n base (now (pairs .entry)) at
         ≡ placeTold (now (pairs .exit)) r ⌝ }
     ensures near { λ r. ⌜ placeOf r ≤ at + 573 ⌝ }
+    ensures room { λ _. ⌜ length (now (pairs .exit)) ≡ length (now (pairs .entry)) ⌝ }
 {
     let f = field(rec, at, PAIRS);
     let FieldRead::Bits(count, at1) = f else {
@@ -150,7 +155,7 @@ pub fn read_costs(rec: &[u8], at: usize) -> CostsRead
     CostsRead::Are(handling, distance, at2)
 }
 
-// Action i at bit `at`, into the four slices.
+// Action i at bit `at`, into the four slices. Where it refuses, their words are left to the program; their lengths stay.
 pub fn read_action(
     rec: &[u8],
     sizes: &[u8],
@@ -168,6 +173,8 @@ pub fn read_action(
         (record { handling = now (handling .entry); distance = now (distance .entry); conditions = now (conditions .entry); effects = now (effects .entry) }) at
         ≡ placeTold (record { handling = now (handling .exit); distance = now (distance .exit); conditions = now (conditions .exit); effects = now (effects .exit) }) r ⌝ }
     ensures near { λ r. ⌜ placeOf r ≤ at + 1168 ⌝ }
+    ensures room { λ _. ⌜ (length (now (handling .exit)) ≡ length (now (handling .entry))) × (length (now (distance .exit)) ≡ length (now (distance .entry)))
+        × (length (now (conditions .exit)) ≡ length (now (conditions .entry))) × (length (now (effects .exit)) ≡ length (now (effects .entry))) ⌝ }
 {
     let c = read_costs(rec, at);
     let CostsRead::Are(h, d, at1) = c else {
@@ -182,7 +189,7 @@ pub fn read_action(
     }
 }
 
-// `count` actions from bit `at` on, into the four slices.
+// `count` actions from bit `at` on, into the four slices. Where it refuses, their words are left to the program; their lengths stay.
 pub fn read_actions(
     rec: &[u8],
     sizes: &[u8],
@@ -200,6 +207,8 @@ pub fn read_actions(
         (record { handling = now (handling .entry); distance = now (distance .entry); conditions = now (conditions .entry); effects = now (effects .entry) }) at
         ≡ placeTold (record { handling = now (handling .exit); distance = now (distance .exit); conditions = now (conditions .exit); effects = now (effects .exit) }) r ⌝ }
     ensures near { λ r. ⌜ placeOf r ≤ at + 1168 * count ⌝ }
+    ensures room { λ _. ⌜ (length (now (handling .exit)) ≡ length (now (handling .entry))) × (length (now (distance .exit)) ≡ length (now (distance .entry)))
+        × (length (now (conditions .exit)) ≡ length (now (conditions .entry))) × (length (now (effects .exit)) ≡ length (now (effects .entry))) ⌝ }
 {
     let mut k = at;
     for i in 0..count {

@@ -122,7 +122,8 @@ fn fill(
     list_flagged(actions, slot);
 }
 
-// Where the slot begins that holds what is known of a centre state of this class; it is filled where it holds another.
+// Where the slot begins that holds what is known of a centre state of this class; it is filled where it holds another. Which slot that is, and so the words
+// of `known` afterwards, is left to the program: what each slot holds is right (`Known`), and this one holds what is asked for (`Told`).
 pub fn slot_for(
     actions: usize,
     firsts: &[u8],
@@ -155,7 +156,8 @@ pub fn slot_for(
     at
 }
 
-// The actions whose centre conditions hold in a centre state of this class, by rising number, at the front of `list`: how many.
+// The actions whose centre conditions hold in a centre state of this class, by rising number, at the front of `list`: how many. Behind them `list` stays as
+// it is. The words of `known` afterwards are left to the program: what each slot holds is right (`Known`).
 pub fn list_mets(
     actions: usize,
     firsts: &[u8],
@@ -169,7 +171,8 @@ pub fn list_mets(
     requires { ⌜ (actions ≤ 255) × (length (now conditions) ≡ 8192) × Firsts (asksOf actions factors (now conditions)) (now firsts)
         × (class < 4096) × (length (now list) ≡ 256) × Known (asksOf actions factors (now conditions)) (now known) ⌝ }
     ensures { λ r. ⌜ Known (asksOf actions factors (now (conditions .entry))) (now (known .exit)) × (r ≤ 256)
-        × Listed (metOn (asksOf actions factors (now (conditions .entry))) centre) actions r (λ j. getD (now (list .exit)) j 0) ⌝ }
+        × Listed (metOn (asksOf actions factors (now (conditions .entry))) centre) actions r (λ j. getD (now (list .exit)) j 0)
+        × ((k : ℕ) → r ≤ k → getD (now (list .exit)) k 0 ≡ getD (now (list .entry)) k 0) ⌝ }
 {
     let at = slot_for(actions, firsts, factors, conditions, centre, class, known);
     let count = known[at + 289] as usize;

@@ -267,7 +267,7 @@ pub fn slot_of(class: usize, sign: u64) -> usize
 }
 
 // The same as `walk`, but a node that dominated lately, or was kept, is tried before: `recent` is one more than its number, 0 for none. `list` has the states
-// that the prices reach where there are 128 or more.
+// that the prices reach where there are 128 or more. Which of several nodes that dominate is found is left to the program (`Dominator`).
 pub fn dominator(
     table: &[u64],
     states: usize,

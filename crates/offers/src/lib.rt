@@ -54,7 +54,8 @@ fn sign_behind(swept: bool, sign: u64, prices: &[u64]) -> u64
 }
 
 // A node under the next number: its row with its signature, its scan words (key, links), and the new best. `class` is its centre state's class, `sign` the signature of
-// its layer's begin, and `swept` whether a leaf was swept since.
+// its layer's begin, and `swept` whether a leaf was swept since. The scan words behind the keys are left to the program: they chain the nodes (`Kept`). So are
+// the words of the table that hold no node.
 pub fn keep(
     leaves: usize,
     bases: &[usize],
@@ -220,7 +221,8 @@ fn fill_begin(old: &[u64], begin: &mut [u64], still: u8, states: usize)
 
 // A successor of node `parent` by `action`, from its layer's begin, which is `old` where `still` is not 0: dropped, refused for a full table, or settled
 // and kept under the next number. `list` has the states that `old` reaches where there are 128 or more; `room` is for another such list, and
-// has the recent numbers behind its first 1,024 words.
+// has the recent numbers behind its first 1,024 words. The words of `begin` and `room` afterwards are left to the program, their lengths stay; those of
+// `known` too, of which `Known` holds.
 pub fn offer(
     leaves: usize,
     actions: usize,

@@ -85,7 +85,7 @@ pub fn read_variable(rec: &[u8], leaves: u8, at: usize) -> VariableRead
     VariableRead::Is((less + 1) as u8, factor as u8, initial as u8, at3)
 }
 
-// `n` variables from bit `at` on, into the three slices.
+// `n` variables from bit `at` on, into the three slices. Where it refuses, their words are left to the program; their lengths stay.
 pub fn read_variables(
     rec: &[u8],
     leaves: u8,
@@ -100,6 +100,7 @@ pub fn read_variables(
         (record { sizes = now (sizes .entry); factors = now (factors .entry); initial = now (initial .entry) }) at
         ≡ placeTold (record { sizes = now (sizes .exit); factors = now (factors .exit); initial = now (initial .exit) }) r ⌝ }
     ensures near { λ r. ⌜ placeOf r ≤ at + 12 * n ⌝ }
+    ensures room { λ _. ⌜ (length (now (sizes .exit)) ≡ length (now (sizes .entry))) × (length (now (factors .exit)) ≡ length (now (factors .entry))) × (length (now (initial .exit)) ≡ length (now (initial .entry))) ⌝ }
 {
     let mut k = at;
     for i in 0..n {

@@ -481,7 +481,7 @@ fn node_back(
 // ---- all nodes
 
 // The walk back from a node, whose leaves are in the states `ends`, to node 0: how many actions it meets. They are written as they are met, the plan's
-// last action first, as far as `total` places go.
+// last action first, as far as `total` places go. `tight` is lent to work in: its words afterwards are left to the program, its length stays.
 pub fn walk_back(
     task: Task,
     bases: &[usize],

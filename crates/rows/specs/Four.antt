@@ -1,7 +1,7 @@
 -- Four words stored side by side in a list, and what stands there then.
 use mathlib.Core.Path.{_≡_, _∙_}
 use mathlib.Core.List.{List}
-use Prim.Native.Nat.{ℕ, _+_, _≤_}
+use Prim.Native.Nat.{ℕ, _+_, _≤_, _<_}
 use native.Mathlib.Omega.{arith}
 use lib.ListN.{length, getD, set, length-set}
 use lib.Seq.{getD-set-same, getD-set-other}
@@ -41,3 +41,12 @@ module _ (C : List ℕ) (i a b c d : ℕ) where
   pub four-fourth : i + 4 ≤ length C → getD (fourTo C i a b c d) (i + 3) 0 ≡ d
   unfolding fourTo
   four-fourth room = getD-set-same (set (set (set C i a) (i + 1) b) (i + 2) c) (i + 3) d 0 (simp length-set (omega arith))
+
+  -- the words before them are as they were
+  pub four-before : (v : ℕ) → v < i → getD (fourTo C i a b c d) v 0 ≡ getD C v 0
+  unfolding fourTo
+  four-before v h =
+      getD-set-other (set (set (set C i a) (i + 1) b) (i + 2) c) (i + 3) v d 0 (λ e. omega arith)
+      ∙ getD-set-other (set (set C i a) (i + 1) b) (i + 2) v c 0 (λ e. omega arith)
+      ∙ getD-set-other (set C i a) (i + 1) v b 0 (λ e. omega arith)
+      ∙ getD-set-other C i v a 0 (λ e. omega arith)

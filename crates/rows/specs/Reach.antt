@@ -47,10 +47,12 @@ pub record ListedIn (L : List ℕ) (n x : ℕ) : Type 0 where
   pub inside : place < n
   pub is : getD L place 0 ≡ x
 
--- the first n words of L are states below S, and each state below S that P reaches is one of them
+-- the first n words of L are the states below S that P reaches, by rising number
 pub record ReachesIn (S : ℕ) (P L : List ℕ) (n : ℕ) : Type 0 where
   pub few : n ≤ S
   pub inside : (j : ℕ) → j < n → getD L j 0 < S
+  pub only : (j : ℕ) → j < n → getD P (getD L j 0) 0 < mark
+  pub rise : (i j : ℕ) → i < j → j < n → getD L i 0 < getD L j 0
   pub all : (x : ℕ) → x < S → getD P x 0 < mark → ListedIn L n x
 
 -- these words as a list
@@ -78,7 +80,13 @@ all-marks {p} {q} {r} {s} h =
 module _ (P L : List ℕ) where
   -- no state
   pub reaches-none : ReachesIn 0 P L 0
-  reaches-none = record { few = omega arith; inside = λ j l. absurd (not-suc-le-zero l); all = λ x l. absurd (not-suc-le-zero l) }
+  reaches-none = record {
+    few = omega arith;
+    inside = λ j l. absurd (not-suc-le-zero l);
+    only = λ j l. absurd (not-suc-le-zero l);
+    rise = λ i j _ l. absurd (not-suc-le-zero l);
+    all = λ x l. absurd (not-suc-le-zero l);
+  }
 
   module _ (S n : ℕ) (r : ReachesIn S P L n) where
     -- states that are not reached need no word
@@ -86,6 +94,8 @@ module _ (P L : List ℕ) where
     reaches-past T l far = record {
       few = omega (arith, r .few);
       inside = λ j b. omega (arith, r .inside j b);
+      only = r .only;
+      rise = r .rise;
       all = λ x b low. go x b low (decLt x S);
     }
       where
@@ -98,17 +108,21 @@ module _ (P L : List ℕ) where
     reaches-set v = record {
       few = r .few;
       inside = λ j l. omega (arith, same j l, r .inside j l);
+      only = λ j l. rw (same j l) (r .only j l);
+      rise = λ i j h l. rw (same i (omega arith), same j l) (r .rise i j h l);
       all = λ x l low. let k = r .all x l low in record { place = k .place; inside = k .inside; is = same (k .place) (k .inside) ∙ k .is };
     }
       where
         same : (j : ℕ) → j < n → getD (set L n v) j 0 ≡ getD L j 0
         same j l = getD-set-other L n j v 0 (λ e. omega arith)
 
-    -- the word behind them is the next state, and it is counted
-    pub reaches-more : n < length L → ReachesIn (S + 1) P (set L n S) (n + 1)
-    reaches-more room = record {
+    -- the word behind them is the next state, and it is counted where it is reached
+    pub reaches-more : n < length L → getD P S 0 < mark → ReachesIn (S + 1) P (set L n S) (n + 1)
+    reaches-more room near = record {
       few = omega (arith, r .few);
       inside = λ j l. below j (below-cases (omega arith));
+      only = λ j l. only j (below-cases (omega arith));
+      rise = λ i j h l. rise i j h (below-cases (omega arith));
       all = λ x l low. go x low (below-cases (omega arith));
     }
       where
@@ -119,6 +133,14 @@ module _ (P L : List ℕ) where
         below j (inl l) = omega (arith, reaches-set S .inside j l)
         below j (inr e) = rw e (omega (arith, own))
 
+        only : (j : ℕ) → (j < n) ⊎ (j ≡ n) → getD P (getD (set L n S) j 0) 0 < mark
+        only j (inl l) = reaches-set S .only j l
+        only j (inr e) = rw (e, own) near
+
+        rise : (i j : ℕ) → i < j → (j < n) ⊎ (j ≡ n) → getD (set L n S) i 0 < getD (set L n S) j 0
+        rise i j h (inl l) = reaches-set S .rise i j h l
+        rise i j h (inr e) = rw (e, own) (reaches-set S .inside i (omega arith))
+
         go : (x : ℕ) → getD P x 0 < mark → (x < S) ⊎ (x ≡ S) → ListedIn (set L n S) (n + 1) x
         go x low (inl l) = let k = reaches-set S .all x l low in record { place = k .place; inside = omega (arith, k .inside); is = k .is }
         go x low (inr e) = record { place = n; inside = omega arith; is = own ∙ sym e }
@@ -128,6 +150,8 @@ module _ (P L : List ℕ) where
     reaches-skip v far = record {
       few = omega (arith, r .few);
       inside = λ j l. omega (arith, reaches-set v .inside j l);
+      only = reaches-set v .only;
+      rise = reaches-set v .rise;
       all = λ x l low. go x low (below-cases (omega arith));
     }
       where

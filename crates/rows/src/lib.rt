@@ -3,7 +3,7 @@ use leaf::MARK;
 use task::Centre;
 use words::copy_words;
 ghost use mathlib.Core.Path.{_≡_};
-ghost use Prim.Native.Nat.{_+_, _*_, _≤_, _<_};
+ghost use Prim.Native.Nat.{ℕ, _+_, _*_, _≤_, _<_};
 ghost use lib.ListN.{length, getD, take};
 ghost use Rattle.rows.specs.Four.{fourTo};
 ghost use Rattle.rows.specs.Row.{spotOf, nodeOf, nodeWith, packOf, Packed};
@@ -98,7 +98,7 @@ fn write_packs(row: &mut [u64], spot: Centre)
     row[38] = pack(spot, 24);
 }
 
-// A node into its row, with the signature of its prices.
+// A node into its row, with the signature of its prices. The words that are not used stay as they are.
 pub fn write_row(
     row: &mut [u64],
     states: usize,
@@ -111,7 +111,7 @@ pub fn write_row(
 )
     requires { ⌜ (length (now row) ≡ 40 + states) × (states ≤ length (now prices)) ⌝ }
     ensures { λ _. ⌜ (nodeOf states (now (row .exit)) ≡ nodeWith spot paid (take states (now (prices .entry))) parent action) × Packed (now (row .exit))
-        × (getD (now (row .exit)) 39 0 ≡ sign) ⌝ }
+        × (getD (now (row .exit)) 39 0 ≡ sign) × ((v : ℕ) → v < 32 → getD (now (row .exit)) v 0 ≡ getD (now (row .entry)) v 0) ⌝ }
 {
     write_packs(row, spot);
     row[32] = paid;

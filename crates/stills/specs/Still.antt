@@ -1,14 +1,18 @@
 -- Actions that leave each state of a leaf, or of each leaf, as it is. Assumes nothing.
-use mathlib.Core.Path.{_≡_, sym, _∙_}
-use mathlib.Core.Logic.{_⊎_, inl, inr}
-use mathlib.Core.List.{List}
+use mathlib.Core.Path.{_≡_, refl, sym, ap, _∙_}
+use mathlib.Core.Bool.{Bool, true, false, cond, not, _&&_, true≢false}
+use mathlib.Core.List.{List, _++_}
 use Prim.Native.Nat.{ℕ, suc, _+_, _-_, _*_, _/_, _%_, _≤_, _<_}
-use native.Mathlib.Nat.{not-suc-le-zero, mul-le-mul-right}
+use native.Mathlib.Nat.{mul-le-mul-right}
+use native.Mathlib.Decide.{decLe}
 use native.Mathlib.Omega.{arith}
-use lib.ListN.{length, getD, set, length-set}
+use lib.Dec.{ltb, eqb}
+use lib.ListN.{length, getD, set, drop, replicate, length-append, length-drop, length-replicate, getD-replicate, List·getD-append, List·getD-eq-default}
+use lib.Seq.{getD-append-add, getD-drop}
 use lib.Arith.{digits-div, digits-mod}
-use lib.Seq.{getD-set-same, getD-set-other}
-use Rattle.loops.specs.Count.Laws.{below-cases}
+use borrow.Author.Tests.{eq-eqb, eqb-true}
+use Rattle.loops.specs.Count.{all, list}
+use Rattle.loops.specs.Count.Laws.{and-out, all-out, list-length, list-at, list-more}
 use Rattle.keys.specs.Scan.{Cut}
 use Rattle.keys.specs.Scan.Laws.{cut-in}
 
@@ -35,9 +39,33 @@ pub record Entries (n leaves : ℕ) (bases moves stills : List ℕ) : Type 0 whe
 abbrev pub Stills : ℕ → ℕ → List ℕ → List ℕ → List ℕ → Type 0
 Stills leaves actions bases moves stills = Entries (actions * 8) leaves bases moves stills
 
--- none of the entries of action a, of the first n leaves, is 0
-abbrev pub Marked : ℕ → List ℕ → ℕ → Type 0
-Marked n stills a = (i : ℕ) → i < n → getD stills (a * 8 + i) 0 ≡ 0 → ⊥
+-- ---- what the code counts, one definition for each function
+
+-- a list of m numbers: f 0, f 1, .., f (n - 1), and zeros behind them
+abbrev pub padded : (m n : ℕ) (f : ℕ → ℕ) → List ℕ
+padded m n f = list n f ++ drop n (replicate m 0)
+
+-- whether an action whose moves of a leaf begin at `at` leaves each of the leaf's states as it is
+unfoldable pub staysBy : (moves : List ℕ) (at states : ℕ) → Bool
+staysBy moves at states = all states (λ x. eqb (getD moves (at + x) 0) (x + 1))
+
+-- the entry of action k / 8 and the leaf behind k % 8 leaves: 1 if there is such a leaf and the action leaves each of its states as it is, else 0
+unfoldable pub stillEntry : (leaves : ℕ) (bases moves : List ℕ) (k : ℕ) → ℕ
+stillEntry leaves bases moves k =
+    let at = getD bases (k % 8) 0 in
+    cond (ltb (k % 8) leaves && staysBy moves (k / 8 * getD bases leaves 0 + at) (getD bases (k % 8 + 1) 0 - at)) 1 0
+
+-- the entries of all actions, eight to an action
+unfoldable pub stillLeaves : (leaves actions : ℕ) (bases moves : List ℕ) → List ℕ
+stillLeaves leaves actions bases moves = padded 2048 (actions * 8) (stillEntry leaves bases moves)
+
+-- 1 if none of the entries of action a, one for each leaf, is 0, else 0
+unfoldable pub stillBy : (leaves : ℕ) (stills : List ℕ) (a : ℕ) → ℕ
+stillBy leaves stills a = cond (all leaves (λ i. not (eqb (getD stills (a * 8 + i) 0) 0))) 1 0
+
+-- that of each action
+unfoldable pub stillActions : (leaves actions : ℕ) (stills : List ℕ) → List ℕ
+stillActions leaves actions stills = padded 256 actions (stillBy leaves stills)
 
 -- ---- finding them
 
@@ -49,54 +77,74 @@ within leaves bases n cut from h i l =
     let inside = cut-in leaves bases (getD bases leaves 0) tight i l in
     (omega (arith, inside), omega (arith, inside))
 
--- what holds of the numbers below n, and of n, holds of those below n + 1
-pub one-more : (P : ℕ → Type 0) (n : ℕ) → ((x : ℕ) → x < n → P x) → P n → (x : ℕ) → x < n + 1 → P x
-one-more P n h e x l = go (below-cases (omega arith))
-  where
-    go : (x < n) ⊎ (x ≡ n) → P x
-    go (inl k) = h x k
-    go (inr q) = rw q e
-
 -- an action's moves lie within the table
 pub action-in : (n a w m : ℕ) → a < n → n * w ≤ m → a * w + w ≤ m
 action-in n a w m l h = omega (arith, mul-le-mul-right {m = suc a} {n = n} w l, h)
 
--- no action
-pub still-none : (leaves : ℕ) (bases moves still : List ℕ) → length still ≡ 256 → Still leaves 0 bases moves still
-still-none leaves bases moves still h = record { long = h; stays = λ a l. absurd (not-suc-le-zero l) }
+-- ---- tables with zeros behind
 
--- an action more
-pub still-more : (leaves a : ℕ) (bases moves still : List ℕ) (f : ℕ) → a < 256 → ((f ≡ 0 → ⊥) → Stays leaves bases moves (a * getD bases leaves 0))
-    → Still leaves a bases moves still → Still leaves (a + 1) bases moves (set still a f)
-still-more leaves a bases moves still f few h s =
-    record { long = length-set still a f ∙ s .long; stays = λ k l. go k (below-cases (omega arith)) }
+-- zeros alone
+pub zeros-at : (n k : ℕ) → getD {A = ℕ} (replicate n 0) k 0 ≡ 0
+zeros-at n k = go (decLe (suc k) n)
   where
-    go : (k : ℕ) → (k < a) ⊎ (k ≡ a) → (getD (set still a f) k 0 ≡ 0 → ⊥) → Stays leaves bases moves (k * getD bases leaves 0)
-    go k (inl l) d = s .stays k l (rw (getD-set-other still a k f 0 (λ e. omega arith)) at d)
-    go k (inr q) d = rw q (h (rw (q, getD-set-same still a f 0 (omega (arith, s .long))) at d))
+    go : Dec (k < n) → getD {A = ℕ} (replicate n 0) k 0 ≡ 0
+    go (yes l) = getD-replicate {A = ℕ} n k 0 0 l
+    go (no d) = List·getD-eq-default {A = ℕ} (replicate n 0) 0 {n = k} (simp length-replicate (omega (arith, d)))
 
--- no entry
-pub entries-none : (leaves : ℕ) (bases moves stills : List ℕ) → length stills ≡ 2048 → Entries 0 leaves bases moves stills
-entries-none leaves bases moves stills h = record { long = h; stays = λ a i l. absurd (not-suc-le-zero l) }
+module _ (m : ℕ) (f : ℕ → ℕ) where
+  pub padded-length : (n : ℕ) → n ≤ m → length (padded m n f) ≡ m
+  padded-length n l = simp (length-append, length-drop) (omega (arith, list-length n f, length-replicate {A = ℕ} m 0))
 
--- an entry more
-pub entries-more : (leaves k : ℕ) (bases moves stills : List ℕ) (f : ℕ) → k < 2048
-    → ((f ≡ 0 → ⊥) → StaysIn (k % 8) bases moves (k / 8 * getD bases leaves 0))
-    → Entries k leaves bases moves stills → Entries (k + 1) leaves bases moves (set stills k f)
-entries-more leaves k bases moves stills f few h s =
-    record { long = length-set stills k f ∙ s .long; stays = λ a i l e. go a i e (below-cases (omega arith)) }
-  where
-    go : (a i : ℕ) → i < 8 → (a * 8 + i < k) ⊎ (a * 8 + i ≡ k) → (getD (set stills k f) (a * 8 + i) 0 ≡ 0 → ⊥)
-        → StaysIn i bases moves (a * getD bases leaves 0)
-    go a i e (inl l) d = s .stays a i l e (rw (getD-set-other stills k (a * 8 + i) f 0 (λ e. omega arith)) at d)
-    go a i e (inr q) d =
-        let leaf : k % 8 ≡ i = rw (sym q) (digits-mod a {m = 8} {r = i} e) in
-        let act : k / 8 ≡ a = rw (sym q) (digits-div a {m = 8} {r = i} e) in
-        rw (leaf, act) at (h (rw (q, getD-set-same stills k f 0 (omega (arith, s .long))) at d))
+  -- a turn of the loop that stores the next
+  pub padded-more : (n : ℕ) → n < m → set (padded m n f) n (f n) ≡ padded m (n + 1) f
+  padded-more n l = list-more n f (replicate m 0) (omega (arith, length-replicate {A = ℕ} m 0))
+
+  pub padded-at : (n k : ℕ) → k < n → getD (padded m n f) k 0 ≡ f k
+  padded-at n k l = List·getD-append (list n f) (drop n (replicate m 0)) 0 k (omega (arith, list-length n f)) ∙ list-at n f k l
+
+  -- behind them
+  pub padded-behind : (n k : ℕ) → n ≤ k → getD (padded m n f) k 0 ≡ 0
+  padded-behind n k l =
+      let z : k ≡ n + (k - n) = omega arith in
+      rw z (rw (list-length n f) at (getD-append-add (list n f) (drop n (replicate m 0)) (k - n) 0)
+      ∙ getD-drop n (replicate m 0) (k - n) 0
+      ∙ zeros-at m (n + (k - n)))
+
+-- ---- what the tables say
+
+-- a number that is 1 where a test holds, else 0, and is not 0
+one-holds : (t : Bool) → (cond {A = ℕ} t 1 0 ≡ 0 → ⊥) → t ≡ true
+one-holds true d = refl
+one-holds false d = absurd (d refl)
+
+-- an entry that is not 0 is of a leaf whose states the action leaves as they are
+entry-stays : (leaves : ℕ) (bases moves : List ℕ) (a i : ℕ) → i < 8 → (stillEntry leaves bases moves (a * 8 + i) ≡ 0 → ⊥)
+    → StaysIn i bases moves (a * getD bases leaves 0)
+unfolding stillEntry staysBy
+entry-stays leaves bases moves a i l d x k =
+    let at = a * getD bases leaves 0 + getD bases i 0 in
+    let found = one-holds (ltb i leaves && staysBy moves at (getD bases (i + 1) 0 - getD bases i 0)) (rw (digits-mod a {m = 8} {r = i} l, digits-div a {m = 8} {r = i} l) at d) in
+    eqb-true _ _ (all-out (getD bases (i + 1) 0 - getD bases i 0) (λ y. eqb (getD moves (at + y) 0) (y + 1)) (and-out (ltb i leaves) _ found .1) x k)
+
+-- the table by action and leaf
+pub stills-right : (leaves actions : ℕ) (bases moves : List ℕ) → actions ≤ 255 → Stills leaves actions bases moves (stillLeaves leaves actions bases moves)
+unfolding stillLeaves
+stills-right leaves actions bases moves few =
+    record {
+      long = padded-length 2048 (stillEntry leaves bases moves) (actions * 8) (omega arith);
+      stays = λ a i l e d. entry-stays leaves bases moves a i e (rw (padded-at 2048 (stillEntry leaves bases moves) (actions * 8) (a * 8 + i) l) at d);
+    }
 
 -- an action none of whose entries is 0 leaves each state of each leaf as it is
-pub marked-stays : (leaves actions : ℕ) (bases moves stills : List ℕ) (a : ℕ) → leaves ≤ 8 → a < actions → Stills leaves actions bases moves stills
-    → Marked leaves stills a → Stays leaves bases moves (a * getD bases leaves 0)
-marked-stays leaves actions bases moves stills a few below s m i x l k =
-    let z : a * getD bases leaves 0 + (getD bases i 0 + x) ≡ a * getD bases leaves 0 + getD bases i 0 + x = omega arith in
-    rw z (s .stays a i (omega arith) (omega arith) (m i l) x k)
+pub still-right : (leaves actions : ℕ) (bases moves stills : List ℕ) → leaves ≤ 8 → actions ≤ 255 → Stills leaves actions bases moves stills
+    → Still leaves actions bases moves (stillActions leaves actions stills)
+unfolding stillActions stillBy
+still-right leaves actions bases moves stills few many s =
+    record {
+      long = padded-length 256 (stillBy leaves stills) actions (omega arith);
+      stays = λ a l d i x h k.
+          let none : ℕ → Bool = λ j. not (eqb (getD stills (a * 8 + j) 0) 0) in
+          let marked = one-holds (all leaves none) (rw (padded-at 256 (stillBy leaves stills) actions a l) at d) in
+          let z : a * getD bases leaves 0 + (getD bases i 0 + x) ≡ a * getD bases leaves 0 + getD bases i 0 + x = omega arith in
+          rw z (s .stays a i (omega arith) (omega arith) (λ e. true≢false (sym (all-out leaves none marked i h) ∙ ap not (eq-eqb _ _ e))) x k);
+    }

@@ -4,9 +4,12 @@ pub mod Same
 pub mod Leaf
 pub mod Still
 use mathlib.Core.Path.{_≡_}
+use mathlib.Core.Bool.{Bool, not}
 use mathlib.Core.List.{List}
-use Prim.Native.Nat.{ℕ, zero, suc, _+_, _*_, _≤_, _<_}
-use lib.ListN.{length, getD}
+use Prim.Native.Nat.{ℕ, zero, suc, _+_, _-_, _*_, _≤_, _<_}
+use lib.Dec.{eqb}
+use lib.ListN.{length, getD, take, drop}
+use Rattle.loops.specs.Count.{any}
 use Rattle.leaf.specs.Settle.Walks.{Ranged}
 use Rattle.leaf.specs.Lent.{costBy, moveBy}
 use Rattle.edges.specs.Edges.{edgesAt}
@@ -36,6 +39,20 @@ pub record Ways (moves : List ℕ) (row at : ℕ) (costs mets edges ends : List 
 -- the flags of the first k actions of a list are not set
 abbrev pub Unmet : List ℕ → List ℕ → ℕ → Type 0
 Unmet mets acts k = (j : ℕ) → j < k → getD mets (getD acts j 0) 0 ≡ 0
+
+-- whether the flag of one of these actions is set
+unfoldable pub someMet : (mets acts : List ℕ) → Bool
+someMet mets acts = any (length acts) (λ j. not (eqb (getD mets (getD acts j 0) 0) 0))
+
+-- the edges of the states of the leaf behind i leaves
+abbrev pub edgesOf : (bases edges ends : List ℕ) (i : ℕ) → List ℕ
+edgesOf bases edges ends i =
+    let from = getD ends (getD bases i 0) 0 in
+    take (getD ends (getD bases (i + 1) 0) 0 - from) (drop from edges)
+
+-- whether a leaf is swept: one of its edges has its flag set
+unfoldable pub sweptBy : (leaves : ℕ) (bases mets edges ends : List ℕ) → Bool
+sweptBy leaves bases mets edges ends = any leaves (λ i. someMet mets (edgesOf bases edges ends i))
 
 -- one of m actions leads from x to y at cost w
 pub record Edge (m : ℕ) (cost : ℕ → ℕ) (to : ℕ → ℕ → ℕ) (x y w : ℕ) : Type 0 where

@@ -16,7 +16,7 @@ ghost use Rattle.layer.specs.Board.{Sound, settleOn, settledOn};
 ghost use Rattle.layer.specs.Lent.{boardOf};
 ghost use Rattle.mets.specs.Mets.{Mets};
 ghost use Rattle.edges.specs.Edges.{Edges};
-ghost use Rattle.sweeps.specs.Sweeps.{gated, moveMet, Along, Ways, Unmet, Meant, Aims};
+ghost use Rattle.sweeps.specs.Sweeps.{gated, moveMet, Along, Ways, someMet, edgesOf, sweptBy, Meant, Aims};
 
 // An action whose flag is set lowers the price of what it makes of state x, whose price is d. Its move of the state stands at `place`. Whether a price
 // fell that is not behind x.
@@ -309,7 +309,7 @@ fn sweep(
 // Whether the flag of one of these actions is set.
 fn some_met(mets: &[u8], acts: &[u8]) -> bool
     requires { ⌜ 256 ≤ length (now mets) ⌝ }
-    ensures { λ r. ⌜ (r ≡ false → Unmet (now (mets .entry)) (now (acts .entry)) (length (now (acts .entry)))) ⌝ }
+    ensures { λ r. ⌜ r ≡ someMet (now (mets .entry)) (now (acts .entry)) ⌝ }
 {
     for j in 0..acts.len() {
         if mets[acts[j] as usize] != 0 {
@@ -365,7 +365,8 @@ fn settle_leaf(
         × Edges (boardOf leaves actions (now bases) (now moves) (now costs) (now kinds) factors (now conditions)) (now edges) (now ends)
         × (i < leaves) × (length (now prices) ≡ getD (now bases) (i + 1) 0 - getD (now bases) i 0) ⌝ }
     ensures { λ r. ⌜ (now (prices .exit) ≡ settleOn (boardOf leaves actions (now (bases .entry)) (now (moves .entry)) (now (costs .entry)) (now (kinds .entry))
-        factors (now (conditions .entry))) i centre (now (prices .entry))) × (r ≡ false → now (prices .exit) ≡ now (prices .entry)) ⌝ }
+        factors (now (conditions .entry))) i centre (now (prices .entry))) × (r ≡ false → now (prices .exit) ≡ now (prices .entry))
+        × (r ≡ someMet (now (mets .entry)) (edgesOf (now (bases .entry)) (now (edges .entry)) (now (ends .entry)) i)) ⌝ }
 {
     let row = bases[leaves];
     let at = bases[i];
@@ -379,7 +380,7 @@ fn settle_leaf(
 }
 
 // The prices at the front of `new` settle along the edges, leaf by leaf; `centre` is the layer's centre state, and `mets` flags the actions whose
-// centre conditions hold there. Whether a leaf was swept: else all is as it was.
+// centre conditions hold there. Whether a leaf was swept, which is one of whose edges has its flag set: else all is as it was.
 pub fn settle_edges(
     leaves: usize,
     actions: usize,
@@ -401,7 +402,8 @@ pub fn settle_edges(
         × (getD (now bases) leaves 0 ≤ length (now new)) ⌝ }
     ensures { λ r. ⌜ (now (new .exit) ≡ settledOn (boardOf leaves actions (now (bases .entry)) (now (moves .entry)) (now (costs .entry)) (now (kinds .entry))
         factors (now (conditions .entry))) centre (now (new .entry)) ++ drop (getD (now (bases .entry)) leaves 0) (now (new .entry)))
-        × (r ≡ false → now (new .exit) ≡ now (new .entry)) ⌝ }
+        × (r ≡ false → now (new .exit) ≡ now (new .entry))
+        × (r ≡ sweptBy leaves (now (bases .entry)) (now (mets .entry)) (now (edges .entry)) (now (ends .entry))) ⌝ }
 {
     let mut swept = false;
     for i in 0..leaves {

@@ -30,7 +30,7 @@ fn bases_of(sizes: &[u8], factors: &[u8], variables: usize, leaves: usize) -> [u
     bases
 }
 
-// Where the states of each leaf begin, and behind the last leaf the count of all states.
+// Where the states of each leaf begin, and behind the last leaf the count of all states. The entries behind that are left to the program.
 pub fn leaf_bases(task: Task) -> [usize; 9]
     requires { ⌜ Valid task ⌝ }
     ensures { λ r. ⌜ Bases task r ⌝ }
@@ -83,7 +83,7 @@ fn starts_of(
     starts
 }
 
-// The initial state of each leaf.
+// The initial state of each leaf. The entries behind the last leaf's are left to the program.
 pub fn leaf_starts(task: Task) -> [usize; 8]
     requires { ⌜ Valid task ⌝ }
     ensures { λ r. ⌜ Starts task r ⌝ }
@@ -116,7 +116,7 @@ fn costs_of(handling: &[u16], distance: &[u16], actions: usize) -> [u16; 256]
     costs
 }
 
-// What each action costs.
+// What each action costs. The entries behind the last action's are left to the program.
 pub fn action_costs(task: Task) -> [u16; 256]
     requires { ⌜ Valid task ⌝ }
     ensures { λ r. ⌜ Costs task r ⌝ }
@@ -174,7 +174,7 @@ fn kinds_of<'a>(
     kinds
 }
 
-// The leaf of each leaf action, 0 for centre actions.
+// The leaf of each leaf action, 0 for centre actions. The entries behind the last action's are left to the program.
 pub fn action_kinds(task: Task) -> [u8; 256]
     requires { ⌜ Valid task ⌝ }
     ensures { λ r. ⌜ Kinds task r ⌝ }
@@ -220,7 +220,8 @@ pub fn fill_moves(task: Task, bases: [usize; 9], moves: &mut [u16])
     );
 }
 
-// Not 0 at each leaf state that meets the goal: what an action makes of it whose conditions are the goal's pairs, and that has no effects.
+// Not 0 at each leaf state that meets the goal: what an action makes of it whose conditions are the goal's pairs, and that has no effects. Which number it
+// is there, and the entries behind the last leaf state's, are left to the program.
 pub fn leaf_goals(task: Task, bases: [usize; 9]) -> [u16; 1024]
     requires { ⌜ Valid task ⌝ }
     requires { ⌜ Bases task bases ⌝ }

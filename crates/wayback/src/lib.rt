@@ -382,7 +382,8 @@ fn tight_back(
     walk(&sources, acts, &depths[..], state, plan, total, place)
 }
 
-// From a state of a settled layer back to one that has kept the price that the layer began with. `tight` is only lent to work in.
+// From a state of a settled layer back to one that has kept the price that the layer began with. `tight` is lent to work in: its words afterwards are left to
+// the program, its length stays.
 pub fn leaf_back(
     moves: &[u16],
     row: usize,

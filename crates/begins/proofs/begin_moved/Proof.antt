@@ -10,7 +10,7 @@ use Rattle.layer.specs.Board.{Board, baseOn, rowOn, partOn, passOn, beginOn}
 use Rattle.layer.specs.Board.Turns.{base-in, moves-here, moves-stay, leaf-passed, part-length, Laid, laid-none, laid-more, laid-rest}
 use Rattle.layer.specs.Lent.{boardOf}
 use Rattle.search.specs.Node.{leastOf}
-use Rattle.begins.specs.Begin.{Risen, risen-none, risen-more, risen-key, part-copied, rest-copied}
+use Rattle.begins.specs.Begin.{Risen, risen-none, risen-more, risen-laid, part-copied, rest-copied}
 use Rattle.begins.proofs.begin_moved.Statement.{statement}
 use Rattle.begins.proofs.begin_moved.Tie as tie
 
@@ -192,7 +192,7 @@ returns c =
     let laid = rw all at (l .inv .1 .laid) in
     let room : rowOn (lent s) ≤ length (l .new) = omega (arith, s .pre .4, l .inv .1 .kept) in
     let behind = rest-copied (rowOn (lent s)) (a .old .now) (a .new .now) (made (c .before)) (s .pre .3) (isMade (c .before)) in
-    (rw behind at laid, λ spent isLow. risen-key (lent s) (s .pre .0) (a .action) spent (a .old .now) (l .new) _ (a .low) (l .key) room laid (rw all at (l .inv .1 .long)) (rw all at (l .inv .2)) isLow)
+    (rw behind at laid, risen-laid (lent s) (s .pre .0) (a .action) (a .old .now) (l .new) _ (a .low) (l .key) room laid (rw all at (l .inv .1 .long)) (rw all at (l .inv .2)))
 
 pub begin-moved-spec : {M : Type 1} → statement M
 begin-moved-spec =

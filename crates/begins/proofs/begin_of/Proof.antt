@@ -1,5 +1,5 @@
 -- `begins::begin_of` meets its contract: behind an action that leaves all leaf states as they are the begin is the old layer. Assumes nothing.
-use mathlib.Core.Path.{_≡_, sym}
+use mathlib.Core.Path.{_≡_, refl, sym}
 use native.Mathlib.Omega.{arith}
 use denote.Ref.{now}
 use lib.ListN.{length, getD, drop}
@@ -32,10 +32,11 @@ returns c =
     let s = c .before .before .before .before .before .before .before .before .before .before .before .before in
     let a = s .args in
     let still = getD (now (a .still)) (a .a) 0 in
-    begun-still (board s) (s .pre .0) (a .a) (now (a .old)) (drop (rowOn (board s)) (now (a .next))) (a .low) (a .sign)
+    let old = begun-still (board s) (s .pre .0) (a .a) (now (a .old)) (drop (rowOn (board s)) (now (a .next))) (a .low) (a .sign) (omega (arith, s .fits .low))
     (s .pre .1 .1 .0 .1) (λ x. omega (arith, c .before .before .before .before .shared-slice-known8 .given x)) (s .pre .1 .0 .0 .stays (a .a) (s .pre .1 .1 .0 .0) (c .if1 .taken))
     (s .pre .1 .1 .1) (begunWords still (rowOn (board s)) (now (a .old)) (now (a .next)))
-    (begun-stays still (rowOn (board s)) (now (a .old)) (now (a .next)) (c .if1 .taken))
+    (begun-stays still (rowOn (board s)) (now (a .old)) (now (a .next)) (c .if1 .taken)) in
+    (old .0, old .1, old .2, λ _. refl)
 
 begin-moved-requires : tie.Need-begin-moved-requires
 begin-moved-requires c κs = search needs
@@ -63,7 +64,7 @@ returns-2 c =
     let s = e .before .before .before .before .before .before .before .before .before .before .before .before in
     let a = s .args in
     rw (begun-moved (getD (now (a .still)) (a .a) 0) (rowOn (board s)) (now (a .old)) (n .last .1 .1 .1 .1 .1 .1 .1 .1 .1 .1 .1 .1 .0) (e .if1 .left))
-    (n .ensures .0, n .ensures .1, c .sign-of .ensures)
+    (n .ensures .0, n .ensures .1, c .sign-of .ensures, λ d. absurd (d (e .if1 .left)))
 
 pub begin-of-spec : {M : Type 1} → statement M
 begin-of-spec =

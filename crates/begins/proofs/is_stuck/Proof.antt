@@ -1,19 +1,24 @@
--- `begins::is_stuck` meets its contract: a leaf that the action is stuck in says that it does not apply. The leaves that are passed over say nothing. Assumes nothing.
-use mathlib.Core.Path.{sym, _∙_}
-use mathlib.Core.Bool.{true≢false}
+-- `begins::is_stuck` meets its contract. The invariant: the action is stuck in none of the leaves so far. Assumes nothing.
+use mathlib.Core.Path.{_≡_, refl}
+use mathlib.Core.Bool.{Bool, false}
 use Prim.Native.Nat.{ℕ, _+_, _-_, _*_, _≤_, _<_}
 use native.Mathlib.Omega.{arith}
-use lib.ListN.{length}
+use native.Mathlib.Nat.{le-antisymm}
+use lib.ListN.{length, getD}
 use borrow.Author.Needs.{needs}
+use borrow.Author.Tests.{eq-eqb, ne-eqb}
+use Rattle.loops.specs.Count.{any}
+use Rattle.loops.specs.Count.Laws.{told, any-in, any-more}
 use Rattle.layer.specs.Board.{Board, baseOn, rowOn}
-use Rattle.layer.specs.Board.Turns.{base-in, row-in, part-length, leaf-passes}
+use Rattle.layer.specs.Board.Turns.{base-in, row-in}
 use Rattle.layer.specs.Lent.{boardOf}
-use Rattle.begins.specs.Begin.{stuck-out}
+use Rattle.begins.specs.Begin.{stuckIn, stuckBy}
 use Rattle.begins.proofs.is_stuck.Statement.{statement}
 use Rattle.begins.proofs.is_stuck.Tie as tie
 
 abbrev Inv-loop : tie.InvT-loop
-Inv-loop leaves actions bases moves costs kinds conditions still stills old a row i₀ i = i ≤ leaves
+Inv-loop leaves actions bases moves costs kinds conditions still stills old a row i₀ i =
+    (i ≤ leaves) × (any i (λ k. stuckIn k bases moves (a * getD bases leaves 0) (getD stills (a * 8 + k) 0) old) ≡ false)
 
 abbrev μ-loop : tie.MeasureT-loop
 μ-loop leaves actions bases moves costs kinds conditions still stills old a row i₀ i = leaves - i
@@ -22,7 +27,8 @@ shared-slice-read-if1 : tie.Need-shared-slice-read-if1 Inv-loop μ-loop
 shared-slice-read-if1 c = search needs
 
 returns : tie.Need-returns Inv-loop μ-loop
-returns c = λ e. absurd (true≢false (sym e))
+unfolding stuckBy
+returns c = rw (ne-eqb _ _ (c .if1 .taken))
 
 mul-row : tie.Need-mul-row Inv-loop μ-loop
 mul-row c = search needs
@@ -31,7 +37,8 @@ shared-slice-read-row : tie.Need-shared-slice-read-row Inv-loop μ-loop
 shared-slice-read-row c = search needs
 
 loop-holds : tie.Need-loop-holds Inv-loop μ-loop
-loop-holds c = search needs
+unfolding any
+loop-holds c = (omega arith, refl)
 
 -- where the function starts, and the Board that is lent
 abbrev start : tie.In-loop Inv-loop μ-loop → tie.Start Inv-loop μ-loop
@@ -81,14 +88,18 @@ is-stuck-in-requires c κs =
     let r = room (c .before) in
     (omega (arith, c .before .loop-test .taken, s .pre .0 .few-leaves, s .pre .0 .bases-long), r .0, r .1, r .2)
 
+-- whether it is stuck in a leaf
+abbrev stuck : tie.Start Inv-loop μ-loop → ℕ → Bool
+stuck s k =
+    let a = s .args in
+    stuckIn k (a .bases .now) (a .moves .now) (a .a * getD (a .bases .now) (a .leaves) 0) (getD (a .stills .now) (a .a * 8 + k) 0) (a .old .now)
+
 returns-2 : tie.Need-returns-2 Inv-loop μ-loop
+unfolding stuckBy
 returns-2 c =
     let t = c .before .before .before in
-    let i = t .before .loop .i in
-    let a = start t .args in
-    let long = part-length (a .old .now) (from t) (to t) (room t .1) in
-    λ _. stuck-out (board t) (a .spot) (a .old .now) (a .a) i (t .loop-test .taken)
-    (sym (leaf-passes (board t) i (a .a) _ long) ∙ c .before .is-stuck-in .ensures (c .if2 .taken))
+    let some = any-in (start t .args .leaves) (stuck (start t)) (t .before .loop .i) (t .loop-test .taken) (told (c .before .is-stuck-in .ensures) (c .if2 .taken)) in
+    rw (eq-eqb _ _ (t .before .before .before .if1 .left), some)
 
 add-i : tie.Need-add-i Inv-loop μ-loop
 add-i c = search needs
@@ -97,10 +108,17 @@ loop-less : tie.Need-loop-less Inv-loop μ-loop
 loop-less c = search needs
 
 loop-again : tie.Need-loop-again Inv-loop μ-loop
-loop-again c = search needs
+loop-again c =
+    let t = c .before .before .before in
+    let l = t .before .loop in
+    (omega (arith, t .loop-test .taken), any-more (l .i) (stuck (start t)) (l .inv .1) (told (c .before .is-stuck-in .ensures) (c .if2 .left)))
 
 returns-3 : tie.Need-returns-3 Inv-loop μ-loop
-returns-3 c = λ e. absurd (true≢false (sym e))
+unfolding stuckBy
+returns-3 c =
+    let l = c .before .loop in
+    let none = rw (le-antisymm (l .inv .0) (c .loop-test .left)) at (l .inv .1) in
+    rw (eq-eqb _ _ (c .before .before .before .if1 .left), none)
 
 pub is-stuck-spec : {M : Type 1} → statement M
 is-stuck-spec =

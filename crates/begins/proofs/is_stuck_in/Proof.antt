@@ -1,13 +1,13 @@
 -- `begins::is_stuck_in` meets its contract: where the leaf is looked at, `passes` tells. Assumes nothing.
-use mathlib.Core.Path.{sym, _∙_}
-use mathlib.Core.Bool.{true≢false}
 use borrow.Author.Needs.{needs}
-use borrow.Author.Tests.{not-true}
+use borrow.Author.Tests.{eq-eqb, ne-eqb}
+use Rattle.begins.specs.Begin.{stuckIn}
 use Rattle.begins.proofs.is_stuck_in.Statement.{statement}
 use Rattle.begins.proofs.is_stuck_in.Tie as tie
 
 returns : tie.Need-returns
-returns c = λ e. absurd (true≢false (sym e))
+unfolding stuckIn
+returns c = rw (ne-eqb _ _ (c .if1 .taken))
 
 mul-at : tie.Need-mul-at
 mul-at c = search needs
@@ -43,7 +43,8 @@ passes-requires : tie.Need-passes-requires
 passes-requires c κs = search needs
 
 returns-2 : tie.Need-returns-2
-returns-2 c = λ e. sym (c .passes .ensures) ∙ not-true _ e
+unfolding stuckIn
+returns-2 c = rw (eq-eqb _ _ (c .before .before .before .before .if1 .left), c .passes .ensures)
 
 pub is-stuck-in-spec : {M : Type 1} → statement M
 is-stuck-in-spec =

@@ -1,13 +1,26 @@
 -- `detours::hop_behind` meets its contract: the parent's row lies within the table. Assumes nothing.
-use mathlib.Core.Path.{refl}
-use Prim.Native.Nat.{_+_, _*_, _≤_}
+use mathlib.Core.Path.{_≡_}
+use mathlib.Core.Bool.{cond, _&&_}
+use Prim.Native.Nat.{_+_, _-_, _*_, _≤_}
 use native.Mathlib.Omega.{arith}
-use lib.ListN.{length, getD}
-use borrow.Author.Tests.{not-false}
-use Rattle.detours.specs.Detours.Laws.{row-before, hop-read}
+use lib.Dec.{ltb}
+use lib.ListN.{length, getD, take, drop}
+use borrow.Author.Tests.{lt-ltb, le-ltb}
+use Rattle.loops.specs.Count.Laws.{told-true, told-false}
+use Rattle.detours.specs.Detours.{sameFront, hopBehind}
+use Rattle.detours.specs.Detours.Laws.{row-before, hop-words, hop-none}
 use borrow.Author.Needs.{needs}
 use Rattle.detours.proofs.hop_behind.Statement.{statement}
 use Rattle.detours.proofs.hop_behind.Tie as tie
+
+-- the answer by the words of the table
+words : (s : tie.Start) → let a = s .args in
+    let p = getD (a .table .now) (a .u * (40 + a .states) + 33) 0 in
+    let k = getD (a .table .now) (a .u * (40 + a .states) + 34) 0 in
+    let f = p * (40 + a .states) + 40 in
+    hopBehind (a .states) (a .actions) (a .table .now) (a .hops .now) (a .u) (a .prices .now)
+    ≡ cond (ltb (a .states) 128 && (ltb p (a .u) && (ltb k (a .actions) && sameFront (take (f + a .states - f) (drop f (a .table .now))) (a .prices .now)))) (getD (a .hops .now) k 0) 0
+words s = let a = s .args in hop-words (a .states) (a .actions) (a .table .now) (a .hops .now) (a .u) (a .prices .now)
 
 -- where the parent's prices are compared: its row lies within the table
 fits : (c : tie.Else4) → let a = c .before .before .before .before .before .before .before .before .before .before .args in
@@ -41,10 +54,12 @@ shared-slice-read-action : tie.Need-shared-slice-read-action
 shared-slice-read-action c = search needs
 
 returns : tie.Need-returns
-returns c = λ d. absurd (d refl)
+returns c =
+    let s = c .before .before .before .before in
+    rw (words s, le-ltb (s .args .states) 128 (c .if1 .taken))
 
 returns-2 : tie.Need-returns-2
-returns-2 c = λ d. absurd (d refl)
+returns-2 c = rw (words (c .before .before .before .before .before .before .before), lt-ltb _ _ (c .before .before .before .if1 .left), le-ltb _ _ (c .if2 .taken))
 
 mul-word : tie.Need-mul-word
 mul-word c = search needs
@@ -53,7 +68,7 @@ shared-slice-read-word : tie.Need-shared-slice-read-word
 shared-slice-read-word c = search needs
 
 returns-3 : tie.Need-returns-3
-returns-3 c = λ d. absurd (d refl)
+returns-3 c = rw (words (c .before .before .before .before .before .before .before .before), lt-ltb _ _ (c .before .before .before .before .if1 .left), lt-ltb _ _ (c .before .if2 .left), le-ltb _ _ (c .if3 .taken))
 
 mul-from : tie.Need-mul-from
 mul-from c = omega (arith, fits c, c .before .before .before .before .before .before .before .before .before .before .good)
@@ -80,18 +95,17 @@ same-words-requires : tie.Need-same-words-requires
 same-words-requires c κs = search needs
 
 returns-4 : tie.Need-returns-4
-returns-4 c = λ d. absurd (d refl)
+returns-4 c =
+    let a = c .before .before .before .before .before .before .before .before .before .before .args in
+    hop-none (a .states) (a .actions) (a .table .now) (a .hops .now) (a .u) (a .prices .now) (c .if4 .taken)
 
 returns-5 : tie.Need-returns-5
-returns-5 c = λ d. absurd (d refl)
+returns-5 c =
+    rw (words (c .before .before .before .before .before .before .before .before .before .before .before .before .before), lt-ltb _ _ (c .before .before .before .before .before .before .before .before .before .if1 .left), lt-ltb _ _ (c .before .before .before .before .before .before .if2 .left), lt-ltb _ _ (c .before .before .before .before .before .if3 .left), told-false (c .before .same-words .ensures) (c .if5 .taken))
 
 returns-6 : tie.Need-returns-6
 returns-6 c =
-    let s = c .before .before .before .before .before .before .before .before .before .before .before .before .before in
-    let a = s .args in
-    λ _. hop-read (a .states) (a .u) (a .actions) (a .table .now) (a .hops .now) (a .prices .now) (s .pre .2)
-    (c .before .before .before .before .before .before .if2 .left) (c .before .before .before .before .before .if3 .left)
-    (c .before .same-words .ensures (not-false _ (c .if5 .left)))
+    rw (words (c .before .before .before .before .before .before .before .before .before .before .before .before .before), lt-ltb _ _ (c .before .before .before .before .before .before .before .before .before .if1 .left), lt-ltb _ _ (c .before .before .before .before .before .before .if2 .left), lt-ltb _ _ (c .before .before .before .before .before .if3 .left), told-true (c .before .same-words .ensures) (c .if5 .left))
 
 pub hop-behind-spec : {M : Type 1} → statement M
 hop-behind-spec =

@@ -1,4 +1,4 @@
--- `dominance::list_from` meets its contract. The invariant: those states so far that are reached are listed. Assumes nothing.
+-- `dominance::list_from` meets its contract. The invariant: just those states so far that are reached are listed. Assumes nothing.
 use mathlib.Core.Path.{_≡_, refl, _∙_}
 use mathlib.Core.Logic.{⊎-elim}
 use Prim.Native.Nat.{_+_, _-_, _≤_, _<_}
@@ -56,7 +56,7 @@ listed c =
     let l = t .before .loop in
     let P = t .before .before .args .prices .now in
     ⊎-elim
-    (λ w. rw (w .1) (reaches-more P (l .list) (l .x) (l .n) (l .inv .2) (room t)))
+    (λ w. rw (w .1) (reaches-more P (l .list) (l .x) (l .n) (l .inv .2) (room t) (w .0 .taken)))
     (λ w. rw (w .1) (reaches-skip P (l .list) (l .x) (l .n) (l .inv .2) (l .x) (w .0 .left)))
     (c .if1 .came)
 

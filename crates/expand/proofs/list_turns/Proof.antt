@@ -1,15 +1,17 @@
 -- `expand::list_turns` meets its contract: all actions whose conditions hold are listed, and detours are left out where a hop made the node. Assumes nothing.
-use mathlib.Core.Path.{_∙_}
+use mathlib.Core.Path.{_≡_, _∙_}
+use mathlib.Core.Bool.{Bool}
 use Prim.Native.Nat.{ℕ, _+_, _*_, _≤_, _<_}
 use native.Mathlib.Omega.{arith}
 use denote.Ref.{now}
-use lib.ListN.{getD}
+use lib.ListN.{length, getD, take}
 use Rattle.layer.specs.Board.{Board, rowOn, metOn}
 use Rattle.layer.specs.Lent.{boardOf}
 use Rattle.mets.specs.Known.{firsts-asks, known-asks, asks-known}
 use Rattle.rows.specs.Row.{nodeIn}
 use Rattle.rows.specs.Sign.Laws.{class-lt}
-use Rattle.detours.specs.Detours.Laws.{action-word}
+use Rattle.detours.specs.Detours.{detours}
+use Rattle.detours.specs.Detours.Laws.{action-word, hop-told, kept-few, kept-listed}
 use Rattle.expand.specs.Held.Lists.{useful-all, useful-dropped}
 use borrow.Author.Needs.{needs}
 use Rattle.expand.proofs.list_turns.Statement.{statement}
@@ -28,17 +30,29 @@ start c = c .before .before .before .before .before .before .before .before .bef
 abbrev made-by : tie.Start → ℕ
 made-by s = getD (now (s .args .table)) (s .args .u * (40 + rowOn (board s)) + 34) 0
 
+-- what the word says of the node
+hop : (c : tie.Else1) → let s = start c in
+    let a = s .args in
+    let n = nodeIn (rowOn (board s)) (now (a .table)) (a .u) in
+    (n .parent < a .u) × (n .action < a .actions) × (getD (now (a .hops)) (n .action) 0 ≡ c .before .hop-behind .result)
+    × (nodeIn (rowOn (board s)) (now (a .table)) (n .parent) .prices ≡ take (rowOn (board s)) (now (a .old)))
+hop c =
+    let s = start c in
+    let a = s .args in
+    hop-told (rowOn (board s)) (a .actions) (now (a .table)) (now (a .hops)) (a .u) (now (a .old)) (c .before .hop-behind .result) (s .pre .1 .1 .3)
+    (omega (arith, s .pre .0 .few-all, s .pre .1 .1 .1)) (c .before .hop-behind .ensures) (c .if1 .left)
+
 -- it is one of the actions
 made-known : (c : tie.Else1) → made-by (start c) < start c .args .actions
 made-known c =
     let s = start c in
-    rw (action-word (rowOn (board s)) (s .args .u) (now (s .args .table))) at (c .before .hop-behind .ensures (c .if1 .left) .1)
+    rw (action-word (rowOn (board s)) (s .args .u) (now (s .args .table))) at (hop c .1)
 
 -- its word is that of a hop
 few-word : (c : tie.Else1) → c .before .hop-behind .result ≤ 8192
 few-word c =
     let s = start c in
-    rw (c .before .hop-behind .ensures (c .if1 .left) .2) at (s .pre .1 .0 .2 .few (nodeIn (rowOn (board s)) (now (s .args .table)) (s .args .u) .action))
+    rw (hop c .2) at (s .pre .1 .0 .2 .few (nodeIn (rowOn (board s)) (now (s .args .table)) (s .args .u) .action))
 
 mul-states : tie.Need-mul-states
 mul-states c = search needs
@@ -112,10 +126,14 @@ returns-2 c =
     let b = board s in
     let m = e .before .before .before .before .before .before .list-mets in
     let d = c .before .before .drop-detours in
-    let q = e .before .hop-behind .ensures (e .if1 .left) in
-    let listed = rw (← action-word (rowOn b) (a .u) (now (a .table))) at (d .ensures .1 (metOn b (a .spot)) (a .actions) (m .ensures .2)) in (
+    let q = hop e in
+    let D : ℕ → Bool = detours (now (a .hops)) (now (a .ways)) (now (a .costs)) (e .before .hop-behind .result) (getD (now (a .costs)) (made-by s) 0) in
+    let xs = m .last .1 .1 .1 .1 .1 .1 .1 .0 in
+    let long : m .result ≤ length xs = omega (arith, m .ensures .1, m .kept .1 .1 .1 .1 .1 .1 .1 .0, s .pre .1 .1 .0) in
+    let kept = kept-listed D xs (metOn b (a .spot)) (a .actions) (m .result) long (m .ensures .2) in
+    let listed = rw (← d .ensures .0, ← d .ensures .1, ← action-word (rowOn b) (a .u) (now (a .table))) at kept in (
       asks-known b _ (m .ensures .0),
-      d .ensures .0,
+      omega (arith, d .ensures .0, kept-few D xs (m .result), m .ensures .1),
       useful-dropped b (now (a .effects)) (a .spot) (now (a .table)) (a .u) (now (a .old)) (now (a .hops)) (now (a .ways)) (s .pre .1 .0 .2) (s .pre .1 .0 .3)
           (e .before .hop-behind .result) (e .if1 .left) (q .0) (q .1) (q .2) (q .3) (d .result) _ listed,
     )

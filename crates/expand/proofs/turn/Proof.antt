@@ -4,11 +4,12 @@ use mathlib.Core.Bool.{true}
 use native.Mathlib.Omega.{arith}
 use denote.Ref.{now}
 use lib.ListN.{length, getD, drop}
+use Rattle.loops.specs.Count.Laws.{told}
 use Rattle.layer.specs.Board.{Board, rowOn}
 use Rattle.layer.specs.Lent.{boardOf}
 use Rattle.rows.specs.Begun.{begunWords}
 use Rattle.keys.specs.Scan.{keyBy}
-use Rattle.begins.specs.Begin.{key-more}
+use Rattle.begins.specs.Begin.{risen-key, key-more, stuck-out}
 use Rattle.offers.specs.Held.Laws.{cut}
 use Rattle.expand.specs.Held.Turns.{moved-leaf, moved-above, moved-stuck, moved-offered}
 use borrow.Author.Needs.{needs}
@@ -72,7 +73,7 @@ returns-3 c =
     let a = s .args in (
       moved-stuck (board s) (now (a .effects)) (now (a .goals)) (a .goal) (a .nodes) (a .spot) (a .paid) (now (a .old)) (a .key) (a .u) (a .a)
           (now (a .table)) (now (a .scan)) (a .run) (s .pre .1 .1 .1 .1 .few-nodes) (s .pre .1 .1 .1 .1 .count-few) (s .pre .1 .1 .0 .5) (s .pre .1 .1 .0 .4)
-          (c .before .before .before .before .before .before .if1 .left) (c .before .is-stuck .ensures (c .if3 .taken)),
+          (c .before .before .before .before .before .before .if1 .left) (stuck-out (board s) (s .pre .0) (a .spot) (now (a .old)) (now (a .still)) (now (a .stills)) (a .a) (omega (arith, s .pre .0 .few-all, s .pre .1 .1 .0 .2)) (told (c .before .is-stuck .ensures) (c .if3 .taken))),
       s .pre .1 .0 .3,
     )
 
@@ -159,7 +160,7 @@ returns-4 c =
           (now (a .table)) (now (a .scan)) (a .run) (s .pre .1 .1 .1 .1 .few-nodes) (s .pre .1 .1 .1 .1 .count-few) (s .pre .1 .1 .0 .5) (s .pre .1 .1 .0 .4)
           (c .before .before .before .before .before .before .before .before .before .before .before .before .before .before .before .before .before .before .before .before .before .before .before .before .before .before .before .before .before .before .if1 .left) true (sym (s .pre .1 .0 .4)) refl
           (g .result) (begunWords (getD (now (a .still)) (a .a) 0) (rowOn (board s)) (now (a .old)) (n .last .1 .1 .1 .1 .1 .1 .1 .1 .1 .1 .1 .1 .1 .1 .0)) (drop (rowOn (board s)) (now (a .next))) (f .result) (p .result)
-          (g .ensures) (f .ensures) (n .ensures .0) (p .ensures) (n .result .key) (λ isKey. n .ensures .1 (p .result) (low isKey)) (o .last .1 .1 .1 .1 .1 .1 .1 .1 .1 .1 .1 .1 .1 .1 .1 .1 .1 .1 .1 .1 .1 .1 .1 .0) (o .last .1 .1 .1 .1 .1 .1 .1 .1 .1 .1 .1 .1 .1 .1 .1 .1 .1 .1 .1 .1 .1 .1 .1 .1 .0) (o .result) (o .ensures .0),
+          (g .ensures) (f .ensures) (n .ensures .0) (p .ensures) (n .result .key) (λ isKey. risen-key (a .leaves) (now (a .bases)) (now (a .old)) _ _ (n .result .key) (p .result) (n .ensures .1) (low isKey)) (o .last .1 .1 .1 .1 .1 .1 .1 .1 .1 .1 .1 .1 .1 .1 .1 .1 .1 .1 .1 .1 .1 .1 .1 .0) (o .last .1 .1 .1 .1 .1 .1 .1 .1 .1 .1 .1 .1 .1 .1 .1 .1 .1 .1 .1 .1 .1 .1 .1 .1 .0) (o .result) (o .ensures .0),
       o .ensures .1,
     )
 

@@ -12,7 +12,9 @@ use Rattle.layer.specs.First.{Firsts, firsts-part}
 use Rattle.layer.specs.Lent.{boardOf}
 use Rattle.mets.specs.Known.{Known, known-none}
 use Rattle.keys.specs.Scan.{Cut}
-use Rattle.stills.specs.Still.{Still}
+use Rattle.stills.specs.Still.{Still, Stills, stills-right, still-right}
+use Rattle.hops.specs.Hops.{Hops, Ways}
+use Rattle.hops.specs.Hops.Laws.{hops-right, ways-right}
 use Rattle.explore.specs.declared.Round.the-variants.{Goes}
 use Rattle.expand.specs.Held.{Suits}
 use Rattle.offers.specs.Held.{Room}
@@ -111,20 +113,30 @@ lent s =
 still-leaves-requires : tie.Need-still-leaves-requires Inv-loop μ-loop
 still-leaves-requires c κs = lent (c .before .before .before .before .before .before .before .before .before .before .before .before)
 
+-- what the table by action and leaf says
+by-leaf : (e : tie.After-still-leaves Inv-loop μ-loop) → let a = e .before .before .before .before .before .before .before .before .before .before .before .before .before .args in
+    Stills (a .t1 .leaves) (a .t1 .actions) (now (a .bases)) (now (a .moves)) (e .still-leaves .result)
+by-leaf e =
+    let s = e .before .before .before .before .before .before .before .before .before .before .before .before .before in
+    let a = s .args in
+    rw (e .still-leaves .ensures) (stills-right (a .t1 .leaves) (a .t1 .actions) (now (a .bases)) (now (a .moves)) (lent s .1))
+
 slice-aggregate-still-actions : tie.Need-slice-aggregate-still-actions Inv-loop μ-loop
-slice-aggregate-still-actions c = sym (c .before .still-leaves .ensures .long)
+slice-aggregate-still-actions c = sym (by-leaf (c .before) .long)
 
 still-actions-requires : tie.Need-still-actions-requires Inv-loop μ-loop
 still-actions-requires c κs =
     let sound = fit (c .before .before .before .before .before .before .before .before .before .before .before .before .before .before) .1 in
-    (sound .few-leaves, sound .few-actions, c .before .still-leaves .ensures .long)
+    (sound .few-leaves, sound .few-actions, by-leaf (c .before) .long)
 
 -- what the table by action and leaf says of whole actions
 stays : (e : tie.After-still-actions Inv-loop μ-loop) → let a = e .before .before .before .before .before .before .before .before .before .before .before .before .before .before .before .args in
     Still (a .t1 .leaves) (a .t1 .actions) (now (a .bases)) (now (a .moves)) (e .still-actions .result)
 stays e =
-    let a = e .before .before .before .before .before .before .before .before .before .before .before .before .before .before .before .args in
-    e .still-actions .ensures (now (a .bases)) (now (a .moves)) (e .before .before .still-leaves .ensures)
+    let s = e .before .before .before .before .before .before .before .before .before .before .before .before .before .before .before in
+    let a = s .args in
+    rw (e .still-actions .ensures)
+    (still-right (a .t1 .leaves) (a .t1 .actions) (now (a .bases)) (now (a .moves)) (e .before .before .still-leaves .result) (fit s .1 .few-leaves) (lent s .1) (by-leaf (e .before .before)))
 
 first-conditions-requires : tie.Need-first-conditions-requires Inv-loop μ-loop
 first-conditions-requires c κs = (fit (c .before .before .before .before .before .before .before .before .before .before .before .before .before .before .before .before .before .before) .1 .few-actions, lists (c .before .before .before .before .before .before .before .before .before .before .before .before .before .before .before .before .before .before) .1)
@@ -144,12 +156,26 @@ list-hops-requires c κs =
     let s = c .before .before .before .before .before .before .before .before .before .before .before .before .before .before .before .before .before .before .before .before .before .before .before .before .before .before in
     ((fit s .1, lists s .2), (stays (c .before .before .before .before .before .before .before .before .before .before .before), asked (c .before .before .before .before .before .before .before)))
 
+-- what the words of hops say, and the ways
+hopped : (e : tie.After-list-hops Inv-loop μ-loop) → let s = e .before .before .before .before .before .before .before .before .before .before .before .before .before .before .before .before .before .before .before .before .before .before .before .before .before .before .before in
+    Hops (s .args .t1 .actions) (board s) (s .args .t1 .effects) (e .list-hops .result)
+hopped e =
+    let s = e .before .before .before .before .before .before .before .before .before .before .before .before .before .before .before .before .before .before .before .before .before .before .before .before .before .before .before in
+    rw (e .list-hops .ensures)
+    (hops-right (board s) (s .args .t1 .effects) (e .before .before .before .before .before .before .before .before .first-conditions .result) (e .before .before .before .before .before .before .before .before .before .before .before .before .still-actions .result) (stays (e .before .before .before .before .before .before .before .before .before .before .before .before)) (asked (e .before .before .before .before .before .before .before .before)) (lent s .1))
+
+wayed : (e : tie.After-list-ways Inv-loop μ-loop) → let s = e .before .before .before .before .before .before .before .before .before .before .before .before .before .before .before .before .before .before .before .before .before .before .before .before .before .before .before .before .before in
+    Ways (s .args .t1 .actions) (e .before .before .list-hops .result) (e .list-ways .result)
+wayed e =
+    let s = e .before .before .before .before .before .before .before .before .before .before .before .before .before .before .before .before .before .before .before .before .before .before .before .before .before .before .before .before .before in
+    rw (e .list-ways .ensures) (ways-right (e .before .before .list-hops .result) (hopped (e .before .before) .few) (s .args .t1 .actions))
+
 slice-aggregate-list-ways : tie.Need-slice-aggregate-list-ways Inv-loop μ-loop
-slice-aggregate-list-ways c = sym (c .before .list-hops .ensures .long)
+slice-aggregate-list-ways c = sym (hopped (c .before) .long)
 
 list-ways-requires : tie.Need-list-ways-requires Inv-loop μ-loop
 list-ways-requires c κs =
-    let hops = c .before .list-hops .ensures in
+    let hops = hopped (c .before) in
     (fit (c .before .before .before .before .before .before .before .before .before .before .before .before .before .before .before .before .before .before .before .before .before .before .before .before .before .before .before .before) .1 .few-actions, hops .long, hops .few)
 
 start-requires : tie.Need-start-requires Inv-loop μ-loop
@@ -168,16 +194,16 @@ slice-aggregate-next-round : tie.Need-slice-aggregate-next-round Inv-loop μ-loo
 slice-aggregate-next-round c = sym (stays (c .before .before .before .before .before .before .before .before .before .before .before .before .before .before .before .before .before .before .before .before .before .before .before .before .before .before) .long)
 
 slice-aggregate-next-round-2 : tie.Need-slice-aggregate-next-round-2 Inv-loop μ-loop
-slice-aggregate-next-round-2 c = sym (c .before .before .before .before .before .before .before .before .before .before .before .before .before .before .before .before .before .before .before .before .before .before .before .before .before .before .before .before .before .still-leaves .ensures .long)
+slice-aggregate-next-round-2 c = sym (by-leaf (c .before .before .before .before .before .before .before .before .before .before .before .before .before .before .before .before .before .before .before .before .before .before .before .before .before .before .before .before .before) .long)
 
 slice-aggregate-next-round-3 : tie.Need-slice-aggregate-next-round-3 Inv-loop μ-loop
 slice-aggregate-next-round-3 c = sym (c .before .before .before .before .before .before .before .before .before .before .before .before .before .before .before .before .before .before .before .before .before .before .before .before .first-conditions .ensures .long)
 
 slice-aggregate-next-round-4 : tie.Need-slice-aggregate-next-round-4 Inv-loop μ-loop
-slice-aggregate-next-round-4 c = sym (c .before .before .before .before .before .before .before .before .before .before .before .before .before .before .before .before .before .list-hops .ensures .long)
+slice-aggregate-next-round-4 c = sym (hopped (c .before .before .before .before .before .before .before .before .before .before .before .before .before .before .before .before .before) .long)
 
 slice-aggregate-next-round-5 : tie.Need-slice-aggregate-next-round-5 Inv-loop μ-loop
-slice-aggregate-next-round-5 c = sym (c .before .before .before .before .before .before .before .before .before .before .before .before .before .before .before .before .list-ways .ensures .long)
+slice-aggregate-next-round-5 c = sym (wayed (c .before .before .before .before .before .before .before .before .before .before .before .before .before .before .before .before) .long)
 
 slice-aggregate-next-round-6 : tie.Need-slice-aggregate-next-round-6 Inv-loop μ-loop
 slice-aggregate-next-round-6 c = sym (c .before .before .before .before .before .before .before .before .before .before .before .before .before .loop .inv .5 .long)
@@ -209,9 +235,9 @@ next-round-requires c κs =
           s .pre .1 .1 .0,
           l .loop .inv .5,
           l .loop .inv .6,
-          c .before .before .before .before .before .before .before .before .before .before .before .before .before .before .before .before .before .before .before .before .before .before .before .before .before .before .before .before .before .before .before .before .before .before .before .before .before .before .before .before .before .before .still-leaves .ensures,
-          c .before .before .before .before .before .before .before .before .before .before .before .before .before .before .before .before .before .before .before .before .before .before .before .before .before .before .before .before .list-hops .ensures,
-          c .before .before .before .before .before .before .before .before .before .before .before .before .before .before .before .before .before .before .before .before .before .before .before .before .before .before .list-ways .ensures,
+          by-leaf (c .before .before .before .before .before .before .before .before .before .before .before .before .before .before .before .before .before .before .before .before .before .before .before .before .before .before .before .before .before .before .before .before .before .before .before .before .before .before .before .before .before .before),
+          hopped (c .before .before .before .before .before .before .before .before .before .before .before .before .before .before .before .before .before .before .before .before .before .before .before .before .before .before .before .before),
+          wayed (c .before .before .before .before .before .before .before .before .before .before .before .before .before .before .before .before .before .before .before .before .before .before .before .before .before .before),
         ),
         ((lists s .2, s .pre .1 .0 .1 .long, omega (arith, few l, s .pre .1 .1 .1 .1)), (room l, (l .loop .inv .3, l .loop .inv .4, omega (arith, l .loop .inv .7), omega (arith, l .loop .inv .8)))),
       ),

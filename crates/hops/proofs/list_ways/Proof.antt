@@ -1,22 +1,25 @@
--- `hops::list_ways` meets its contract. The invariant: it holds of the actions so far. Assumes nothing.
+-- `hops::list_ways` meets its contract. The invariant: the ways are those of the actions so far. Assumes nothing.
+use mathlib.Core.Path.{_≡_, refl, ap, _∙_}
 use mathlib.Core.Logic.{⊎-elim}
-use Prim.Native.Nat.{_+_, _-_, _≤_}
+use Prim.Native.Nat.{_-_, _≤_}
 use native.Mathlib.Nat.{le-antisymm}
 use native.Mathlib.Omega.{arith}
-use Rattle.hops.specs.Hops.{Ways}
-use Rattle.hops.specs.Hops.Laws.{ways-none, ways-pass, ways-more}
+use lib.ListN.{length}
+use Rattle.hops.specs.Hops.{waysBy}
+use Rattle.hops.specs.Hops.Laws.{ways-right, way-pass, way-more}
 use borrow.Author.Needs.{needs}
 use Rattle.hops.proofs.list_ways.Statement.{statement}
 use Rattle.hops.proofs.list_ways.Tie as tie
 
 abbrev Inv-loop : tie.InvT-loop
-Inv-loop actions hops ways₀ a₀ ways a = (a ≤ actions) × Ways a hops ways
+Inv-loop actions hops ways₀ a₀ ways a = (a ≤ actions) × (ways ≡ waysBy hops a)
 
 abbrev μ-loop : tie.MeasureT-loop
 μ-loop actions hops ways₀ a₀ ways a = actions - a
 
 loop-holds : tie.Need-loop-holds Inv-loop μ-loop
-loop-holds c = (omega arith, ways-none (c .args .hops .now))
+unfolding waysBy
+loop-holds c = (omega arith, refl)
 
 mul-word : tie.Need-mul-word Inv-loop μ-loop
 mul-word c = search needs
@@ -41,7 +44,8 @@ sub-ways c =
 array-write-ways : tie.Need-array-write-ways Inv-loop μ-loop
 array-write-ways c =
     let l = c .before .before .before .loop in
-    omega (arith, l .inv .1 .long, c .before .before .before .before .pre .2 (l .a))
+    let s = c .before .before .before .before in
+    omega (arith, ap length (l .inv .1), ways-right (s .args .hops .now) (s .pre .2) (l .a) .long, s .pre .2 (l .a))
 
 add-a : tie.Need-add-a Inv-loop μ-loop
 add-a c = search needs
@@ -52,17 +56,13 @@ loop-less c = search needs
 loop-again : tie.Need-loop-again Inv-loop μ-loop
 loop-again c =
     let l = c .before .before .before .loop in
-    let s = c .before .before .before .before in
-    let H = s .args .hops .now in (
+    let H = c .before .before .before .before .args .hops .now in (
       omega arith,
-      ⊎-elim
-          (λ w. rw (w .1) (ways-more (l .a) H (l .ways) (l .a + 1) (w .0 .taken) (s .pre .2 (l .a)) (omega arith) (l .inv .1)))
-          (λ w. rw (w .1) (ways-pass (l .a) H (l .ways) (l .inv .1)))
-          (c .if1 .came),
+      ⊎-elim (λ w. w .1 ∙ rw (l .inv .1) (way-more H (l .a) (w .0 .taken))) (λ w. w .1 ∙ l .inv .1 ∙ way-pass H (l .a) (w .0 .left)) (c .if1 .came),
     )
 
 returns : tie.Need-returns Inv-loop μ-loop
-returns c = rw (le-antisymm (c .before .loop .inv .0) (c .loop-test .left)) at (c .before .loop .inv .1)
+returns c = let l = c .before .loop in l .inv .1 ∙ rw (le-antisymm (l .inv .0) (c .loop-test .left))
 
 pub list-ways-spec : {M : Type 1} → statement M
 list-ways-spec =

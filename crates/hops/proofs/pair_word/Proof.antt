@@ -1,9 +1,9 @@
--- `hops::pair_word` meets its contract: v alone is named. Assumes nothing.
-use mathlib.Core.Path.{refl}
+-- `hops::pair_word` meets its contract: each answer is that of the tests. Assumes nothing.
 use Prim.Native.Nat.{_+_, _*_}
 use native.Mathlib.Omega.{arith}
-use borrow.Author.Tests.{not-false}
-use Rattle.hops.specs.Hops.Laws.{pair-some}
+use borrow.Author.Tests.{lt-ltb, le-ltb}
+use Rattle.loops.specs.Count.Laws.{told-true, told-false}
+use Rattle.hops.specs.Hops.{pairWord}
 use borrow.Author.Needs.{needs}
 use Rattle.hops.proofs.pair_word.Statement.{statement}
 use Rattle.hops.proofs.pair_word.Tie as tie
@@ -37,10 +37,12 @@ cast-into c =
     omega (arith, c .shared-slice-known4 .given (a .a * 32 + a .v))
 
 returns : tie.Need-returns
-returns c = search needs
+unfolding pairWord
+returns c = rw (le-ltb _ _ (c .if1 .taken))
 
 returns-2 : tie.Need-returns-2
-returns-2 c = search needs
+unfolding pairWord
+returns-2 c = rw (lt-ltb _ _ (c .before .if1 .left), le-ltb _ _ (c .if2 .taken))
 
 mul-names-only : tie.Need-mul-names-only
 mul-names-only c = search needs
@@ -49,7 +51,9 @@ names-only-requires : tie.Need-names-only-requires
 names-only-requires c κs = search needs
 
 returns-3 : tie.Need-returns-3
-returns-3 c = search needs
+unfolding pairWord
+returns-3 c =
+    rw (lt-ltb _ _ (c .before .before .before .if1 .left), lt-ltb _ _ (c .before .before .if2 .left), told-false (c .before .names-only .ensures) (c .if3 .taken))
 
 mul-names-only-2 : tie.Need-mul-names-only-2
 mul-names-only-2 c = search needs
@@ -58,7 +62,9 @@ names-only-requires-2 : tie.Need-names-only-requires-2
 names-only-requires-2 c κs = search needs
 
 returns-4 : tie.Need-returns-4
-returns-4 c = search needs
+unfolding pairWord
+returns-4 c =
+    rw (lt-ltb _ _ (c .before .before .before .before .before .if1 .left), lt-ltb _ _ (c .before .before .before .before .if2 .left), told-true (c .before .before .before .names-only .ensures) (c .before .before .if3 .left), told-false (c .before .names-only2 .ensures) (c .if4 .taken))
 
 cast-result : tie.Need-cast-result
 cast-result c = search needs
@@ -79,19 +85,9 @@ add-result-3 : tie.Need-add-result-3
 add-result-3 c = search needs
 
 returns-5 : tie.Need-returns-5
+unfolding pairWord
 returns-5 c =
-    let s = c .before .before .before .before .before .before .before .before .before .before in
-    let a = s .args in
-    pair-some (a .conditions .now) (a .effects .now) (a .a) (a .v) _ (s .pre .3)
-    (record {
-      from = refl;
-      from-value = c .before .before .before .before .before .if1 .left;
-      into = refl;
-      into-value = c .before .before .before .before .if2 .left;
-      conditions-free = c .before .before .before .names-only .ensures (not-false _ (c .before .before .if3 .left));
-      effects-free = c .before .names-only2 .ensures (not-false _ (c .if4 .left));
-    })
-    refl
+    rw (lt-ltb _ _ (c .before .before .before .before .before .if1 .left), lt-ltb _ _ (c .before .before .before .before .if2 .left), told-true (c .before .before .before .names-only .ensures) (c .before .before .if3 .left), told-true (c .before .names-only2 .ensures) (c .if4 .left))
 
 pub pair-word-spec : {M : Type 1} → statement M
 pair-word-spec =

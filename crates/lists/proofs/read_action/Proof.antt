@@ -1,9 +1,10 @@
 -- `lists::read_action` meets its contract: each return is the grammar's answer, by the parts read before it. Assumes nothing.
 use Prim.Native.Nat.{ℕ, _+_, _*_, _≤_}
-use mathlib.Core.Path.{_≡_, ap, _∙_}
+use mathlib.Core.Path.{_≡_, refl, ap, _∙_}
 use mathlib.Core.List.{List}
 use borrow.Author.Needs.{needs}
 use native.Mathlib.Omega.{arith}
+use lib.ListN.{length-set}
 use denote.Ref.{now}
 use Rattle.loops.specs.Parsed.{got}
 use Rattle.fields.specs.Fields.{nextField}
@@ -64,7 +65,7 @@ enum-told c = search needs
 
 returns : tie.Need-returns
 unfolding actionOf
-returns c = (simp (c .before .before .read-costs .ensures ∙ ap costsTold (c .enum-told .given .1)), omega arith)
+returns c = (simp (c .before .before .read-costs .ensures ∙ ap costsTold (c .enum-told .given .1)), (omega arith, (refl, refl, refl, refl)))
 
 mul-handling : tie.Need-mul-handling
 mul-handling c = search needs
@@ -110,7 +111,7 @@ unfolding actionOf
 returns-2 c =
     let r = c .before .before .before .before .before in
     let none = r .read-list .ensures .0 ∙ ap (placeTold (conditions r)) (c .before .p .given .1) in
-    (simp (read1 (priced r), none), omega arith)
+    (simp (read1 (priced r), none), (omega arith, (simp length-set, simp length-set, r .read-list .ensures .1 .1, refl)))
 
 same-length-4 : tie.Need-same-length-4
 same-length-4 c = search needs
@@ -134,7 +135,10 @@ returns-3 c =
     let a = start (priced l) .args in
     let put = putAction (a .i) (entry (priced l)) (k .handling) (k .distance) (conditions l) in (
       simp (read1 (priced l), read2 d, r .read-effects .ensures .0) (told-then put (r .read-effects .last .1 .1 .1 .1 .1 .0) (r .read-effects .result)),
-      omega (arith, at2 d, r .read-effects .ensures .1),
+      (
+        omega (arith, at2 d, r .read-effects .ensures .1),
+        (simp length-set, simp length-set, l .read-list .ensures .1 .1, r .read-effects .ensures .1 .1),
+      ),
     )
 
 pub read-action-spec : {M : Type 1} → statement M

@@ -81,7 +81,7 @@ returns c =
     let a = start (head r) .args in
     let f = actionOf (nextField (now (a .rec))) (now (a .sizes)) (a .n) in
     let none = r .read-action .ensures .0 ∙ ap (placeTold (after r)) (c .before .p .given .1) in
-    (sym (l .inv .6) ∙ turns-stop f (a .count) (l .i) (soFar (head r)) (l .k) (omega arith) none, omega arith)
+    (sym (l .inv .6) ∙ turns-stop f (a .count) (l .i) (soFar (head r)) (l .k) (omega arith) none, (omega arith, (omega arith, omega arith, omega arith, omega arith)))
 
 enum-known-p-2 : tie.Need-enum-known-p-2 Inv-loop μ-loop
 enum-known-p-2 c = search needs
@@ -124,7 +124,7 @@ returns-2 c =
     let l = c .before .loop in
     let a = start (c .before) .args in
     let f = actionOf (nextField (now (a .rec))) (now (a .sizes)) (a .n) in
-    (sym (l .inv .6) ∙ turns-end f (a .count) (l .i) (soFar (c .before)) (l .k) (c .loop-test .left), omega arith)
+    (sym (l .inv .6) ∙ turns-end f (a .count) (l .i) (soFar (c .before)) (l .k) (c .loop-test .left), (omega arith, (omega arith, omega arith, omega arith, omega arith)))
 
 pub read-actions-spec : {M : Type 1} → statement M
 read-actions-spec =

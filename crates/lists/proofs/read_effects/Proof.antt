@@ -1,6 +1,6 @@
 -- `lists::read_effects` meets its contract: the number of pairs is read and is not 0, and then the pairs, as the grammar says. Assumes
 -- nothing.
-use mathlib.Core.Path.{_≡_, ap, _∙_}
+use mathlib.Core.Path.{_≡_, refl, ap, _∙_}
 use borrow.Author.Needs.{needs}
 use borrow.Author.Tests.{eq-eqb, ne-eqb}
 use native.Mathlib.Omega.{arith}
@@ -32,11 +32,11 @@ enum-told c = search needs
 
 returns : tie.Need-returns
 unfolding effectPairs
-returns c = (simp (c .before .before .field .ensures ∙ ap fieldTold (c .enum-told .given .1)), omega arith)
+returns c = (simp (c .before .before .field .ensures ∙ ap fieldTold (c .enum-told .given .1)), (omega arith, refl))
 
 returns-2 : tie.Need-returns-2
 unfolding effectPairs
-returns-2 c = (simp (read1 (c .before), eq-eqb _ _ (c .if1 .taken)), omega arith)
+returns-2 c = (simp (read1 (c .before), eq-eqb _ _ (c .if1 .taken)), (omega arith, refl))
 
 cast-read-pairs : tie.Need-cast-read-pairs
 cast-read-pairs c = search needs
@@ -52,7 +52,7 @@ unfolding effectPairs
 returns-3 c =
     let r = c .before .before in
     let e = r .before .before in
-    (simp (read1 (e .before), ne-eqb _ _ (e .if1 .left)) (r .read-pairs .ensures .0), omega (arith, next-is _ PAIRS _ (read1 (e .before))))
+    (simp (read1 (e .before), ne-eqb _ _ (e .if1 .left)) (r .read-pairs .ensures .0), (omega (arith, next-is _ PAIRS _ (read1 (e .before))), r .read-pairs .ensures .1 .1))
 
 pub read-effects-spec : {M : Type 1} → statement M
 read-effects-spec =

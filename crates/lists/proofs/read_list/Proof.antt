@@ -1,5 +1,5 @@
 -- `lists::read_list` meets its contract: the number of pairs is read, and then the pairs, as the grammar says. Assumes nothing.
-use mathlib.Core.Path.{_≡_, ap, _∙_}
+use mathlib.Core.Path.{_≡_, refl, ap, _∙_}
 use borrow.Author.Needs.{needs}
 use native.Mathlib.Omega.{arith}
 use denote.Ref.{now}
@@ -30,7 +30,7 @@ enum-told c = search needs
 
 returns : tie.Need-returns
 unfolding countedPairs
-returns c = (simp (c .before .before .field .ensures ∙ ap fieldTold (c .enum-told .given .1)), omega arith)
+returns c = (simp (c .before .before .field .ensures ∙ ap fieldTold (c .enum-told .given .1)), (omega arith, refl))
 
 cast-read-pairs : tie.Need-cast-read-pairs
 cast-read-pairs c = search needs
@@ -46,7 +46,7 @@ unfolding countedPairs
 returns-2 c =
     let r = c .before .before in
     let d = r .before .before in
-    (simp (read1 d) (r .read-pairs .ensures .0), omega (arith, next-is _ PAIRS _ (read1 d)))
+    (simp (read1 d) (r .read-pairs .ensures .0), (omega (arith, next-is _ PAIRS _ (read1 d)), r .read-pairs .ensures .1 .1))
 
 pub read-list-spec : {M : Type 1} → statement M
 read-list-spec =

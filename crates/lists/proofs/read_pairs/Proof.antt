@@ -63,7 +63,7 @@ returns c =
     let f = pairTurn (nextField (now (a .rec))) (now (a .sizes)) (a .n) (a .base) in
     let none = r .read-pair .ensures ∙ ap pairTold (c .before .p .given .1) in
     let e = sym (l .inv .3) ∙ turns-stop f (a .count) (l .i) (record { low = l .low; into = l .pairs }) (l .k) {r = c .before .p .given .0 .0} (omega arith) (simp none) in
-    (simp e, omega arith)
+    (simp e, (omega arith, l .inv .2))
 
 enum-known-p-2 : tie.Need-enum-known-p-2 Inv-loop μ-loop
 enum-known-p-2 c = search needs
@@ -108,7 +108,7 @@ returns-2 c =
     let a = start (c .before) .args in
     let f = pairTurn (nextField (now (a .rec))) (now (a .sizes)) (a .n) (a .base) in
     let e = sym (l .inv .3) ∙ turns-end f (a .count) (l .i) (record { low = l .low; into = l .pairs }) (l .k) (c .loop-test .left) in
-    (simp e, omega arith)
+    (simp e, (omega arith, l .inv .2))
 
 pub read-pairs-spec : {M : Type 1} → statement M
 read-pairs-spec =

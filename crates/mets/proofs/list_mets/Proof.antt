@@ -1,5 +1,6 @@
 -- `mets::list_mets` meets its contract: the list stands in the slot, and is copied. Assumes nothing.
 use mathlib.Core.Path.{refl}
+use mathlib.Core.Logic.{inr}
 use native.Mathlib.Omega.{arith}
 use Rattle.mets.specs.Known.{list-copied}
 use borrow.Author.Needs.{needs}
@@ -49,6 +50,7 @@ returns c =
       slot .ensures .1,
       omega (arith, s .pre .0, slot .ensures .2 .listed .few),
       list-copied _ (s .args .centre) (slot .last .1 .1 .1 .1 .1 .1 .0) _ (c .before .before .store .last .1 .0) (slot .result) _ (slot .ensures .2) refl (c .before .before .store .ensures),
+      λ k l. c .before .before .store .ensures .outside k (inr (omega (arith, l))),
     )
 
 pub list-mets-spec : {M : Type 1} → statement M

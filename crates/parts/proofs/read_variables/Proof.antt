@@ -67,7 +67,7 @@ returns c =
     let a = start (head r) .args in
     let none = r .read-variable .ensures ∙ ap variableTold (c .before .v .given .1) in (
       sym (l .inv .5) ∙ turns-stop (variableTurn (nextField (now (a .rec))) (a .leaves)) (a .n) (l .i) (soFar (head r)) (l .k) {r = c .before .v .given .0 .0} (omega arith) (simp none),
-      omega arith,
+      (omega arith, (omega arith, omega arith, omega arith)),
     )
 
 enum-known-v-2 : tie.Need-enum-known-v-2 Inv-loop μ-loop
@@ -115,7 +115,7 @@ returns-2 c =
     let l = c .before .loop in
     let a = start (c .before) .args in (
       sym (l .inv .5) ∙ turns-end (variableTurn (nextField (now (a .rec))) (a .leaves)) (a .n) (l .i) (soFar (c .before)) (l .k) (c .loop-test .left),
-      omega arith,
+      (omega arith, (omega arith, omega arith, omega arith)),
     )
 
 pub read-variables-spec : {M : Type 1} → statement M

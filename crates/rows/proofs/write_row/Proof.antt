@@ -7,7 +7,7 @@ use borrow.Rule.Slice.PartMut.{same-len-mid}
 use borrow.Author.Needs.{needs}
 use mir.Syntax.{w8}
 use mir.Val.{Fits}
-use Rattle.rows.specs.Row.Laws.{withNumbers, node-written, packs-written, sign-written}
+use Rattle.rows.specs.Row.Laws.{withNumbers, node-written, packs-written, sign-written, unused-kept}
 use Rattle.rows.proofs.write_row.Statement.{statement}
 use Rattle.rows.proofs.write_row.Tie as tie
 
@@ -68,6 +68,8 @@ returns c =
       packs-written (a .states) (a .paid) (a .parent) (a .action) (a .sign) (a .spot) (a .row .now) _ _ _ _ (a .prices .now) wide (λ v. small v .fits)
           (s .pre .0) (s .pre .1) (w .write-packs .ensures) (c .before .before .copy-words .ensures),
       sign-written (a .states) (a .paid) (a .parent) (a .action) (a .sign) (a .spot) (a .row .now) _ _ _ _ (a .prices .now) wide (λ v. small v .fits)
+          (s .pre .0) (s .pre .1) (w .write-packs .ensures) (c .before .before .copy-words .ensures),
+      unused-kept (a .states) (a .paid) (a .parent) (a .action) (a .sign) (a .spot) (a .row .now) _ _ _ _ (a .prices .now) wide (λ v. small v .fits)
           (s .pre .0) (s .pre .1) (w .write-packs .ensures) (c .before .before .copy-words .ensures),
     )
 

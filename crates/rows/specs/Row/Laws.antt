@@ -18,7 +18,7 @@ use Rattle.task.specs.Centre.{valueIn}
 use Rattle.leaf.specs.Price.{mark}
 use Rattle.leaf.specs.Settle.Turns.{at-any}
 use Rattle.search.specs.Node.{Node, dominates}
-use Rattle.rows.specs.Four.{fourTo, four-length, four-first, four-second, four-third, four-fourth}
+use Rattle.rows.specs.Four.{fourTo, four-length, four-first, four-second, four-third, four-fourth, four-before}
 use Rattle.rows.specs.Row.{byteIn, spotOf, nodeOf, rowIn, nodeIn, nodesIn, nodeWith, packOf, Packed, NotAbove, Above, Tested}
 use Rattle.rows.specs.Row.Packs.{pack-byte}
 
@@ -125,15 +125,26 @@ module _ (S paid parent action sign : ℕ) (c : Centre) (row W Q X Y P : List �
   word : (v : ℕ) → v < 40 → getD (take 40 L ++ (Q ++ X)) v 0 ≡ getD L v 0
   word v h = List·getD-append (take 40 L) (Q ++ X) 0 v (rw front h) ∙ getD-take 40 L v 0 h
 
-  -- a word behind the first three numbers
-  behind : (v : ℕ) → 35 ≤ v → v < 39 → getD (take 40 L ++ (Q ++ X)) v 0 ≡ getD (fourTo row 35 (packOf c 0) (packOf c 8) (packOf c 16) (packOf c 24)) v 0
-  behind v a b =
+  -- a word that is none of the four numbers
+  other : (v : ℕ) → v < 39 → (v ≡ 32 → ⊥) → (v ≡ 33 → ⊥) → (v ≡ 34 → ⊥)
+      → getD (take 40 L ++ (Q ++ X)) v 0 ≡ getD (fourTo row 35 (packOf c 0) (packOf c 8) (packOf c 16) (packOf c 24)) v 0
+  other v b first second third =
       word v (omega arith)
       ∙ getD-set-other (set (set (set W 32 paid) 33 parent) 34 action) 39 v sign 0 (λ e. omega arith)
-      ∙ getD-set-other (set (set W 32 paid) 33 parent) 34 v action 0 (λ e. omega arith)
-      ∙ getD-set-other (set W 32 paid) 33 v parent 0 (λ e. omega arith)
-      ∙ getD-set-other W 32 v paid 0 (λ e. omega arith)
+      ∙ getD-set-other (set (set W 32 paid) 33 parent) 34 v action 0 third
+      ∙ getD-set-other (set W 32 paid) 33 v parent 0 second
+      ∙ getD-set-other W 32 v paid 0 first
       ∙ ap (λ (xs : List ℕ). getD xs v 0) packs
+
+  -- a word behind the first three numbers
+  behind : (v : ℕ) → 35 ≤ v → v < 39 → getD (take 40 L ++ (Q ++ X)) v 0 ≡ getD (fourTo row 35 (packOf c 0) (packOf c 8) (packOf c 16) (packOf c 24)) v 0
+  behind v a b = other v b (λ e. omega arith) (λ e. omega arith) (λ e. omega arith)
+
+  -- a word that is not used
+  pub unused-kept : (v : ℕ) → v < 32 → getD (take 40 (withNumbers W paid parent action sign) ++ (Q ++ X)) v 0 ≡ getD row v 0
+  unused-kept v h =
+      other v (omega arith) (λ e. omega arith) (λ e. omega arith) (λ e. omega arith)
+      ∙ four-before row 35 (packOf c 0) (packOf c 8) (packOf c 16) (packOf c 24) v (omega arith)
 
   -- the packs stand there
   pack-at : (q : ℕ) → q < 4 → getD (take 40 L ++ (Q ++ X)) (35 + q) 0 ≡ packOf c (q * 8)

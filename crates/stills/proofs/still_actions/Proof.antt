@@ -1,28 +1,36 @@
 -- `stills::still_actions` meets its contract. The invariant: it holds of the actions so far. Assumes nothing.
+use mathlib.Core.Path.{_≡_, refl, ap, ap₂, _∙_}
 use mathlib.Core.List.{List}
 use Prim.Native.Nat.{ℕ, _-_, _≤_, _<_}
 use native.Mathlib.Nat.{le-antisymm}
 use native.Mathlib.Omega.{arith}
+use lib.ListN.{length, set}
 use borrow.Author.Needs.{needs}
-use Rattle.stills.specs.Still.{Still, Stills, marked-stays, still-none, still-more}
+use Rattle.loops.specs.Count.{list}
+use Rattle.stills.specs.Still.{padded, stillBy, stillActions, padded-length, padded-more}
 use Rattle.stills.proofs.still_actions.Statement.{statement}
 use Rattle.stills.proofs.still_actions.Tie as tie
 
 abbrev Inv-loop : tie.InvT-loop
 Inv-loop leaves actions stills still₀ a₀ still a =
-    (a ≤ actions) × ((bases moves : List ℕ) → Stills leaves actions bases moves stills → Still leaves a bases moves still)
+    (a ≤ actions) × (still ≡ padded 256 a (stillBy leaves stills))
 
 abbrev μ-loop : tie.MeasureT-loop
 μ-loop leaves actions stills still₀ a₀ still a = actions - a
 
 loop-holds : tie.Need-loop-holds Inv-loop μ-loop
-loop-holds c = (omega arith, λ bases moves h. still-none (c .before .args .leaves) bases moves _ (search needs))
+unfolding list
+loop-holds c = (omega arith, refl)
 
 is-still-requires : tie.Need-is-still-requires Inv-loop μ-loop
 is-still-requires c κs = search needs
 
 array-write-still : tie.Need-array-write-still Inv-loop μ-loop
-array-write-still c = search needs
+array-write-still c =
+    let l = c .before .before .loop in
+    let few : l .a < 256 = omega (arith, c .before .before .before .before .pre .1, c .before .loop-test .taken) in
+    let a = c .before .before .before .before .args in
+    omega (arith, few, ap length (l .inv .1), padded-length 256 (stillBy (a .leaves) (a .stills .now)) (l .a) (omega (arith, few)))
 
 add-a : tie.Need-add-a Inv-loop μ-loop
 add-a c = search needs
@@ -33,16 +41,13 @@ loop-less c = search needs
 loop-again : tie.Need-loop-again Inv-loop μ-loop
 loop-again c =
     let l = c .before .before .loop in
-    let s = c .before .before .before .before in
-    let a = s .args in
-    let below : l .a < a .actions = c .before .loop-test .taken in (
-      omega (arith, below),
-      λ bases moves h. still-more (a .leaves) (l .a) bases moves (l .still) (c .is-still .result) (omega (arith, s .pre .1, below))
-          (λ d. marked-stays (a .leaves) (a .actions) bases moves (a .stills .now) (l .a) (s .pre .0) below h (c .is-still .ensures d)) (l .inv .1 bases moves h),
-    )
+    let below = c .before .loop-test .taken in
+    let few : l .a < 256 = omega (arith, c .before .before .before .before .pre .1, below) in
+    (omega (arith, below), ap₂ (λ (xs : List ℕ) f. set xs (l .a) f) (l .inv .1) (c .is-still .ensures) ∙ padded-more 256 _ (l .a) few)
 
 returns : tie.Need-returns Inv-loop μ-loop
-returns c = rw (le-antisymm (c .before .loop .inv .0) (c .loop-test .left)) at (c .before .loop .inv .1)
+unfolding stillActions
+returns c = let l = c .before .loop in l .inv .1 ∙ rw (le-antisymm (l .inv .0) (c .loop-test .left))
 
 pub still-actions-spec : {M : Type 1} → statement M
 still-actions-spec =

@@ -1,10 +1,13 @@
 -- `stills::still_entry` meets its contract: the leaf's moves lie within the action's. Assumes nothing.
+use mathlib.Core.Path.{_≡_, sym}
+use mathlib.Core.Bool.{cond}
 use Prim.Native.Nat.{_+_, _*_, _/_, _%_, _≤_}
 use native.Mathlib.Omega.{arith}
 use lib.ListN.{length, getD}
 use Rattle.keys.specs.Scan.{Cut}
-use Rattle.stills.specs.Still.{within}
+use Rattle.stills.specs.Still.{within, stillEntry}
 use borrow.Author.Needs.{needs}
+use borrow.Author.Tests.{lt-ltb, le-ltb}
 use Rattle.stills.proofs.still_entry.Statement.{statement}
 use Rattle.stills.proofs.still_entry.Tie as tie
 
@@ -20,7 +23,8 @@ room c =
     within (a .leaves) (a .bases .now) (length (a .moves .now)) tight (a .k / 8 * getD (a .bases .now) (a .leaves) 0) (s .pre .1) (a .k % 8) (c .before .before .before .if1 .left)
 
 returns : tie.Need-returns
-returns c = search needs
+unfolding stillEntry
+returns c = rw (le-ltb _ _ (c .if1 .taken))
 
 mul-from : tie.Need-mul-from
 mul-from c = search needs
@@ -55,11 +59,17 @@ sub-is-still-leaf c = omega (arith, room c)
 is-still-leaf-requires : tie.Need-is-still-leaf-requires
 is-still-leaf-requires c κs = omega (arith, room c)
 
+-- what is found where the leaf is there
+found : (c : tie.After-is-still-leaf) → let a = c .before .before .before .before .before .before .before .args in
+    cond (c .is-still-leaf .result) 1 0 ≡ stillEntry (a .leaves) (a .bases .now) (a .moves .now) (a .k)
+unfolding stillEntry
+found c = rw (lt-ltb _ _ (c .before .before .before .before .if1 .left), sym (c .is-still-leaf .ensures))
+
 returns-2 : tie.Need-returns-2
-returns-2 c = λ _. c .before .is-still-leaf .ensures (c .if2 .taken)
+returns-2 c = rw (c .if2 .taken) at (found (c .before))
 
 returns-3 : tie.Need-returns-3
-returns-3 c = search needs
+returns-3 c = rw (c .if2 .left) at (found (c .before))
 
 pub still-entry-spec : {M : Type 1} → statement M
 still-entry-spec =

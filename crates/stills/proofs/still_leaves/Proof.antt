@@ -1,14 +1,18 @@
 -- `stills::still_leaves` meets its contract. The invariant: it holds of the entries so far. Assumes nothing.
-use Prim.Native.Nat.{_*_, _/_, _-_, _≤_, _<_}
+use mathlib.Core.Path.{_≡_, refl, ap, ap₂, _∙_}
+use mathlib.Core.List.{List}
+use Prim.Native.Nat.{ℕ, _*_, _/_, _-_, _≤_, _<_}
+use native.Mathlib.Nat.{le-antisymm}
 use native.Mathlib.Omega.{arith}
-use lib.ListN.{length, getD}
+use lib.ListN.{length, getD, set}
 use borrow.Author.Needs.{needs}
-use Rattle.stills.specs.Still.{Entries, action-in, entries-none, entries-more}
+use Rattle.loops.specs.Count.{list}
+use Rattle.stills.specs.Still.{padded, stillEntry, stillLeaves, action-in, padded-length, padded-more}
 use Rattle.stills.proofs.still_leaves.Statement.{statement}
 use Rattle.stills.proofs.still_leaves.Tie as tie
 
 abbrev Inv-loop : tie.InvT-loop
-Inv-loop leaves actions bases moves stills₀ k₀ k-end stills k = (k ≤ actions * 8) × Entries k leaves bases moves stills
+Inv-loop leaves actions bases moves stills₀ k₀ k-end stills k = (k ≤ actions * 8) × (stills ≡ padded 2048 k (stillEntry leaves bases moves))
 
 abbrev μ-loop : tie.MeasureT-loop
 μ-loop leaves actions bases moves stills₀ k₀ k-end stills k = actions * 8 - k
@@ -17,9 +21,8 @@ mul-k-end : tie.Need-mul-k-end Inv-loop μ-loop
 mul-k-end c = search needs
 
 loop-holds : tie.Need-loop-holds Inv-loop μ-loop
-loop-holds c =
-    let a = c .before .before .args in
-    (omega arith, entries-none (a .leaves) (a .bases .now) (a .moves .now) _ (search needs))
+unfolding list
+loop-holds c = (omega arith, refl)
 
 still-entry-requires : tie.Need-still-entry-requires Inv-loop μ-loop
 still-entry-requires c κs =
@@ -30,7 +33,11 @@ still-entry-requires c κs =
     (s .pre .0, action-in (a .actions) (k / 8) (getD (a .bases .now) (a .leaves) 0) (length (a .moves .now)) below (s .pre .2))
 
 array-write-stills : tie.Need-array-write-stills Inv-loop μ-loop
-array-write-stills c = omega (arith, c .before .before .before .before .before .pre .1, c .before .loop-test .taken)
+array-write-stills c =
+    let l = c .before .before .loop in
+    let few : l .k < 2048 = omega (arith, c .before .before .before .before .before .pre .1, c .before .loop-test .taken) in
+    let a = c .before .before .before .before .before .args in
+    omega (arith, few, ap length (l .inv .1), padded-length 2048 (stillEntry (a .leaves) (a .bases .now) (a .moves .now)) (l .k) (omega (arith, few)))
 
 add-k : tie.Need-add-k Inv-loop μ-loop
 add-k c = search needs
@@ -44,13 +51,12 @@ loop-again c =
     let s = c .before .before .before .before .before in
     let few : l .k < 2048 = omega (arith, s .pre .1, c .before .loop-test .taken) in (
       omega (arith, c .before .loop-test .taken),
-      entries-more (s .args .leaves) (l .k) (s .args .bases .now) (s .args .moves .now) (l .stills) (c .still-entry .result) few (c .still-entry .ensures) (l .inv .1),
+      ap₂ (λ (xs : List ℕ) f. set xs (l .k) f) (l .inv .1) (c .still-entry .ensures) ∙ padded-more 2048 _ (l .k) few,
     )
 
 returns : tie.Need-returns Inv-loop μ-loop
-returns c =
-    let l = c .before .loop in
-    record { long = l .inv .1 .long; stays = λ a i k. l .inv .1 .stays a i (omega (arith, c .loop-test .left)) }
+unfolding stillLeaves
+returns c = let l = c .before .loop in l .inv .1 ∙ rw (le-antisymm (l .inv .0) (c .loop-test .left))
 
 pub still-leaves-spec : {M : Type 1} → statement M
 still-leaves-spec =

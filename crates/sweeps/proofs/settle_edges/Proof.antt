@@ -7,12 +7,14 @@ use Prim.Native.Nat.{ℕ, _+_, _-_, _≤_}
 use native.Mathlib.Omega.{arith}
 use lib.ListN.{length, getD, take}
 use borrow.Author.Needs.{needs}
+use Rattle.loops.specs.Count.{any}
 use Rattle.task.specs.declared.Centre.{Centre}
 use Rattle.layer.specs.Board.{Board, baseOn, settleOn, partOn, settledOn}
 use Rattle.layer.specs.Board.Turns.{base-in, part-length, Laid, laid-none, laid-more, laid-rest}
 use Rattle.layer.specs.Lent.{boardOf}
 use Rattle.leaf.specs.Settle.Sweeps.{or-false}
-use Rattle.sweeps.specs.Sweeps.Still.{put-back}
+use Rattle.sweeps.specs.Sweeps.{someMet, edgesOf, sweptBy}
+use Rattle.sweeps.specs.Sweeps.Still.{any-next, put-back}
 use Rattle.sweeps.proofs.settle_edges.Statement.{statement}
 use Rattle.sweeps.proofs.settle_edges.Tie as tie
 
@@ -23,15 +25,16 @@ leaf b centre new k = settleOn b k centre (partOn b k new)
 abbrev Inv-loop : tie.InvT-loop
 Inv-loop leaves actions bases moves costs kinds factors conditions mets edges ends centre new₀ swept₀ i₀ new swept i =
     (i ≤ leaves) × Laid (leaf (boardOf leaves actions bases moves costs kinds factors conditions) centre new₀) i (getD bases i 0) new₀ new
-    × (swept ≡ false → new ≡ new₀)
+    × (swept ≡ false → new ≡ new₀) × (swept ≡ any i (λ k. someMet mets (edgesOf bases edges ends k)))
 
 abbrev μ-loop : tie.MeasureT-loop
 μ-loop leaves actions bases moves costs kinds factors conditions mets edges ends centre new₀ swept₀ i₀ new swept i = leaves - i
 
 loop-holds : tie.Need-loop-holds Inv-loop μ-loop
+unfolding any
 loop-holds c =
     let s = c .before .before .before .before .before .before .before .before .before in
-    (omega arith, laid-none _ _ _ (s .pre .0 .bases-first), λ _. refl)
+    (omega arith, laid-none _ _ _ (s .pre .0 .bases-first), (λ _. refl), refl)
 
 -- where the function starts, and the Board that is lent
 abbrev start : tie.In-loop Inv-loop μ-loop → tie.Start Inv-loop μ-loop
@@ -103,17 +106,17 @@ loop-again c =
     let l = t .before .loop in
     let settled = called .settle-leaf .ensures .0 ∙ ap (λ (xs : List ℕ). settleOn (board t) (l .i) (start t .args .centre) (take (to t - from t) xs)) (laid-rest (l .inv .1)) in
     let kept = called .settle-leaf .kept .1 .1 .1 .1 .1 .1 .1 .1 .1 .1 .1 .1 .1 .0 in
-    (omega arith, laid-more _ (l .i) (from t) (to t) _ (l .new) _ (room t .0) (room t .2) (l .inv .1) settled kept, λ e. put-back (from t) (to t - from t) (l .new) _ (called .settle-leaf .ensures .1 (or-false (l .swept) _ e .1)) ∙ l .inv .2 (or-false (l .swept) _ e .0))
+    (omega arith, laid-more _ (l .i) (from t) (to t) _ (l .new) _ (room t .0) (room t .2) (l .inv .1) settled kept, (λ e. put-back (from t) (to t - from t) (l .new) _ (called .settle-leaf .ensures .1 (or-false (l .swept) _ e .1)) ∙ l .inv .2 (or-false (l .swept) _ e .0)), any-next (l .i) _ (l .inv .3) (called .settle-leaf .ensures .2))
 
 same-length : tie.Need-same-length Inv-loop μ-loop
 same-length c = c .before .loop .inv .1 .kept
 
 returns : tie.Need-returns Inv-loop μ-loop
-unfolding settledOn
+unfolding settledOn sweptBy
 returns c =
     let s = c .before .before .before .before .before .before .before .before .before .before .before in
     let all : c .before .loop .i ≡ s .args .leaves = omega arith in
-    (c .before .loop .inv .1 .laid ∙ rw all, c .before .loop .inv .2)
+    (c .before .loop .inv .1 .laid ∙ rw all, c .before .loop .inv .2, c .before .loop .inv .3 ∙ rw all)
 
 pub settle-edges-spec : {M : Type 1} → statement M
 settle-edges-spec =

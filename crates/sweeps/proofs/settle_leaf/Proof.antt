@@ -1,6 +1,6 @@
 -- `sweeps::settle_leaf` meets its contract. The enabled actions lead where the leaf's edges do; where no edge has its flag set they lead nowhere.
 -- Assumes nothing.
-use mathlib.Core.Path.{refl, _∙_}
+use mathlib.Core.Path.{refl, sym, _∙_}
 use mathlib.Core.Bool.{true≢false}
 use mathlib.Core.List.{List}
 use Prim.Native.Nat.{ℕ, _+_, _≤_, _<_}
@@ -8,7 +8,7 @@ use native.Mathlib.Nat.{le-trans}
 use native.Mathlib.Omega.{arith}
 use lib.ListN.{length, getD}
 use borrow.Author.Needs.{needs}
-use borrow.Author.Tests.{not-true}
+use Rattle.loops.specs.Count.Laws.{told-true, told-false}
 use Rattle.leaf.specs.Price.{mark}
 use Rattle.leaf.specs.Settle.Turns.{at-most}
 use Rattle.leaf.specs.Lent.{costBy, moveBy}
@@ -17,7 +17,7 @@ use Rattle.layer.specs.Board.Turns.{base-in, leaf-settled}
 use Rattle.layer.specs.Lent.{boardOf}
 use Rattle.sweeps.specs.Sweeps.{Meant}
 use Rattle.sweeps.specs.Sweeps.Leaf.{leaf-ways, leaf-meant}
-use Rattle.sweeps.specs.Sweeps.Still.{leaf-part, leaf-unmet, still-settled}
+use Rattle.sweeps.specs.Sweeps.Still.{some-none, leaf-part, leaf-unmet, still-settled}
 use Rattle.sweeps.proofs.settle_leaf.Statement.{statement}
 use Rattle.sweeps.proofs.settle_leaf.Tie as tie
 
@@ -113,11 +113,11 @@ returns c =
     let s = entry t in
     let a = s .args in
     let P = a .prices .now in
-    let none = c .before .some-met .ensures (not-true _ (c .if1 .taken)) in
-    let unmet = leaf-unmet (board s) (s .pre .0) (a .edges .now) (a .ends .now) (s .pre .2) (a .i) (s .pre .3) (a .mets .now) none in
+    let none = told-false (c .before .some-met .ensures) (c .if1 .taken) in
+    let unmet = leaf-unmet (board s) (s .pre .0) (a .edges .now) (a .ends .now) (s .pre .2) (a .i) (s .pre .3) (a .mets .now) (some-none _ _ none) in
     let still = still-settled mark _ _ _ _ _ _ _ _ _ _ _ P (meant s) (rw (s .pre .4) unmet) refl
     (at-most mark P (λ i. omega (arith, t .slice-known .given i))) in
-    (still ∙ leaf-settled (board s) (a .i) (a .centre) (acts s) _ refl refl P, λ _. refl)
+    (still ∙ leaf-settled (board s) (a .i) (a .centre) (acts s) _ refl refl P, (λ _. refl), sym none)
 
 -- the edges can be followed
 settle-along-requires : tie.Need-settle-along-requires
@@ -133,7 +133,7 @@ same-length c = search needs
 returns-2 : tie.Need-returns-2
 returns-2 c =
     let s = entry (known (c .before .before .before .before .before .before .before)) in
-    (c .before .before .settle-along .ensures _ _ _ (meant s) ∙ leaf-settled (board s) (s .args .i) (s .args .centre) (acts s) _ refl refl (s .args .prices .now), λ e. absurd (true≢false e))
+    (c .before .before .settle-along .ensures _ _ _ (meant s) ∙ leaf-settled (board s) (s .args .i) (s .args .centre) (acts s) _ refl refl (s .args .prices .now), (λ e. absurd (true≢false e)), sym (told-true (c .before .before .before .before .before .some-met .ensures) (c .before .before .before .before .if1 .left)))
 
 pub settle-leaf-spec : {M : Type 1} → statement M
 settle-leaf-spec =

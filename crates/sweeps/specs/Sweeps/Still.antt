@@ -1,19 +1,24 @@
 -- A leaf none of whose edges has its flag set: its prices are settled as they are. Assumes nothing.
-use mathlib.Core.Path.{_≡_, ap, _∙_}
+use mathlib.Core.Path.{_≡_, sym, ap, _∙_}
+use mathlib.Core.Bool.{Bool, false, not, _||_, true≢false}
 use mathlib.Core.List.{List, _++_}
 use Prim.Native.Nat.{ℕ, zero, suc, _+_, _-_, _≤_, _<_}
 use native.Mathlib.Numerals.{add-one}
 use native.Mathlib.Decide.{ℕ-discrete}
 use native.Mathlib.Omega.{arith}
+use lib.Dec.{eqb}
 use lib.ListN.{length, getD, take, drop, length-take, length-drop, take-append-drop}
 use lib.Seq.{getD-take, getD-drop}
+use borrow.Author.Tests.{ne-eqb}
+use Rattle.loops.specs.Count.{any}
+use Rattle.loops.specs.Count.Laws.{any-in}
 use Rattle.leaf.specs.Settle.{settled}
 use Rattle.leaf.specs.Settle.Walks.{stand, Capped, Closed}
 use Rattle.leaf.specs.Settle.Laws.{settled-unique}
 use Rattle.layer.specs.Board.{Board, Sound, baseOn, rowOn, statesOn}
 use Rattle.layer.specs.Board.Turns.{base-in}
 use Rattle.edges.specs.Edges.{edgesAt, Edges}
-use Rattle.sweeps.specs.Sweeps.{Unmet, Meant}
+use Rattle.sweeps.specs.Sweeps.{Unmet, someMet, Meant}
 use Rattle.sweeps.specs.Sweeps.Leaf.{gated-out}
 
 -- what stands in a part of a list, from e to f of it, stands in a part around it, from d to g
@@ -23,6 +28,21 @@ part-in xs d e f g j h k l m =
     let i : e - d + j < g - d = omega arith in
     let same : d + (e - d + j) ≡ e + j = omega arith in
     rw (getD-take, getD-drop, getD-take, getD-drop, same)
+
+-- a turn of a loop that gathers whether a test passes so far
+pub any-next : (n : ℕ) (p : ℕ → Bool) {a b : Bool} → a ≡ any n p → b ≡ p n → (a || b) ≡ any (n + 1) p
+unfolding any
+any-next n p e q = rw (e, q, add-one n)
+
+-- where no flag of these actions is set
+pub some-none : (mets acts : List ℕ) → someMet mets acts ≡ false → Unmet mets acts (length acts)
+unfolding someMet
+some-none mets acts e j l = go (ℕ-discrete (getD mets (getD acts j 0) 0) 0)
+  where
+    go : Dec (getD mets (getD acts j 0) 0 ≡ 0) → getD mets (getD acts j 0) 0 ≡ 0
+    go (yes q) = q
+    go (no d) =
+        absurd (true≢false (sym (any-in (length acts) (λ k. not (eqb (getD mets (getD acts k 0) 0) 0)) j l (ap not (ne-eqb _ _ d))) ∙ e))
 
 module _ (b : Board) (sound : Sound b) (edges ends : List ℕ) (table : Edges b edges ends) where
   -- the edges of a later state begin later
