@@ -26,7 +26,8 @@
  *
  * nodes: how many nodes the search may keep, 1 to 4,096; budget: how many expansions it may begin.
  * Returns DEPOT_PLAN, DEPOT_UNSOLVABLE, or the number of the refusal (1 to 11, 20, 21, then 22 or 23 as met, then 24).
- * plan: the plan's actions, one byte each, from its front; the bytes behind it, and all bytes without a plan, are as they were.
+ * plan: the plan's actions, one byte each, from its front; the bytes behind it, and all bytes without a plan, are as they were. depot_plan_bytes(record, nodes)
+ * bytes are enough for every plan.
  * table: working memory, depot_table_words(record, nodes) words at least. As it was before a search; after one those words are 0 and the rest as it was.
  * answer: where it has four words or more, the first four are the plan's length, its cost in hundredths of a second, the expansions begun and the
  * nodes kept; 0 where there is none (length and cost without a plan, all four for 1 to 21). A shorter one is left as it was. */
@@ -39,7 +40,12 @@ uint32_t depot_plan(const uint8_t *record, size_t record_len, uint32_t nodes, ui
  * with all words as they were. */
 uint32_t depot_prices(const uint8_t *record, size_t record_len, const uint8_t *path, size_t path_len, uint64_t *prices, size_t prices_len);
 
-/* The words that a table for this record and so many nodes needs, (nodes + 1) x (40 + S); 0 where the record or the number of nodes is refused. */
+/* The words that a table for this record and so many nodes needs, (nodes + 1) x (40 + S); 0 where the record or the number of nodes is refused. A table of
+ * that length is never refused 21, and a shorter one always is. */
 uint64_t depot_table_words(const uint8_t *record, size_t record_len, uint32_t nodes);
+
+/* How many bytes are enough for a plan, nodes x (S + 1); 0 where the record or the number of nodes is refused. With a buffer of that length or longer no
+ * call with these nodes is answered 24. */
+uint64_t depot_plan_bytes(const uint8_t *record, size_t record_len, uint32_t nodes);
 
 #endif

@@ -27,6 +27,7 @@ mod raw {
             prices_length: usize,
         ) -> u32;
         pub fn depot_table_words(record: *const u8, record_length: usize, nodes: u32) -> u64;
+        pub fn depot_plan_bytes(record: *const u8, record_length: usize, nodes: u32) -> u64;
     }
 }
 
@@ -67,4 +68,10 @@ pub fn prices(record: &[u8], path: &[u8], prices: &mut [u64]) -> u32 {
 pub fn table_words(record: &[u8], nodes: u32) -> u64 {
     // SAFETY: as above.
     unsafe { raw::depot_table_words(record.as_ptr(), record.len(), nodes) }
+}
+
+/// The bytes of a plan buffer with which no call with these nodes is answered 24.
+pub fn plan_bytes(record: &[u8], nodes: u32) -> u64 {
+    // SAFETY: as above.
+    unsafe { raw::depot_plan_bytes(record.as_ptr(), record.len(), nodes) }
 }

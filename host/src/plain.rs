@@ -1,4 +1,4 @@
-//! The three functions that stand beside the proved library's.
+//! The functions that stand beside the proved library's.
 
 use crate::edges::Edges;
 use crate::explore::{Search, Stop};
@@ -27,6 +27,15 @@ fn words(star: &Star, nodes: u32) -> u64 {
 pub fn table_words(record: &[u8], nodes: u32) -> u64 {
     match read(record) {
         Ok(t) if (1..=4096).contains(&nodes) => words(&Star::new(&t), nodes),
+        _ => 0,
+    }
+}
+
+/// The bytes of a plan buffer that is long enough for every plan of so many nodes: in each layer no leaf has more actions than states, and a centre action
+/// goes on to the next. 0 where the record or the number of nodes is refused.
+pub fn plan_bytes(record: &[u8], nodes: u32) -> u64 {
+    match read(record) {
+        Ok(t) if (1..=4096).contains(&nodes) => nodes as u64 * (Star::new(&t).states() as u64 + 1),
         _ => 0,
     }
 }

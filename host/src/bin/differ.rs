@@ -12,7 +12,7 @@ use std::process::exit;
 /// A planner under test: the proved library, or the plain one in its place.
 mod tested {
     #[cfg(feature = "proved")]
-    pub use depot_host::ffi::{plan, prices, table_words};
+    pub use depot_host::ffi::{plan, plan_bytes, prices, table_words};
 
     #[cfg(not(feature = "proved"))]
     pub fn plan(record: &[u8], nodes: u32, budget: u32, plan: &mut [u8], table: &mut [u64], answer: &mut [u64]) -> u32 {
@@ -27,7 +27,7 @@ mod tested {
     }
 
     #[cfg(not(feature = "proved"))]
-    pub use depot_host::plain::{prices, table_words};
+    pub use depot_host::plain::{plan_bytes, prices, table_words};
 }
 
 /// Whether the exploration began: then the table's words are 0 afterwards.
@@ -74,6 +74,9 @@ impl Buffers {
                 let (plan, table, answer) = (self.plan.lend(*room), self.table.lend(*words), self.answer.lend(answer_lent(*room)));
                 let number = tested::plan(record, *nodes, *budget, plan, table, answer);
                 equal("number", number, wanted.number)?;
+                if number == 24 {
+                    equal("24 with a buffer that is long enough", *room as u64 >= tested::plan_bytes(record, *nodes), false)?;
+                }
                 let mut told = 0;
                 if let [length, cost, expanded, kept, ..] = *self.answer.words() {
                     equal("answer", Answer { number, length, cost, expanded, kept }, wanted)?;
@@ -102,7 +105,8 @@ impl Buffers {
             }
             Call::Words { record, nodes } => {
                 equal("words", tested::table_words(record, *nodes), plain::table_words(record, *nodes))?;
-                Ok(("words", 0))
+                equal("bytes", tested::plan_bytes(record, *nodes), plain::plan_bytes(record, *nodes))?;
+                Ok(("sizes", 0))
             }
         }
     }
@@ -130,7 +134,7 @@ fn main() {
     println!("{with}: {many} calls with seed {seed}, no difference");
     for ((kind, number), count) in met {
         match (kind, number) {
-            ("words", _) => println!("  table words     {count}"),
+            ("sizes", _) => println!("  table words and plan bytes {count}"),
             (_, 0) => println!("  {kind:7} answered {count}"),
             (_, UNSOLVABLE) => println!("  {kind:7} none     {count}"),
             _ => println!("  {kind:7} {number:<8} {count}"),
