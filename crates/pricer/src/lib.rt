@@ -55,12 +55,13 @@ fn price_task(task: Task, path: &[u8], out: &mut [u64]) -> PriceAnswer
 {
     let kinds = action_kinds(task);
     let actions = task.actions as usize;
-    if !path_fits(path, &kinds, actions) {
-        return PriceAnswer::Refused(PriceRefusal::PathWrong);
-    }
     let bases = leaf_bases(task);
     let leaves = task.leaves as usize;
     let states = bases[leaves];
+    let fits = path_fits(path, &kinds, actions);
+    if !fits {
+        return PriceAnswer::Refused(PriceRefusal::PathWrong);
+    }
     if out.len() < states {
         return PriceAnswer::Refused(PriceRefusal::SliceShort);
     }
