@@ -2,7 +2,7 @@
 
 use depot_host::depot::fetch;
 use depot_host::draft::Draft;
-use depot_host::plain::{plan, prices, table_words, Answer, UNSOLVABLE};
+use depot_host::plain::{plan, plan_bytes, prices, table_words, Answer, UNSOLVABLE};
 use depot_host::record::read;
 use depot_host::uniform::least_cost;
 
@@ -24,6 +24,7 @@ fn the_record() {
     assert_eq!(record.len(), 36);
     assert_eq!(record[..5], [0x08, 0x04, 0x10, 0x02, 0x10]);
     assert_eq!(table_words(&record, 94), 95 * 43);
+    assert_eq!(plan_bytes(&record, 94), 94 * 4);
 }
 
 #[test]

@@ -43,4 +43,7 @@ fn the_pricer() {
     assert_eq!((ffi::prices(&record, &[1], &mut out), out), (13, [0, u64::MAX, u64::MAX, 7]));
     assert_eq!(ffi::table_words(&record, 94), 4085);
     assert_eq!(ffi::table_words(&record, 0), 0);
+    assert_eq!(ffi::plan_bytes(&record, 94), 376);
+    assert_eq!(ffi::plan_bytes(&record, 0), 0);
+    assert_eq!(ffi::plan_bytes(&record, 4097), 0);
 }
