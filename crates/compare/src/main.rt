@@ -5,12 +5,12 @@
 // run. The plain planner is a uniform-cost search over whole states by the published meaning of a task; of the planner's code it uses the
 // record reader alone. A line ends in DIFFERENT where the costs differ, or where a plan does not carry out for the cost that its answer
 // states, or where the bytes behind the plan are not as they were.
+use answers::PlanAnswer;
+use answers::Solution;
 use libc::STDIN_FILENO;
 use libc::STDOUT_FILENO;
 use planner::plan;
 use record::read_record;
-use answers::PlanAnswer;
-use answers::Solution;
 use steps::holds;
 use steps::put;
 use task::Task;

@@ -212,7 +212,7 @@ module _ (rec : List ℕ) (nodes budget : ℕ) where
             short = λ table. (
               λ e. rw (need-is (readRecord rec .task) nodes) at (decided rec nodes budget plan table .table-short .0 e .1 .1 .1),
               λ l. decided rec nodes budget plan table .table-short .1
-                  (w .read, (w .some-nodes, (w .few-nodes, rw (need-is (readRecord rec .task) nodes) l)))
+                  (w .read, (w .some-nodes, (w .few-nodes, rw (need-is (readRecord rec .task) nodes) l))),
             );
           })
 
