@@ -4,9 +4,10 @@ use mathlib.Core.Logic.{inl, inr}
 use mathlib.Core.Bool.{Bool, true, false, _&&_}
 use mathlib.Core.List.{List}
 use Prim.Native.Nat.{ℕ, zero, suc, _≤_, _<_}
+use native.Mathlib.Decide.{decLt}
 use native.Mathlib.Omega.{arith}
 use lib.Dec.{leb}
-use lib.ListN.{length}
+use lib.ListN.{length, replicate, length-replicate}
 use Rattle.task.specs.declared.Task.{Task}
 use Rattle.task.specs.Factors.{allStates}
 use Rattle.whole.specs.declared.Verdict.{Verdict}
@@ -23,6 +24,7 @@ use Rattle.solve.specs.Solve.{countsOf, withPlan, atBest, atStop, tableWords, c
 use Rattle.planner.specs.Planner.{taskPlan, onVerdict, recordPlan, callOn, givenWith}
 use Rattle.planner.specs.Planner.Demands.{Call, Given, CarriesOut, LeastCost, Reachable, Decided}
 use Rattle.planner.specs.Planner.Demands.Laws.{not-outside, record-meets}
+use Rattle.depot.specs.Depot.Demands.{JustEnough}
 
 -- ---- the planner, by `decided`
 
@@ -124,3 +126,21 @@ module _ (c : PathCall) (number : ℕ) (d : PathDecided c number) where
 
   pub prices-for-refused : (c .verdict ≡ 0 → ⊥) → number ≡ 0 → ⊥
   prices-for-refused n e = n (d .priced .0 e .0 .read)
+
+-- ---- the library's table words, by `just_enough`
+
+-- no other number of words is just enough: neither one less nor one more
+pub one-size : (number : List ℕ → ℕ) (v w : ℕ) → JustEnough v number → JustEnough w number → v ≡ w
+one-size number v w p q = go (decLt v w) (decLt w v)
+  where
+    -- a table of n words is refused 21 by the longer size and not by the other
+    apart : (m n : ℕ) → JustEnough m number → JustEnough n number → m < n → ⊥
+    apart m n p q l =
+        let table : List ℕ = replicate m 0 in
+        let long = length-replicate {A = ℕ} m 0 in
+        absurd (omega (arith, long, p .short table .0 (q .short table .1 (omega (arith, long)))))
+
+    go : Dec (v < w) → Dec (w < v) → v ≡ w
+    go (yes l) d = absurd (apart v w p q l)
+    go (no n) (yes l) = absurd (apart w v q p l)
+    go (no n) (no m) = omega arith

@@ -60,7 +60,9 @@ pub record Zeroed (need : ℕ) (before after : List ℕ) (a : Told) : Type 0 whe
   pub early : (Searched (a .number) → ⊥) → after ≡ before
   pub late : Searched (a .number) → after ≡ replicate need 0 ++ drop need before
 
--- ---- demand 2: "A plan carries out, action by action, from the initial state to the goal, at the cost reported." (Of paths and prices: crate price.)
+-- ---- demand 2: "A plan carries out, action by action, from the initial state to the goal, at the cost reported. A centre path is refused 13 only where no
+-- action sequence has just those centre actions in that order. A choice of one leaf state per leaf is priced exactly when such a sequence ends there, and
+-- the prices add up to the least leaf cost of doing so." Its first sentence; the others are crate price's (`Demand.antt`).
 
 pub record CarriesOut (t : Task) (bytes : List ℕ) (a : Told) : Type 0 where
   pub written : a .number ≡ 0 → a .length ≤ length bytes
