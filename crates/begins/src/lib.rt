@@ -5,7 +5,6 @@ use leaf::fill;
 use leaf::pass;
 use leaf::passes;
 use rows::sign_of;
-use task::Centre;
 use words::copy_words;
 ghost use mathlib.Core.Path.{_≡_};
 ghost use mathlib.Core.List.{_++_};
@@ -61,7 +60,6 @@ pub fn is_stuck(
     conditions: &[u8],
     still: &[u8],
     stills: &[u8],
-    spot: Centre,
     old: &[u64],
     a: usize,
 ) -> bool

@@ -102,7 +102,6 @@ fn turn(
         conditions,
         still,
         stills,
-        spot,
         old,
         a,
     ) {
