@@ -31,10 +31,15 @@ onVerdict (NotAccepted why) n = 0
 unfoldable pub forRecord : (ℕ → ℕ) → List ℕ → ℕ → ℕ
 forRecord size rec nodes = onVerdict (readRecord rec .verdict) (forNodes size (allStates (readRecord rec .task)) nodes)
 
+-- a size that goes by nodes and S, each with something more
+abbrev pub sizeFor : ℕ → ℕ → ℕ → ℕ → ℕ
+sizeFor rows width nodes states = (nodes + rows) * (width + states)
+
 -- "The working table needs (nodes + 1) × (40 + S) words of 64 bits."
 abbrev pub wordsFor : ℕ → ℕ → ℕ
-wordsFor nodes states = (nodes + 1) * (40 + states)
+wordsFor = sizeFor 1 40
 
--- a plan of a search that keeps so many nodes has no more actions: in each layer no leaf has more than it has states, and one goes on to the next
+-- nodes × (1 + S): a plan of a search that keeps so many nodes has no more actions. In each layer no leaf has more than it has states, and one goes on to
+-- the next.
 abbrev pub bytesFor : ℕ → ℕ → ℕ
-bytesFor nodes states = nodes * (states + 1)
+bytesFor = sizeFor 0 1

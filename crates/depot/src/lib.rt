@@ -8,7 +8,7 @@ use task::Task;
 use whole::Verdict;
 ghost use mathlib.Core.Path.{_≡_};
 ghost use mathlib.Core.List.{List};
-ghost use Prim.Native.Nat.{ℕ};
+ghost use Prim.Native.Nat.{ℕ, _≤_};
 ghost use Rattle.task.specs.Factors.{allStates};
 ghost use Rattle.task.specs.Valid.{Valid};
 ghost use Rattle.leaf.specs.Price.{mark};
@@ -17,7 +17,7 @@ ghost use Rattle.record.specs.Record.{readRecord};
 ghost use Rattle.answers.specs.Told.{planTold, priceTold};
 ghost use Rattle.pricer.specs.Pricer.{pricesOf, callOn as pathOn, priceIn};
 ghost use Rattle.planner.specs.Planner.{recordPlan, callOn, givenWith};
-ghost use Rattle.depot.specs.Depot.{answered, forNodes, forRecord, wordsFor, bytesFor};
+ghost use Rattle.depot.specs.Depot.{answered, forNodes, forRecord, sizeFor, wordsFor, bytesFor};
 ghost use Rattle.depot.specs.Depot.Demands.{Said, JustEnough, Enough};
 
 // The values at the front of `answer`, where it has four words.
@@ -99,6 +99,18 @@ fn states_for(record: &[u8], nodes: u32) -> u64
     }
 }
 
+// A size that goes by nodes and S: (nodes + rows) times (width + S); 0 where the record or the number of nodes is refused.
+fn sized(record: &[u8], nodes: u32, rows: u64, width: u64) -> u64
+    requires { ⌜ (rows ≤ 1) × (width ≤ 40) ⌝ }
+    ensures { λ r. ⌜ r ≡ forRecord (sizeFor rows width nodes) (now («record» .entry)) nodes ⌝ }
+{
+    let states = states_for(record, nodes);
+    if states == 0 {
+        return 0;
+    }
+    (nodes as u64 + rows) * (width + states)
+}
+
 // The words that a table for this record and these nodes needs, 0 where the record or the number of nodes is refused.
 #[no_mangle]
 pub extern "C" fn depot_table_words(record: &[u8], nodes: u32) -> u64
@@ -106,11 +118,7 @@ pub extern "C" fn depot_table_words(record: &[u8], nodes: u32) -> u64
     ensures just_enough { λ r. ⌜ ((budget : ℕ) (plan : List ℕ)
         → JustEnough r (λ table. planTold (recordPlan (now («record» .entry)) nodes budget plan table .answer) .number)) ⌝ }
 {
-    let states = states_for(record, nodes);
-    if states == 0 {
-        return 0;
-    }
-    (nodes as u64 + 1) * (40 + states)
+    sized(record, nodes, 1, 40)
 }
 
 // The bytes that a plan buffer for this record and these nodes needs at most, 0 where the record or the number of nodes is refused: with a buffer of
@@ -121,9 +129,5 @@ pub extern "C" fn depot_plan_bytes(record: &[u8], nodes: u32) -> u64
     ensures enough { λ r. ⌜ ((budget : ℕ) (table : List ℕ)
         → Enough r (λ plan. planTold (recordPlan (now («record» .entry)) nodes budget plan table .answer) .number)) ⌝ }
 {
-    let states = states_for(record, nodes);
-    if states == 0 {
-        return 0;
-    }
-    nodes as u64 * (states + 1)
+    sized(record, nodes, 0, 1)
 }

@@ -1,11 +1,11 @@
 -- The words of an answer, and the sizes of what is lent, case by case. Assumes nothing.
-use mathlib.Core.Path.{_≡_, refl, sym, _∙_}
+use mathlib.Core.Path.{_≡_, refl, sym, _∙_, ap₂}
 use mathlib.Core.Logic.{_⊎_, inl, inr}
 use mathlib.Core.Bool.{Bool, true, false, _&&_}
 use mathlib.Core.List.{List, [], _∷_}
 use Prim.Native.Nat.{ℕ, zero, suc, _+_, _*_, _≤_, _<_}
 use native.Mathlib.Decide.{decLe}
-use native.Mathlib.Nat.{mul-le-mul-right}
+use native.Mathlib.Nat.{mul-le-mul}
 use native.Mathlib.Omega.{arith}
 use lib.Dec.{leb}
 use lib.ListN.{length, set, drop}
@@ -29,7 +29,7 @@ use Rattle.planner.specs.Planner.{recordPlan, callOn, givenWith}
 use Rattle.planner.specs.Planner.Demands.{Decided, NodesOutside}
 use Rattle.planner.specs.Planner.Demands.Laws.{not-early, not-outside, record-meets}
 use Rattle.planner.specs.Planner.Room.{record-fits}
-use Rattle.depot.specs.Depot.{answered, forNodes, onVerdict, forRecord, wordsFor, bytesFor}
+use Rattle.depot.specs.Depot.{answered, forNodes, onVerdict, forRecord, sizeFor, wordsFor, bytesFor}
 use Rattle.depot.specs.Depot.Demands.{RefusedEarly, JustEnough, Enough}
 
 -- ---- the answer
@@ -168,15 +168,15 @@ need-is : (t : Task) (nodes : ℕ) → tableWords t nodes ≡ wordsFor nodes (al
 unfolding tableWords
 need-is t nodes = refl
 
--- neither size is 0 where there is a node
-words-positive : (nodes states : ℕ) → wordsFor nodes states ≡ 0 → ⊥
-words-positive nodes states e = absurd (omega (arith, mul-le-mul-right (40 + states) (one-le nodes)))
-  where
-    one-le : (n : ℕ) → 1 ≤ n + 1
-    one-le n = omega arith
+-- and the bytes that 24 speaks of
+bytes-is : (nodes states : ℕ) → nodes * (states + 1) ≡ bytesFor nodes states
+bytes-is nodes states = ap₂ {C = ℕ} _*_ (omega arith) (omega arith)
 
-bytes-positive : (nodes states : ℕ) → 1 ≤ nodes → bytesFor nodes states ≡ 0 → ⊥
-bytes-positive nodes states some e = absurd (omega (arith, mul-le-mul-right (states + 1) some))
+-- no size is 0 where there is a node and a state
+size-positive : (rows width nodes states : ℕ) → 1 ≤ nodes → 1 ≤ states → sizeFor rows width nodes states ≡ 0 → ⊥
+size-positive rows width nodes states some s e =
+    let one : 1 * 1 ≤ (nodes + rows) * (width + states) = mul-le-mul {n₁ = 1} {m₁ = 1} {n₂ = nodes + rows} {m₂ = width + states} (omega arith) (omega arith) in
+    absurd (omega arith)
 
 module _ (rec : List ℕ) (nodes budget : ℕ) where
   -- a call that is not refused early: 21, or an answer of its search
@@ -208,7 +208,7 @@ module _ (rec : List ℕ) (nodes budget : ℕ) where
       go (inr w) =
           rw (w .sizes (wordsFor nodes))
           (record {
-            none = λ table. (λ e. absurd (words-positive nodes (allStates (readRecord rec .task)) e), λ r. absurd (not-refused w plan table r));
+            none = λ table. (λ e. absurd (size-positive 1 40 nodes (allStates (readRecord rec .task)) (w .some-nodes) (w .some-states) e), λ r. absurd (not-refused w plan table r));
             short = λ table. (
               λ e. rw (need-is (readRecord rec .task) nodes) at (decided rec nodes budget plan table .table-short .0 e .1 .1 .1),
               λ l. decided rec nodes budget plan table .table-short .1
@@ -229,6 +229,6 @@ module _ (rec : List ℕ) (nodes budget : ℕ) where
       go (inr w) =
           rw (w .sizes (bytesFor nodes))
           (record {
-            none = λ plan. (λ e. absurd (bytes-positive nodes (allStates (readRecord rec .task)) (w .some-nodes) e), λ r. absurd (not-refused w plan table r));
-            fits = λ plan l e. absurd (omega (arith, record-fits rec nodes budget plan table e));
+            none = λ plan. (λ e. absurd (size-positive 0 1 nodes (allStates (readRecord rec .task)) (w .some-nodes) (w .some-states) e), λ r. absurd (not-refused w plan table r));
+            fits = λ plan l e. absurd (omega (arith, bytes-is nodes (allStates (readRecord rec .task)), record-fits rec nodes budget plan table e));
           })
