@@ -12,6 +12,7 @@ ghost use mathlib.Core.Path.{_≡_};
 ghost use Prim.Native.Nat.{_+_, _*_, _<_, _≤_, _^_};
 ghost use lib.ListN.{length};
 ghost use Rattle.fields.specs.Fields.{nextField};
+ghost use Rattle.parts.specs.Elsewhere.{Elsewhere};
 ghost use Rattle.parts.specs.Grammar.{pairOf, pairsFrom, countedPairs, effectPairs, costsOf, actionOf, actionsFrom};
 ghost use Rattle.parts.specs.Told.{placeTold, placeOf};
 ghost use Rattle.lists.specs.Told.{pairTold, costsTold};
@@ -55,8 +56,8 @@ pub fn read_pair(rec: &[u8], sizes: &[u8], n: usize, low: usize, at: usize) -> P
     PairRead::Is(v as u8, x as u8, at2)
 }
 
-// `count` pairs from bit `at` on, each value into `pairs` at `base` plus its variable. Where it refuses, the words of `pairs` are left to the program; its length
-// stays.
+// `count` pairs from bit `at` on, each value into `pairs` at `base` plus its variable. Where it refuses, the entries of this list, `n` from `base` on, are left
+// to the program; all others stay as they were, and the length stays.
 pub fn read_pairs(
     rec: &[u8],
     sizes: &[u8],
@@ -70,7 +71,7 @@ pub fn read_pairs(
     ensures told { λ r. ⌜ pairsFrom (nextField (now (rec .entry))) (now (sizes .entry)) n base count (now (pairs .entry)) at
         ≡ placeTold (now (pairs .exit)) r ⌝ }
     ensures near { λ r. ⌜ placeOf r ≤ at + 9 * count ⌝ }
-    ensures room { λ _. ⌜ length (now (pairs .exit)) ≡ length (now (pairs .entry)) ⌝ }
+    ensures elsewhere { λ _. ⌜ Elsewhere base n (now (pairs .entry)) (now (pairs .exit)) ⌝ }
 {
     let mut k = at;
     let mut low = 0;
@@ -91,8 +92,8 @@ pub fn read_pairs(
     Place::At(k)
 }
 
-// A list of pairs with its number in front: the goal's, or an action's conditions. Where it refuses, the words of `pairs` are left to the program; its length
-// stays.
+// A list of pairs with its number in front: the goal's, or an action's conditions. Where it refuses, the entries of this list are left to the program; all
+// others stay as they were, and the length stays.
 pub fn read_list(
     rec: &[u8],
     sizes: &[u8],
@@ -105,7 +106,7 @@ pub fn read_list(
     ensures told { λ r. ⌜ countedPairs (nextField (now (rec .entry))) (now (sizes .entry)) n base (now (pairs .entry)) at
         ≡ placeTold (now (pairs .exit)) r ⌝ }
     ensures near { λ r. ⌜ placeOf r ≤ at + 573 ⌝ }
-    ensures room { λ _. ⌜ length (now (pairs .exit)) ≡ length (now (pairs .entry)) ⌝ }
+    ensures elsewhere { λ _. ⌜ Elsewhere base n (now (pairs .entry)) (now (pairs .exit)) ⌝ }
 {
     let f = field(rec, at, PAIRS);
     let FieldRead::Bits(count, at1) = f else {
@@ -114,7 +115,8 @@ pub fn read_list(
     read_pairs(rec, sizes, n, base, count as usize, at1, pairs)
 }
 
-// An action's effects: a list of pairs, and not an empty one. Where it refuses, the words of `pairs` are left to the program; its length stays.
+// An action's effects: a list of pairs, and not an empty one. Where it refuses, the entries of this list are left to the program; all others stay as they
+// were, and the length stays.
 pub fn read_effects(
     rec: &[u8],
     sizes: &[u8],
@@ -127,7 +129,7 @@ pub fn read_effects(
     ensures told { λ r. ⌜ effectPairs (nextField (now (rec .entry))) (now (sizes .entry)) n base (now (pairs .entry)) at
         ≡ placeTold (now (pairs .exit)) r ⌝ }
     ensures near { λ r. ⌜ placeOf r ≤ at + 573 ⌝ }
-    ensures room { λ _. ⌜ length (now (pairs .exit)) ≡ length (now (pairs .entry)) ⌝ }
+    ensures elsewhere { λ _. ⌜ Elsewhere base n (now (pairs .entry)) (now (pairs .exit)) ⌝ }
 {
     let f = field(rec, at, PAIRS);
     let FieldRead::Bits(count, at1) = f else {
@@ -155,7 +157,8 @@ pub fn read_costs(rec: &[u8], at: usize) -> CostsRead
     CostsRead::Are(handling, distance, at2)
 }
 
-// Action i at bit `at`, into the four slices. Where it refuses, their words are left to the program; their lengths stay.
+// Action i at bit `at`, into the four slices. Where it refuses, the entries of this action are left to the program; all others stay as they were, and the
+// lengths stay.
 pub fn read_action(
     rec: &[u8],
     sizes: &[u8],
@@ -173,8 +176,8 @@ pub fn read_action(
         (record { handling = now (handling .entry); distance = now (distance .entry); conditions = now (conditions .entry); effects = now (effects .entry) }) at
         ≡ placeTold (record { handling = now (handling .exit); distance = now (distance .exit); conditions = now (conditions .exit); effects = now (effects .exit) }) r ⌝ }
     ensures near { λ r. ⌜ placeOf r ≤ at + 1168 ⌝ }
-    ensures room { λ _. ⌜ (length (now (handling .exit)) ≡ length (now (handling .entry))) × (length (now (distance .exit)) ≡ length (now (distance .entry)))
-        × (length (now (conditions .exit)) ≡ length (now (conditions .entry))) × (length (now (effects .exit)) ≡ length (now (effects .entry))) ⌝ }
+    ensures elsewhere { λ _. ⌜ Elsewhere i 1 (now (handling .entry)) (now (handling .exit)) × Elsewhere i 1 (now (distance .entry)) (now (distance .exit))
+        × Elsewhere (i * 32) n (now (conditions .entry)) (now (conditions .exit)) × Elsewhere (i * 32) n (now (effects .entry)) (now (effects .exit)) ⌝ }
 {
     let c = read_costs(rec, at);
     let CostsRead::Are(h, d, at1) = c else {
@@ -189,7 +192,8 @@ pub fn read_action(
     }
 }
 
-// `count` actions from bit `at` on, into the four slices. Where it refuses, their words are left to the program; their lengths stay.
+// `count` actions from bit `at` on, into the four slices. Where it refuses, the entries of these actions are left to the program; all others stay as they
+// were, and the lengths stay.
 pub fn read_actions(
     rec: &[u8],
     sizes: &[u8],
@@ -207,8 +211,10 @@ pub fn read_actions(
         (record { handling = now (handling .entry); distance = now (distance .entry); conditions = now (conditions .entry); effects = now (effects .entry) }) at
         ≡ placeTold (record { handling = now (handling .exit); distance = now (distance .exit); conditions = now (conditions .exit); effects = now (effects .exit) }) r ⌝ }
     ensures near { λ r. ⌜ placeOf r ≤ at + 1168 * count ⌝ }
-    ensures room { λ _. ⌜ (length (now (handling .exit)) ≡ length (now (handling .entry))) × (length (now (distance .exit)) ≡ length (now (distance .entry)))
-        × (length (now (conditions .exit)) ≡ length (now (conditions .entry))) × (length (now (effects .exit)) ≡ length (now (effects .entry))) ⌝ }
+    ensures elsewhere { λ _. ⌜ Elsewhere 0 count (now (handling .entry)) (now (handling .exit))
+        × Elsewhere 0 count (now (distance .entry)) (now (distance .exit))
+        × Elsewhere 0 (count * 32) (now (conditions .entry)) (now (conditions .exit))
+        × Elsewhere 0 (count * 32) (now (effects .entry)) (now (effects .exit)) ⌝ }
 {
     let mut k = at;
     for i in 0..count {

@@ -12,6 +12,7 @@ ghost use mathlib.Core.Path.{_≡_};
 ghost use Prim.Native.Nat.{_+_, _*_, _<_, _≤_, _^_};
 ghost use lib.ListN.{length};
 ghost use Rattle.fields.specs.Fields.{nextField};
+ghost use Rattle.parts.specs.Elsewhere.{Elsewhere};
 ghost use Rattle.parts.specs.Grammar.{headOf, variableOf, variablesFrom};
 ghost use Rattle.parts.specs.Told.{headTold, variableTold, placeTold, placeOf};
 
@@ -85,7 +86,8 @@ pub fn read_variable(rec: &[u8], leaves: u8, at: usize) -> VariableRead
     VariableRead::Is((less + 1) as u8, factor as u8, initial as u8, at3)
 }
 
-// `n` variables from bit `at` on, into the three slices. Where it refuses, their words are left to the program; their lengths stay.
+// `n` variables from bit `at` on, into the three slices. Where it refuses, the entries of these variables are left to the program; all others stay as they
+// were, and the lengths stay.
 pub fn read_variables(
     rec: &[u8],
     leaves: u8,
@@ -100,7 +102,8 @@ pub fn read_variables(
         (record { sizes = now (sizes .entry); factors = now (factors .entry); initial = now (initial .entry) }) at
         ≡ placeTold (record { sizes = now (sizes .exit); factors = now (factors .exit); initial = now (initial .exit) }) r ⌝ }
     ensures near { λ r. ⌜ placeOf r ≤ at + 12 * n ⌝ }
-    ensures room { λ _. ⌜ (length (now (sizes .exit)) ≡ length (now (sizes .entry))) × (length (now (factors .exit)) ≡ length (now (factors .entry))) × (length (now (initial .exit)) ≡ length (now (initial .entry))) ⌝ }
+    ensures elsewhere { λ _. ⌜ Elsewhere 0 n (now (sizes .entry)) (now (sizes .exit)) × Elsewhere 0 n (now (factors .entry)) (now (factors .exit))
+        × Elsewhere 0 n (now (initial .entry)) (now (initial .exit)) ⌝ }
 {
     let mut k = at;
     for i in 0..n {

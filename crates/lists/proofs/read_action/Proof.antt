@@ -1,13 +1,15 @@
 -- `lists::read_action` meets its contract: each return is the grammar's answer, by the parts read before it. Assumes nothing.
 use Prim.Native.Nat.{ℕ, _+_, _*_, _≤_}
-use mathlib.Core.Path.{_≡_, refl, ap, _∙_}
+use mathlib.Core.Path.{_≡_, ap, _∙_}
 use mathlib.Core.List.{List}
 use borrow.Author.Needs.{needs}
 use native.Mathlib.Omega.{arith}
-use lib.ListN.{length-set}
+use lib.ListN.{set}
 use denote.Ref.{now}
 use Rattle.loops.specs.Parsed.{got}
 use Rattle.fields.specs.Fields.{nextField}
+use Rattle.parts.specs.Elsewhere.{Elsewhere}
+use Rattle.parts.specs.Elsewhere.Laws.{elsewhere-none, elsewhere-set}
 use Rattle.parts.specs.Grammar.{Costs, Actions, putAction, costsOf, countedPairs, actionOf}
 use Rattle.parts.specs.Places.{costs-place, told-then}
 use Rattle.parts.specs.Told.{placeTold, placeOf}
@@ -54,6 +56,10 @@ at1 c = costs-place _ _ (read1 c)
 at2 : (c : tie.After-known-told3) → c .before .p2 .given .0 .0 ≤ start (priced (listed c)) .args .at + 595
 at2 c = omega (arith, at1 (priced (listed c)), listed c .read-list .ensures .1, ap placeOf (c .before .p2 .given .1))
 
+-- of handling and distance only entry i is set
+one : (xs : List ℕ) (i x : ℕ) → Elsewhere i 1 xs (set xs i x)
+one xs i x = elsewhere-set xs i x (omega arith) (omega arith)
+
 read-costs-requires : tie.Need-read-costs-requires
 read-costs-requires c κs = search needs
 
@@ -65,7 +71,7 @@ enum-told c = search needs
 
 returns : tie.Need-returns
 unfolding actionOf
-returns c = (simp (c .before .before .read-costs .ensures ∙ ap costsTold (c .enum-told .given .1)), (omega arith, (refl, refl, refl, refl)))
+returns c = (simp (c .before .before .read-costs .ensures ∙ ap costsTold (c .enum-told .given .1)), (omega arith, (elsewhere-none, elsewhere-none, elsewhere-none, elsewhere-none)))
 
 mul-handling : tie.Need-mul-handling
 mul-handling c = search needs
@@ -111,7 +117,7 @@ unfolding actionOf
 returns-2 c =
     let r = c .before .before .before .before .before in
     let none = r .read-list .ensures .0 ∙ ap (placeTold (conditions r)) (c .before .p .given .1) in
-    (simp (read1 (priced r), none), (omega arith, (simp length-set, simp length-set, r .read-list .ensures .1 .1, refl)))
+    (simp (read1 (priced r), none), (omega arith, (one _ _ _, one _ _ _, r .read-list .ensures .1 .1, elsewhere-none)))
 
 same-length-4 : tie.Need-same-length-4
 same-length-4 c = search needs
@@ -137,7 +143,7 @@ returns-3 c =
       simp (read1 (priced l), read2 d, r .read-effects .ensures .0) (told-then put (r .read-effects .last .1 .1 .1 .1 .1 .0) (r .read-effects .result)),
       (
         omega (arith, at2 d, r .read-effects .ensures .1),
-        (simp length-set, simp length-set, l .read-list .ensures .1 .1, r .read-effects .ensures .1 .1),
+        (one _ _ _, one _ _ _, l .read-list .ensures .1 .1, r .read-effects .ensures .1 .1),
       ),
     )
 

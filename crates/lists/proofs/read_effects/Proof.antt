@@ -1,6 +1,6 @@
 -- `lists::read_effects` meets its contract: the number of pairs is read and is not 0, and then the pairs, as the grammar says. Assumes
 -- nothing.
-use mathlib.Core.Path.{_≡_, refl, ap, _∙_}
+use mathlib.Core.Path.{_≡_, ap, _∙_}
 use borrow.Author.Needs.{needs}
 use borrow.Author.Tests.{eq-eqb, ne-eqb}
 use native.Mathlib.Omega.{arith}
@@ -9,6 +9,7 @@ use Rattle.loops.specs.Parsed.{got}
 use Rattle.fields.specs.Fields.{nextField, PAIRS}
 use Rattle.fields.specs.Fields.Laws.{next-is}
 use Rattle.fields.specs.Answers.{fieldTold}
+use Rattle.parts.specs.Elsewhere.Laws.{elsewhere-none}
 use Rattle.parts.specs.Grammar.{effectPairs}
 use Rattle.lists.proofs.read_effects.Statement.{statement}
 use Rattle.lists.proofs.read_effects.Tie as tie
@@ -32,11 +33,11 @@ enum-told c = search needs
 
 returns : tie.Need-returns
 unfolding effectPairs
-returns c = (simp (c .before .before .field .ensures ∙ ap fieldTold (c .enum-told .given .1)), (omega arith, refl))
+returns c = (simp (c .before .before .field .ensures ∙ ap fieldTold (c .enum-told .given .1)), (omega arith, elsewhere-none))
 
 returns-2 : tie.Need-returns-2
 unfolding effectPairs
-returns-2 c = (simp (read1 (c .before), eq-eqb _ _ (c .if1 .taken)), (omega arith, refl))
+returns-2 c = (simp (read1 (c .before), eq-eqb _ _ (c .if1 .taken)), (omega arith, elsewhere-none))
 
 cast-read-pairs : tie.Need-cast-read-pairs
 cast-read-pairs c = search needs

@@ -1,5 +1,5 @@
 -- `lists::read_list` meets its contract: the number of pairs is read, and then the pairs, as the grammar says. Assumes nothing.
-use mathlib.Core.Path.{_≡_, refl, ap, _∙_}
+use mathlib.Core.Path.{_≡_, ap, _∙_}
 use borrow.Author.Needs.{needs}
 use native.Mathlib.Omega.{arith}
 use denote.Ref.{now}
@@ -7,6 +7,7 @@ use Rattle.loops.specs.Parsed.{got}
 use Rattle.fields.specs.Fields.{nextField, PAIRS}
 use Rattle.fields.specs.Fields.Laws.{next-is}
 use Rattle.fields.specs.Answers.{fieldTold}
+use Rattle.parts.specs.Elsewhere.Laws.{elsewhere-none}
 use Rattle.parts.specs.Grammar.{countedPairs}
 use Rattle.lists.proofs.read_list.Statement.{statement}
 use Rattle.lists.proofs.read_list.Tie as tie
@@ -30,7 +31,7 @@ enum-told c = search needs
 
 returns : tie.Need-returns
 unfolding countedPairs
-returns c = (simp (c .before .before .field .ensures ∙ ap fieldTold (c .enum-told .given .1)), (omega arith, refl))
+returns c = (simp (c .before .before .field .ensures ∙ ap fieldTold (c .enum-told .given .1)), (omega arith, elsewhere-none))
 
 cast-read-pairs : tie.Need-cast-read-pairs
 cast-read-pairs c = search needs

@@ -1,16 +1,18 @@
--- `lists::read_pairs` meets its contract. The loop's invariant: what is left to read, from here, gives what the whole list gives. Assumes nothing.
+-- `lists::read_pairs` meets its contract. The loop's invariant: what is left to read, from here, gives what the whole list gives, and outside the list's
+-- entries the slice is as it was. Assumes nothing.
 use Prim.Native.Nat.{ℕ, _+_, _-_, _*_, _≤_}
-use mathlib.Core.Path.{_≡_, refl, sym, ap, _∙_}
+use mathlib.Core.Path.{_≡_, sym, ap, _∙_}
 use mathlib.Core.List.{List}
 use borrow.Author.Needs.{needs}
 use native.Mathlib.Omega.{arith}
 use native.Mathlib.Nat.{sub-zero}
-use lib.ListN.{length, length-set}
 use denote.Ref.{now}
 use Rattle.loops.specs.Parsed.{turns, got}
 use Rattle.loops.specs.Parsed.Laws.{turns-end, turns-on, turns-stop}
 use Rattle.fields.specs.Fields.{nextField}
 use Rattle.fields.specs.Answers.{Reading}
+use Rattle.parts.specs.Elsewhere.{Elsewhere}
+use Rattle.parts.specs.Elsewhere.Laws.{elsewhere-none, elsewhere-set, elsewhere-then}
 use Rattle.parts.specs.Grammar.{Pairs, pairOf, pairTurn, pairsFrom}
 use Rattle.parts.specs.Places.{pair-place}
 use Rattle.lists.specs.Told.{pairTold}
@@ -23,7 +25,7 @@ rest rec sizes n base left i pairs low k = turns (pairTurn (nextField rec) sizes
 
 abbrev Inv-loop : tie.InvT-loop
 Inv-loop rec sizes n base count at pairs₀ k₀ low₀ i₀ pairs k low i =
-    (i ≤ count) × (k ≤ at + 9 * i) × (length pairs ≡ length pairs₀)
+    (i ≤ count) × (k ≤ at + 9 * i) × Elsewhere base n pairs₀ pairs
     × (rest rec sizes n base (count - i) i pairs low k ≡ rest rec sizes n base count 0 pairs₀ 0 at)
 
 abbrev μ-loop : tie.MeasureT-loop
@@ -43,7 +45,7 @@ read : (c : tie.After-known-told2 Inv-loop μ-loop) → let r = c .before .befor
 read c = c .before .before .before .read-pair .ensures ∙ ap pairTold (c .before .p2 .given .1)
 
 loop-holds : tie.Need-loop-holds Inv-loop μ-loop
-loop-holds c = (omega arith, omega arith, refl, rw sub-zero)
+loop-holds c = (omega arith, omega arith, elsewhere-none, rw sub-zero)
 
 read-pair-requires : tie.Need-read-pair-requires Inv-loop μ-loop
 read-pair-requires c κs = search needs
@@ -52,7 +54,7 @@ enum-known-p : tie.Need-enum-known-p Inv-loop μ-loop
 enum-known-p c = search needs
 
 same-length : tie.Need-same-length Inv-loop μ-loop
-same-length c = head (c .before .before .before) .loop .inv .2
+same-length c = omega arith
 
 returns : tie.Need-returns Inv-loop μ-loop
 unfolding pairsFrom
@@ -93,13 +95,13 @@ loop-again c =
     let a = start (head r) .args in (
       omega arith,
       omega (arith, pair-place _ _ _ _ _ (read c)),
-      simp length-set (l .inv .2),
+      elsewhere-then (l .inv .2) (elsewhere-set _ _ _ (omega arith) (omega (arith, pair-place _ _ _ _ _ (read c)))),
       sym (turns-on (pairTurn (nextField (now (a .rec))) (now (a .sizes)) (a .n) (a .base)) (a .count) (l .i) (record { low = l .low; into = l .pairs }) (l .k)
           (omega arith) (simp (read c))) ∙ l .inv .3,
     )
 
 same-length-2 : tie.Need-same-length-2 Inv-loop μ-loop
-same-length-2 c = c .before .loop .inv .2
+same-length-2 c = omega arith
 
 returns-2 : tie.Need-returns-2 Inv-loop μ-loop
 unfolding pairsFrom

@@ -1,15 +1,16 @@
--- `parts::read_variables` meets its contract. The loop's invariant: what is left to read, from here, gives what all variables give. Assumes
--- nothing.
+-- `parts::read_variables` meets its contract. The loop's invariant: what is left to read, from here, gives what all variables give, and behind the
+-- variables the slices are as they were. Assumes nothing.
 use Prim.Native.Nat.{_+_, _-_, _*_, _≤_}
 use mathlib.Core.Path.{_≡_, sym, ap, _∙_}
 use borrow.Author.Needs.{needs}
 use native.Mathlib.Omega.{arith}
 use native.Mathlib.Nat.{sub-zero}
-use lib.ListN.{length, length-set}
 use denote.Ref.{now}
 use Rattle.loops.specs.Parsed.{got}
 use Rattle.loops.specs.Parsed.Laws.{turns-end, turns-on, turns-stop}
 use Rattle.fields.specs.Fields.{nextField}
+use Rattle.parts.specs.Elsewhere.{Elsewhere}
+use Rattle.parts.specs.Elsewhere.Laws.{elsewhere-none, elsewhere-set, elsewhere-then}
 use Rattle.parts.specs.Grammar.{Variables, variableOf, variableTurn, variablesFrom}
 use Rattle.parts.specs.Places.{variable-place}
 use Rattle.parts.specs.Told.{variableTold}
@@ -18,7 +19,7 @@ use Rattle.parts.proofs.read_variables.Tie as tie
 
 abbrev Inv-loop : tie.InvT-loop
 Inv-loop rec leaves n at sizes₀ factors₀ initial₀ k₀ i₀ sizes factors initial k i =
-    (i ≤ n) × (k ≤ at + 12 * i) × (length sizes ≡ 32) × (length factors ≡ 32) × (length initial ≡ 32)
+    (i ≤ n) × (k ≤ at + 12 * i) × Elsewhere 0 n sizes₀ sizes × Elsewhere 0 n factors₀ factors × Elsewhere 0 n initial₀ initial
     × (variablesFrom (nextField rec) leaves (n - i) i (record { sizes = sizes; factors = factors; initial = initial }) k
     ≡ variablesFrom (nextField rec) leaves n 0 (record { sizes = sizes₀; factors = factors₀; initial = initial₀ }) at)
 
@@ -43,7 +44,7 @@ read : (c : tie.After-known-told2 Inv-loop μ-loop) → let r = c .before .befor
 read c = c .before .before .before .read-variable .ensures ∙ ap variableTold (c .before .v2 .given .1)
 
 loop-holds : tie.Need-loop-holds Inv-loop μ-loop
-loop-holds c = (omega arith, omega arith, omega arith, omega arith, omega arith, rw sub-zero)
+loop-holds c = (omega arith, omega arith, elsewhere-none, elsewhere-none, elsewhere-none, rw sub-zero)
 
 read-variable-requires : tie.Need-read-variable-requires Inv-loop μ-loop
 read-variable-requires c κs = search needs
@@ -67,7 +68,7 @@ returns c =
     let a = start (head r) .args in
     let none = r .read-variable .ensures ∙ ap variableTold (c .before .v .given .1) in (
       sym (l .inv .5) ∙ turns-stop (variableTurn (nextField (now (a .rec))) (a .leaves)) (a .n) (l .i) (soFar (head r)) (l .k) {r = c .before .v .given .0 .0} (omega arith) (simp none),
-      (omega arith, (omega arith, omega arith, omega arith)),
+      (omega arith, (l .inv .2, l .inv .3, l .inv .4)),
     )
 
 enum-known-v-2 : tie.Need-enum-known-v-2 Inv-loop μ-loop
@@ -95,9 +96,9 @@ loop-again c =
     let a = start (head r) .args in (
       omega arith,
       omega (arith, variable-place _ _ _ (read c)),
-      simp length-set (l .inv .2),
-      simp length-set (l .inv .3),
-      simp length-set (l .inv .4),
+      elsewhere-then (l .inv .2) (elsewhere-set _ _ _ (omega arith) (omega arith)),
+      elsewhere-then (l .inv .3) (elsewhere-set _ _ _ (omega arith) (omega arith)),
+      elsewhere-then (l .inv .4) (elsewhere-set _ _ _ (omega arith) (omega arith)),
       sym (turns-on (variableTurn (nextField (now (a .rec))) (a .leaves)) (a .n) (l .i) (soFar (head r)) (l .k) (omega arith) (simp (read c))) ∙ l .inv .5,
     )
 
@@ -115,7 +116,7 @@ returns-2 c =
     let l = c .before .loop in
     let a = start (c .before) .args in (
       sym (l .inv .5) ∙ turns-end (variableTurn (nextField (now (a .rec))) (a .leaves)) (a .n) (l .i) (soFar (c .before)) (l .k) (c .loop-test .left),
-      (omega arith, (omega arith, omega arith, omega arith)),
+      (omega arith, (l .inv .2, l .inv .3, l .inv .4)),
     )
 
 pub read-variables-spec : {M : Type 1} → statement M
