@@ -60,11 +60,12 @@ fn list_all(states: usize, prices: &[u64], list: &mut [u16]) -> usize
 }
 
 // Lists the states that the prices reach where there are 128 or more, by rising number, and answers how many are listed. Fewer are told apart by the
-// signature: then none is listed, and `list` stays as it is. The words of `list` behind those listed are left to the program.
+// signature: then none is listed, and `list` stays as it is. The words of `list` behind those listed are left to the program; its length stays.
 pub fn list_reached(states: usize, prices: &[u64], list: &mut [u16]) -> usize
     requires { ⌜ (1024 ≤ length (now list)) × (states ≤ 1024) × (states ≤ length (now prices)) ⌝ }
-    ensures { λ r. ⌜ (r ≤ 1024) × (128 ≤ states → ReachesIn states (now (prices .entry)) (now (list .exit)) r)
+    ensures listed { λ r. ⌜ (r ≤ 1024) × (128 ≤ states → ReachesIn states (now (prices .entry)) (now (list .exit)) r)
         × (states < 128 → r ≡ 0) × (states < 128 → now (list .exit) ≡ now (list .entry)) ⌝ }
+    ensures lengths { λ _. ⌜ length (now (list .exit)) ≡ length (now (list .entry)) ⌝ }
 {
     if states >= 128 {
         return list_all(states, prices, list);

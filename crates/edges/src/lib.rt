@@ -135,8 +135,9 @@ pub fn fill_edges(
 )
     requires { ⌜ Sound (boardOf leaves actions (now bases) (now moves) (now costs) (now kinds) factors (now conditions))
         × (getD (now bases) leaves 0 * actions ≤ length (now edges)) × (getD (now bases) leaves 0 < length (now ends)) ⌝ }
-    ensures { λ _. ⌜ Edges (boardOf leaves actions (now (bases .entry)) (now (moves .entry)) (now (costs .entry)) (now (kinds .entry))
+    ensures filled { λ _. ⌜ Edges (boardOf leaves actions (now (bases .entry)) (now (moves .entry)) (now (costs .entry)) (now (kinds .entry))
         factors (now (conditions .entry))) (now (edges .exit)) (now (ends .exit)) ⌝ }
+    ensures lengths { λ _. ⌜ (length (now (edges .exit)) ≡ length (now (edges .entry))) × (length (now (ends .exit)) ≡ length (now (ends .entry))) ⌝ }
 {
     ends[0] = 0;
     for i in 0..leaves {

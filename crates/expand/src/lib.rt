@@ -368,6 +368,8 @@ pub fn expand(
         (now (table .exit)) (now (scan .exit)) r ⌝ }
     ensures known { λ _. ⌜ Known (boardOf leaves actions (now (bases .entry)) (now (moves .entry)) (now (costs .entry)) (now (kinds .entry)) factors
         (now (conditions .entry))) (now (known .exit)) ⌝ }
+    ensures lengths { λ _. ⌜ (length (now (mets .exit)) ≡ length (now (mets .entry))) × (length (now (old .exit)) ≡ length (now (old .entry))) × (length (now (next .exit)) ≡ length (now (next .entry)))
+        × (length (now (list .exit)) ≡ length (now (list .entry))) × (length (now (room .exit)) ≡ length (now (room .entry))) ⌝ }
 {
     let states = bases[leaves];
     let wide = 40 + states;

@@ -263,8 +263,9 @@ pub fn explore(
         (now edges) (now ends) ⌝ }
     requires { ⌜ (1 ≤ nodes) × (nodes ≤ 4096) × ((nodes + 1) * (40 + allStates task) ≤ length (now table)) × (length (now scan) ≡ 17696)
         × ((h : ℕ) → h < 1025 → getD (now scan) (6144 + h) 0 ≡ 0) ⌝ }
-    ensures { λ r. ⌜ (stoppedOf (allStates task) (now (table .exit)) (now (scan .exit)) r ≡ explored task nodes budget)
+    ensures searched { λ r. ⌜ (stoppedOf (allStates task) (now (table .exit)) (now (scan .exit)) r ≡ explored task nodes budget)
         × Cached task (allStates task) (now (table .exit)) (now (scan .exit)) (r .run) ⌝ }
+    ensures lengths { λ _. ⌜ (length (now (table .exit)) ≡ length (now (table .entry))) × (length (now (scan .exit)) ≡ length (now (scan .entry))) ⌝ }
 {
     let leaves = task.leaves as usize;
     let actions = task.actions as usize;

@@ -157,7 +157,7 @@ pub fn slot_for(
 }
 
 // The actions whose centre conditions hold in a centre state of this class, by rising number, at the front of `list`: how many. Behind them `list` stays as
-// it is. The words of `known` afterwards are left to the program: what each slot holds is right (`Known`).
+// it is, and its length stays. The words of `known` afterwards are left to the program: what each slot holds is right (`Known`).
 pub fn list_mets(
     actions: usize,
     firsts: &[u8],
@@ -170,9 +170,10 @@ pub fn list_mets(
 ) -> usize
     requires { ⌜ (actions ≤ 255) × (length (now conditions) ≡ 8192) × Firsts (asksOf actions factors (now conditions)) (now firsts)
         × (class < 4096) × (length (now list) ≡ 256) × Known (asksOf actions factors (now conditions)) (now known) ⌝ }
-    ensures { λ r. ⌜ Known (asksOf actions factors (now (conditions .entry))) (now (known .exit)) × (r ≤ 256)
+    ensures listed { λ r. ⌜ Known (asksOf actions factors (now (conditions .entry))) (now (known .exit)) × (r ≤ 256)
         × Listed (metOn (asksOf actions factors (now (conditions .entry))) centre) actions r (λ j. getD (now (list .exit)) j 0)
         × ((k : ℕ) → r ≤ k → getD (now (list .exit)) k 0 ≡ getD (now (list .entry)) k 0) ⌝ }
+    ensures lengths { λ _. ⌜ length (now (list .exit)) ≡ length (now (list .entry)) ⌝ }
 {
     let at = slot_for(actions, firsts, factors, conditions, centre, class, known);
     let count = known[at + 289] as usize;

@@ -269,6 +269,7 @@ pub fn offer(
         (now (table .exit)) (now (scan .exit)) r ⌝ }
     ensures known { λ _. ⌜ Known (boardOf leaves actions (now (bases .entry)) (now (moves .entry)) (now (costs .entry)) (now (kinds .entry)) factors
         (now (conditions .entry))) (now (known .exit)) ⌝ }
+    ensures lengths { λ _. ⌜ (length (now (begin .exit)) ≡ length (now (begin .entry))) × (length (now (room .exit)) ≡ length (now (room .entry))) ⌝ }
 {
     let states = bases[leaves];
     let count = run.count;

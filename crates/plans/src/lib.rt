@@ -504,9 +504,10 @@ pub fn walk_back(
     requires { ⌜ (node < count) × (count ≤ 4096) × (count * (40 + allStates task) ≤ length (now table)) × (total ≤ length (now plan))
         × Roomy (task .leaves) (task .actions) (now bases) (length (now tight))
         × Edges (boardOf (task .leaves) (task .actions) (now bases) (now moves) (now costs) (now kinds) (task .factors) (task .conditions)) (now edges) (now stops) ⌝ }
-    ensures { λ r. ⌜ (r ≡ length (planBack task (heldIn (allStates task) (now (table .entry)) count) node node (λ i. getD ends i 0)))
+    ensures walked { λ r. ⌜ (r ≡ length (planBack task (heldIn (allStates task) (now (table .entry)) count) node node (λ i. getD ends i 0)))
         × (now (plan .exit) ≡ laid total 0 (planBack task (heldIn (allStates task) (now (table .entry)) count) node node (λ i. getD ends i 0)) (now (plan .entry)))
         × (r ≤ (node + 1) * (allStates task + 1)) ⌝ }
+    ensures lengths { λ _. ⌜ length (now (tight .exit)) ≡ length (now (tight .entry)) ⌝ }
 {
     let leaves = task.leaves as usize;
     let actions = task.actions as usize;

@@ -405,8 +405,9 @@ pub fn leaf_back(
         × (total ≤ length (now plan)) × (place + 256 ≤ mark) ⌝ }
     requires { ⌜ Covers (now edges) (now ends) (now moves) row at (now acts) count (length (now prices))
         × Spread (now edges) (now ends) at (length (now prices)) (length (now tight)) ⌝ }
-    ensures { λ r. ⌜ Walked (tableBack (now (moves .entry)) row at (now (costs .entry)) (now (acts .entry)) count (now (begins .entry))
+    ensures walked { λ r. ⌜ Walked (tableBack (now (moves .entry)) row at (now (costs .entry)) (now (acts .entry)) count (now (begins .entry))
         (now (prices .entry)) state) total place (now (plan .entry)) r (now (plan .exit)) ⌝ }
+    ensures lengths { λ _. ⌜ length (now (tight .exit)) ≡ length (now (tight .entry)) ⌝ }
 {
     if count == 0 {
         return Ended { state, place };

@@ -56,7 +56,9 @@ same-length-2 : tie.Need-same-length-2 Inv-loop μ-loop
 same-length-2 c = c .before .loop .inv .2 ∙ simp length-set
 
 returns : tie.Need-returns Inv-loop μ-loop
-returns c = rw (le-antisymm (c .before .loop .inv .0) (c .loop-test .left)) at (c .before .loop .inv .3)
+returns c =
+    let inv = c .before .loop .inv in
+    (rw (le-antisymm (inv .0) (c .loop-test .left)) at (inv .3), (inv .1, inv .2 ∙ simp length-set))
 
 pub fill-edges-spec : {M : Type 1} → statement M
 fill-edges-spec =

@@ -126,8 +126,8 @@ list-reached-requires c κs =
 reached-in : (c : tie.After-list-reached) → c .list-reached .result ≤ length (c .list-reached .last .1 .1 .0)
 reached-in c =
     let s = c .before .before .before .before .before .before .before .before .before .before .before .before .before .before .before .before .before .before .before .before .before .before .before .before .before .before .before .before .before .before .before .before .before .before .before .before .before .before .before .before .before .before .before .before .before .before in
-    let kept : length (c .list-reached .last .1 .1 .0) ≡ length (now (s .args .list)) = c .list-reached .kept .1 .1 .0 in
-    omega (arith, s .pre .1 .1 .1 .1 .2, c .list-reached .ensures .0)
+    let kept : length (c .list-reached .last .1 .1 .0) ≡ length (now (s .args .list)) = c .list-reached .ensures .1 in
+    omega (arith, s .pre .1 .1 .1 .1 .2, c .list-reached .ensures .0 .0)
 
 slice-reshare-prefix-turns : tie.Need-slice-reshare-prefix-turns
 slice-reshare-prefix-turns c = listed-in (c .before .before .before .before .before .before .before .before .before)
@@ -164,7 +164,7 @@ turns-requires c κs =
             long,
             s .pre .1 .1 .1 .1 .1,
             s .pre .1 .1 .0 .2,
-            λ l. reaches-front (rowOn (board s)) (w .last .1 .0) (g .list-reached .last .1 .1 .0) (g .list-reached .result) (reached-in g) (g .list-reached .ensures .1 l),
+            λ l. reaches-front (rowOn (board s)) (w .last .1 .0) (g .list-reached .last .1 .1 .0) (g .list-reached .result) (reached-in g) (g .list-reached .ensures .0 .1 l),
             s .pre .1 .1 .1 .1 .3,
           ),
           ((sign, has), s .pre .1 .1 .1 .0),
@@ -197,7 +197,7 @@ same-length-8 : tie.Need-same-length-8
 same-length-8 c = c .before .before .before .before .before .before .before .before .before .before .turns .kept .1 .1 .1 .1 .1 .1 .1 .1 .1 .1 .1 .1 .1 .1 .1 .1 .1 .1 .1 .1 .1 .1 .1 .1 .1 .1 .1 .1 .1 .0
 
 returns : tie.Need-returns
-returns c = search needs
+returns c = let e = c .before .before .before .before .before .before .before .before .before .before .turns .ensures in (e .0, (e .1 .0, (e .1 .1, (same-length-4 c, same-length-5 c, same-length-6 c, same-length-7 c, same-length-8 c))))
 
 pub expand-spec : {M : Type 1} → statement M
 expand-spec =

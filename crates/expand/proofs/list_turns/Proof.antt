@@ -81,7 +81,7 @@ returns : tie.Need-returns
 returns c =
     let s = c .before .before .before .before .before .before .before .before .before .before .before .before .before .before .before .before .before .before .before .before .before .before .before .before in
     let m = c .before .before .before .before .before .before .list-mets in
-    (asks-known (board s) _ (m .ensures .0), m .ensures .1, useful-all (board s) (now (s .args .effects)) (s .args .spot) (now (s .args .table)) (s .args .u) (now (s .args .old)) (m .result) _ (m .ensures .2))
+    (asks-known (board s) _ (m .ensures .0 .0), m .ensures .0 .1, useful-all (board s) (now (s .args .effects)) (s .args .spot) (now (s .args .table)) (s .args .u) (now (s .args .old)) (m .result) _ (m .ensures .0 .2))
 
 add-wide : tie.Need-add-wide
 add-wide c = search needs
@@ -110,7 +110,7 @@ drop-detours-requires c κs =
     let s = start e in
     let m = e .before .before .before .before .before .before .list-mets in
     let hops = s .pre .1 .0 .2 in
-    (hops .long, s .pre .1 .0 .3 .long, s .pre .0 .costs-long, m .kept .1 .1 .1 .1 .1 .1 .1 .0 ∙ s .pre .1 .1 .0, m .ensures .1, few-word e, e .if1 .left, hops .few)
+    (hops .long, s .pre .1 .0 .3 .long, s .pre .0 .costs-long, m .ensures .1 ∙ s .pre .1 .1 .0, m .ensures .0 .1, few-word e, e .if1 .left, hops .few)
 
 same-length-3 : tie.Need-same-length-3
 same-length-3 c = search needs
@@ -129,11 +129,11 @@ returns-2 c =
     let q = hop e in
     let D : ℕ → Bool = detours (now (a .hops)) (now (a .ways)) (now (a .costs)) (e .before .hop-behind .result) (getD (now (a .costs)) (made-by s) 0) in
     let xs = m .last .1 .1 .1 .1 .1 .1 .1 .0 in
-    let long : m .result ≤ length xs = omega (arith, m .ensures .1, m .kept .1 .1 .1 .1 .1 .1 .1 .0, s .pre .1 .1 .0) in
-    let kept = kept-listed D xs (metOn b (a .spot)) (a .actions) (m .result) long (m .ensures .2) in
+    let long : m .result ≤ length xs = omega (arith, m .ensures .0 .1, m .ensures .1, s .pre .1 .1 .0) in
+    let kept = kept-listed D xs (metOn b (a .spot)) (a .actions) (m .result) long (m .ensures .0 .2) in
     let listed = rw (← d .ensures .0, ← d .ensures .1, ← action-word (rowOn b) (a .u) (now (a .table))) at kept in (
-      asks-known b _ (m .ensures .0),
-      omega (arith, d .ensures .0, kept-few D xs (m .result), m .ensures .1),
+      asks-known b _ (m .ensures .0 .0),
+      omega (arith, d .ensures .0, kept-few D xs (m .result), m .ensures .0 .1),
       useful-dropped b (now (a .effects)) (a .spot) (now (a .table)) (a .u) (now (a .old)) (now (a .hops)) (now (a .ways)) (s .pre .1 .0 .2) (s .pre .1 .0 .3)
           (e .before .hop-behind .result) (e .if1 .left) (q .0) (q .1) (q .2) (q .3) (d .result) _ listed,
     )

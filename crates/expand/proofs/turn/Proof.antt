@@ -161,7 +161,7 @@ returns-4 c =
           (c .before .before .before .before .before .before .before .before .before .before .before .before .before .before .before .before .before .before .before .before .before .before .before .before .before .before .before .before .before .before .if1 .left) true (sym (s .pre .1 .0 .4)) refl
           (g .result) (begunWords (getD (now (a .still)) (a .a) 0) (rowOn (board s)) (now (a .old)) (n .last .1 .1 .1 .1 .1 .1 .1 .1 .1 .1 .1 .1 .1 .1 .0)) (drop (rowOn (board s)) (now (a .next))) (f .result) (p .result)
           (g .ensures) (f .ensures) (n .ensures .0) (p .ensures) (n .result .key) (λ isKey. risen-key (a .leaves) (now (a .bases)) (now (a .old)) _ _ (n .result .key) (p .result) (n .ensures .1) (low isKey)) (o .last .1 .1 .1 .1 .1 .1 .1 .1 .1 .1 .1 .1 .1 .1 .1 .1 .1 .1 .1 .1 .1 .1 .1 .0) (o .last .1 .1 .1 .1 .1 .1 .1 .1 .1 .1 .1 .1 .1 .1 .1 .1 .1 .1 .1 .1 .1 .1 .1 .1 .0) (o .result) (o .ensures .0),
-      o .ensures .1,
+      o .ensures .1 .0,
     )
 
 pub turn-spec : {M : Type 1} → statement M

@@ -256,7 +256,8 @@ returns : tie.Need-returns Inv-loop μ-loop
 returns c =
     let l = c .before .before .before .before .before .before .before .before .before .before .before .before .before .before .before .before .before .before .before .before .before .before .before .before .before .before .before .before .before .before .before .before in
     let s = first l in
-    rw (c .before .round .given .1) at (c .before .before .before .before .before .before .before .before .before .before .before .before .before .next-round .ensures .0 (s .args .t1) (fit s .0) (ahead l))
+    let told = c .before .before .before .before .before .before .before .before .before .before .before .before .before .next-round .ensures .0 (s .args .t1) (fit s .0) (ahead l) in
+    (rw (c .before .round .given .1) at told, (same-length c, same-length-2 c))
 
 enum-known-round-2 : tie.Need-enum-known-round-2 Inv-loop μ-loop
 enum-known-round-2 c = search needs

@@ -148,7 +148,7 @@ returns-3 c =
       (λ t f h. ahead-full t (f .valid) (a .nodes) (s .pre .1 .1 .1 .0 .few-nodes) (a .budget) (allStates t) (now (a .table)) (now (a .scan)) (a .run) h (node r)
           (picked (r .before .before .before .before .before) .0) (long s) (r .before .before .before .if2 .left) (words r) (keyed r)
           (w .result) (w .last .1 .1 .1 .1 .1 .1 .1 .1 .1 .1 .1 .1 .1 .1 .1 .1 .1 .1 .1 .1 .1 .0) (w .last .1 .1 .1 .1 .1 .1 .1 .1 .1 .1 .1 .1 .1 .1 .1 .1 .1 .1 .1 .1 .1 .1 .0) (w .ensures .1 .0 t f) (c .if3 .taken)),
-      w .ensures .1 .1,
+      w .ensures .1 .1 .0,
     )
 
 same-length-11 : tie.Need-same-length-11
@@ -187,7 +187,7 @@ returns-4 c =
             (w .result) (w .last .1 .1 .1 .1 .1 .1 .1 .1 .1 .1 .1 .1 .1 .1 .1 .1 .1 .1 .1 .1 .1 .0) (w .last .1 .1 .1 .1 .1 .1 .1 .1 .1 .1 .1 .1 .1 .1 .1 .1 .1 .1 .1 .1 .1 .1 .0) (w .ensures .1 .0 t f) (c .if3 .left) (w .ensures .0 .2) (rw (row-on t (board s) (f .fits)) at (w .ensures .0 .3)),
         w .ensures .0 .2,
       )),
-      w .ensures .1 .1,
+      w .ensures .1 .1 .0,
     )
 
 pub next-round-spec : {M : Type 1} → statement M

@@ -47,10 +47,13 @@ returns : tie.Need-returns
 returns c =
     let s = c .before .before .before .before .before .before .before .before .before .before .before .before .before .before .before in
     let slot = c .before .before .before .before .before .before .before .before .before .slot-for in (
-      slot .ensures .1,
-      omega (arith, s .pre .0, slot .ensures .2 .listed .few),
-      list-copied _ (s .args .centre) (slot .last .1 .1 .1 .1 .1 .1 .0) _ (c .before .before .store .last .1 .0) (slot .result) _ (slot .ensures .2) refl (c .before .before .store .ensures),
-      λ k l. c .before .before .store .ensures .outside k (inr (omega (arith, l))),
+      (
+        slot .ensures .1,
+        omega (arith, s .pre .0, slot .ensures .2 .listed .few),
+        list-copied _ (s .args .centre) (slot .last .1 .1 .1 .1 .1 .1 .0) _ (c .before .before .store .last .1 .0) (slot .result) _ (slot .ensures .2) refl (c .before .before .store .ensures),
+        λ k l. c .before .before .store .ensures .outside k (inr (omega (arith, l))),
+      ),
+      c .before .before .store .kept .1 .0,
     )
 
 pub list-mets-spec : {M : Type 1} → statement M

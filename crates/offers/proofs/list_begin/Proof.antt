@@ -14,7 +14,7 @@ same-length : tie.Need-same-length
 same-length c = search needs
 
 returns-2 : tie.Need-returns-2
-returns-2 c = let r = c .before .before .list-reached .ensures in (r .0, λ _. r .1)
+returns-2 c = let r = c .before .before .list-reached .ensures .0 in (r .0, λ _. r .1)
 
 pub list-begin-spec : {M : Type 1} → statement M
 list-begin-spec = tie.close (tie.spec returns list-reached-requires same-length returns-2)

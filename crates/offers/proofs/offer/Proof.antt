@@ -1,5 +1,5 @@
 -- `offers::offer` meets its contract: one law for each of its four ends. Assumes nothing.
-use mathlib.Core.Path.{_≡_, sym, ap, _∙_}
+use mathlib.Core.Path.{_≡_, refl, sym, ap, _∙_}
 use mathlib.Core.List.{List}
 use Prim.Native.Nat.{ℕ, _+_, _≤_, _<_}
 use native.Mathlib.Omega.{arith}
@@ -48,7 +48,7 @@ returns c =
       offered-above (board s) (now (a .goals)) (a .goal) (a .nodes) (now (a .table)) (now (a .scan)) (a .run)
           (a .spot) (a .paid) (begun s) (a .parent) (a .action) (s .pre .1 .1 .1 .1 .few-nodes) (s .pre .1 .1 .1 .1 .count-few)
           (a .key) (c .if1 .taken),
-      s .pre .1 .0 .2,
+      (s .pre .1 .0 .2, (refl, refl)),
     )
 
 class-of-requires : tie.Need-class-of-requires
@@ -197,7 +197,7 @@ returns-2 c =
       offered-dominated (board s) (now (a .goals)) (a .goal) (a .nodes) (now (a .table)) (now (a .scan)) (a .run)
           (a .spot) (a .paid) (begun s) (a .parent) (a .action) (s .pre .1 .1 .1 .1 .few-nodes) (s .pre .1 .1 .1 .1 .count-few)
           (a .key) (c .before .before .before .before .before .before .before .before .before .before .before .before .before .before .before .before .before .if1 .left) (ltb 0 (d .dominator .result)) (found-is d) (lt-ltb 0 (d .dominator .result) (c .if2 .taken)),
-      s .pre .1 .0 .2,
+      (s .pre .1 .0 .2, (refl, same-length-4 c)),
     )
 
 same-length-5 : tie.Need-same-length-5
@@ -220,7 +220,7 @@ returns-3 c =
       offered-full (board s) (now (a .goals)) (a .goal) (a .nodes) (now (a .table)) (now (a .scan)) (a .run)
           (a .spot) (a .paid) (begun s) (a .parent) (a .action) (s .pre .1 .1 .1 .1 .few-nodes) (s .pre .1 .1 .1 .1 .count-few)
           (a .key) (c .before .before .before .before .before .before .before .before .before .before .before .before .before .before .before .before .before .before .if1 .left) (ltb 0 (d .dominator .result)) (found-is d) (le-ltb 0 (d .dominator .result) (c .before .if2 .left)) (c .if3 .taken),
-      s .pre .1 .0 .2,
+      (s .pre .1 .0 .2, (refl, same-length-8 c)),
     )
 
 fill-begin-requires : tie.Need-fill-begin-requires
@@ -284,7 +284,7 @@ returns-4 c =
           (a .spot) (a .paid) (begun s) (a .parent) (a .action) (s .pre .1 .1 .1 .1 .few-nodes) (s .pre .1 .1 .1 .1 .count-few)
           (a .key) (c .before .before .before .before .before .before .before .before .before .before .before .before .before .before .before .before .before .before .before .before .before .before .before .before .before .before .before .before .before .before .before .before .before .before .before .before .before .if1 .left) (ltb 0 (d .dominator .result)) (found-is d) (le-ltb 0 (d .dominator .result) (c .before .before .before .before .before .before .before .before .before .before .before .before .before .before .before .before .before .before .before .before .if2 .left)) (c .before .before .before .before .before .before .before .before .before .before .before .before .before .before .before .before .before .before .before .if3 .left)
           (s .pre .1 .1 .1 .1 .scan-long) (n .last .1 .1 .1 .1 .1 .1 .1 .1 .1 .1 .1 .1 .1 .0) (rw (f .ensures) at (n .ensures .0)) (w .last .1 .1 .1 .1 .1 .1 .1 .1 .1 .1 .1 .1 .1 .1 .0) (w .last .1 .1 .1 .1 .1 .1 .1 .1 .1 .1 .1 .1 .1 .1 .1 .0) (w .result) (w .ensures),
-      n .ensures .1,
+      (n .ensures .1, (same-length-9 c, same-length-13 c)),
     )
 
 pub offer-spec : {M : Type 1} → statement M

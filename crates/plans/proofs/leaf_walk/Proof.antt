@@ -194,7 +194,7 @@ returns-2 c =
     let a = s .args in
     walked-here (board s) (a .table .now) (a .i) (a .node) (a .begins .now) _ _ _ (a .state) (front e) (counted e) (lent s)
     (a .total) (a .place) (a .plan .now) _ _
-    (c .before .before .before .before .leaf-back .ensures)
+    (c .before .before .before .before .leaf-back .ensures .0)
 
 pub leaf-walk-spec : {M : Type 1} → statement M
 leaf-walk-spec =

@@ -227,7 +227,7 @@ returns c =
     (along-end (a .task) b (a .starts .now) T (a .count) (grounds s) (a .node) (a .ends) (a .total) (a .plan .now)
     (l .loop .u) (l .loop .states) (l .loop .place) (l .loop .plan) (l .loop .inv .0) (along l)
     _ _ _ (omega (arith, w .before .before .before .before .before .loop-test .left)) (w .layer-back .ensures)) in
-    (many, plan, ended w)
+    ((many, plan, ended w), same-length c)
 
 pub walk-back-spec : {M : Type 1} → statement M
 walk-back-spec =

@@ -175,7 +175,7 @@ walked : (w : tie.After-walk-back) → let s = start (w .before .before .before 
     (w .walk-back .result ≤ most s) × (length (w .walk-back .last .1 .1 .1 .1 .1 .1 .1 .1 .1 .1 .1 .0) ≡ length (s .args .plan .now))
 walked w =
     let s = start (w .before .before .before .before) in
-    (subst (λ (S : ℕ). w .walk-back .result ≤ (s .args .node + 1) * (S + 1)) (sym (row s)) (w .walk-back .ensures .2), w .walk-back .kept .1 .1 .1 .1 .1 .1 .1 .1 .1 .1 .1 .0)
+    (subst (λ (S : ℕ). w .walk-back .result ≤ (s .args .node + 1) * (S + 1)) (sym (row s)) (w .walk-back .ensures .0 .2), w .walk-back .kept .1 .1 .1 .1 .1 .1 .1 .1 .1 .1 .1 .0)
 
 same-length : tie.Need-same-length
 same-length c = search needs
@@ -190,7 +190,7 @@ returns c =
     let e = f .before in
     let s = start e in
     let a = s .args in
-    plan-short (a .task) (held s) (a .node) _ (ends-are e) (f .first-room .result) _ (a .plan .now) _ (w .walk-back .ensures .0) (w .walk-back .ensures .1)
+    plan-short (a .task) (held s) (a .node) _ (ends-are e) (f .first-room .result) _ (a .plan .now) _ (w .walk-back .ensures .0 .0) (w .walk-back .ensures .0 .1)
     (λ h. omega (arith, walked w .0, f .first-room .ensures .0, f .first-room .ensures .1 h)) (walked w .1) (c .if1 .taken)
 
 turn-round-requires : tie.Need-turn-round-requires
@@ -212,9 +212,9 @@ returns-2 c =
     let r = w .walk-back .result in
     let fits : r ≤ f .first-room .result = omega (arith, walked w .0, f .first-room .ensures .1 (c .before .before .before .before .if2 .taken)) in
     let there = laid-once (a .task) (held s) (a .node) (λ i. getD (e .goal-ends .result) i 0) (ends-are e) (f .first-room .result) r (a .plan .now) _
-    (w .walk-back .ensures .0) (w .walk-back .ensures .1) fits (f .first-room .ensures .0) in
+    (w .walk-back .ensures .0 .0) (w .walk-back .ensures .0 .1) fits (f .first-room .ensures .0) in
     plan-turned (a .task) (held s) (a .node) (λ i. getD (e .goal-ends .result) i 0) (ends-are e) r (a .plan .now) _ _
-    (w .walk-back .ensures .0) (omega (arith, fits, f .first-room .ensures .0)) there (c .before .before .turn-round .ensures)
+    (w .walk-back .ensures .0 .0) (omega (arith, fits, f .first-room .ensures .0)) there (c .before .before .turn-round .ensures)
 
 walk-back-requires-2 : tie.Need-walk-back-requires-2
 walk-back-requires-2 c κs =
@@ -246,9 +246,9 @@ returns-3 c =
     let fits = c .before .before .before .before .before .before .before .before .before .before .before .before .if1 .left in
     let none : f .first-room .result ≡ 0 = omega (arith, c .before .before .before .before .before .before .before .before .before .before .before .if2 .left) in
     let there = laid-twice (a .task) (held s) (a .node) (λ i. getD (e .goal-ends .result) i 0) (ends-are e) (f .first-room .result) r (a .plan .now) _ _ none
-    (w .walk-back .ensures .0) (w .walk-back .ensures .1) (c .before .before .before .before .before .before .before .before .walk-back2 .ensures .1) fits in
+    (w .walk-back .ensures .0 .0) (w .walk-back .ensures .0 .1) (c .before .before .before .before .before .before .before .before .walk-back2 .ensures .0 .1) fits in
     plan-turned (a .task) (held s) (a .node) (λ i. getD (e .goal-ends .result) i 0) (ends-are e) r (a .plan .now) _ _
-    (w .walk-back .ensures .0) (omega (arith, fits, walked w .1)) there (c .before .before .turn-round2 .ensures)
+    (w .walk-back .ensures .0 .0) (omega (arith, fits, walked w .1)) there (c .before .before .turn-round2 .ensures)
 
 pub write-with-spec : {M : Type 1} → statement M
 write-with-spec =

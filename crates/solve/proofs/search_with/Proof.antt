@@ -32,9 +32,9 @@ tabled c =
 sound : (c : tie.After-explore) → let s = c .before .before .before .before .before .before .before .before .before .before .before .before .before .before .before .before .before .before .before .before .before .before .before .before .before .before .before .before .before .before .before .before .before in Sound (s .args .task) (c .explore .last .1 .1 .1 .1 .1 .1 .1 .1 .1 .1 .1 .0) (c .explore .result .run)
 sound c =
     let s = c .before .before .before .before .before .before .before .before .before .before .before .before .before .before .before .before .before .before .before .before .before .before .before .before .before .before .before .before .before .before .before .before .before in
-    let kept : length (c .explore .last .1 .1 .1 .1 .1 .1 .1 .1 .1 .1 .1 .0) ≡ length (now (s .args .table)) = c .explore .kept .1 .1 .1 .1 .1 .1 .1 .1 .1 .1 .1 .0 in
-    stop-sound (s .args .task) (s .args .nodes) (s .args .budget) (c .explore .last .1 .1 .1 .1 .1 .1 .1 .1 .1 .1 .1 .0) (c .explore .last .1 .1 .1 .1 .1 .1 .1 .1 .1 .1 .1 .1 .0) (c .explore .result) (c .explore .ensures .0)
-    (s .pre .1 .1) (s .pre .1 .2) (omega (arith, kept, s .pre .1 .3)) (c .explore .ensures .1 .some)
+    let kept : length (c .explore .last .1 .1 .1 .1 .1 .1 .1 .1 .1 .1 .1 .0) ≡ length (now (s .args .table)) = c .explore .ensures .1 .0 in
+    stop-sound (s .args .task) (s .args .nodes) (s .args .budget) (c .explore .last .1 .1 .1 .1 .1 .1 .1 .1 .1 .1 .1 .0) (c .explore .last .1 .1 .1 .1 .1 .1 .1 .1 .1 .1 .1 .1 .0) (c .explore .result) (c .explore .ensures .0 .0)
+    (s .pre .1 .1) (s .pre .1 .2) (omega (arith, kept, s .pre .1 .3)) (c .explore .ensures .0 .1 .some)
 
 fill-moves-requires : tie.Need-fill-moves-requires
 fill-moves-requires c κs = search needs
@@ -139,7 +139,7 @@ returns c =
     let e = c .before .before .before .before .before .before .before .before .before .before .before .before .before .before .before .before in
     let s = c .before .before .before .before .before .before .before .before .before .before .before .before .before .before .before .before .before .before .before .before .before .before .before .before .before .before .before .before .before .before .before .before .before .before .before .before .before .before .before .before .before .before .before .before .before .before .before .before .before in
     c .before .before .answer-of .ensures
-    ∙ stop-is (s .args .task) (s .args .nodes) (s .args .budget) (e .explore .last .1 .1 .1 .1 .1 .1 .1 .1 .1 .1 .1 .0) (e .explore .last .1 .1 .1 .1 .1 .1 .1 .1 .1 .1 .1 .1 .0) (e .explore .result) (e .explore .ensures .0) (now (s .args .plan)) []
+    ∙ stop-is (s .args .task) (s .args .nodes) (s .args .budget) (e .explore .last .1 .1 .1 .1 .1 .1 .1 .1 .1 .1 .1 .0) (e .explore .last .1 .1 .1 .1 .1 .1 .1 .1 .1 .1 .1 .1 .0) (e .explore .result) (e .explore .ensures .0 .0) (now (s .args .plan)) []
 
 pub search-with-spec : {M : Type 1} → statement M
 search-with-spec =

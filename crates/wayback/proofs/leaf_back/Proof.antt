@@ -1,5 +1,6 @@
 -- `wayback::leaf_back` meets its contract. Without an action nothing is walked; else the tight edges of the actions are listed, and their way is the
 -- one meant. Assumes nothing.
+use mathlib.Core.Path.{refl}
 use mathlib.Core.List.{List}
 use Prim.Native.Nat.{ℕ, _≤_, _<_}
 use native.Mathlib.Omega.{arith}
@@ -15,7 +16,7 @@ use Rattle.wayback.proofs.leaf_back.Tie as tie
 returns : tie.Need-returns
 returns c =
     let s = c .before .before .before .before .before .before .before .before .before .before in
-    back-none _ _ _ _ _ _ _ _ _ (s .pre .0 .0) (c .if1 .taken) _ _ _
+    (back-none _ _ _ _ _ _ _ _ _ (s .pre .0 .0) (c .if1 .taken) _ _ _, refl)
 
 index-of-requires : tie.Need-index-of-requires
 index-of-requires c κs =
@@ -114,7 +115,7 @@ same-length-2 c = search needs
 returns-2 : tie.Need-returns-2
 returns-2 c =
     let t = c .before .before .before .before .before .before .before .before .before .before .before .before in
-    c .before .before .before .tight-back .ensures (backed t)
+    (c .before .before .before .tight-back .ensures (backed t), t .tight-edges .kept .1 .1 .1 .1 .1 .1 .1 .1 .0)
 
 pub leaf-back-spec : {M : Type 1} → statement M
 leaf-back-spec =
