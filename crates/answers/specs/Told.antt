@@ -1,6 +1,5 @@
 -- Each answer in numbers: this paper's number for the enum's case, and its values. 01: "Any answer that is an enum has a definition. The definition
 -- gives this paper's number and values for each of the enum's cases, and the promises use it."
-pub mod Laws
 use Prim.Native.Nat.{ℕ}
 use Rattle.fields.specs.Answers.{numberOf}
 use Rattle.answers.specs.declared.PlanRefusal.{PlanRefusal}

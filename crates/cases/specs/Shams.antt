@@ -8,6 +8,7 @@ use native.Mathlib.Decide.{decLt}
 use native.Mathlib.Omega.{arith}
 use lib.Dec.{leb}
 use lib.ListN.{length, replicate, length-replicate}
+use Rattle.fields.specs.Answers.Laws.{record-number}
 use Rattle.task.specs.declared.Task.{Task}
 use Rattle.task.specs.Factors.{allStates}
 use Rattle.whole.specs.declared.Verdict.{Verdict}
@@ -16,7 +17,6 @@ use Rattle.record.specs.Record.{readRecord}
 use Rattle.answers.specs.declared.Told.{Told}
 use Rattle.answers.specs.declared.PlanAnswer.{PlanAnswer}
 use Rattle.answers.specs.Told.{planTold}
-use Rattle.answers.specs.Told.Laws.{record-number}
 use Rattle.price.specs.Demand.{PathCall, PathOutside, PathFits, SomeSequence, PathDecided}
 use Rattle.search.specs.Explore.{Search, Reason, finished, tableFull, budgetSpent, explored}
 use Rattle.search.specs.Plan.{planOf}

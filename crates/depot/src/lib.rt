@@ -66,8 +66,8 @@ pub extern "C" fn depot_prices(record: &[u8], path: &[u8], prices: &mut [u64]) -
     ensures demands { λ r. ⌜ PathMeets (pathOn (now («record» .entry)) (now (path .entry)) (now (prices .entry))) mark
         (priceIn (readRecord (now («record» .entry)) .task) (now (prices .exit))) (now (prices .exit)) r ⌝ }
 {
-    let t = price_told(pricer::prices(record, path, prices));
-    t.number
+    let told = price_told(pricer::prices(record, path, prices));
+    told.number
 }
 
 // S, the states of all leaves together, of a task that the reader accepted; 0 where the number of nodes is refused.

@@ -1,4 +1,5 @@
 -- What the answers mean: the number of each refusal, and what a field read says of the record.
+pub mod Laws
 use Prim.Native.Nat.{ℕ}
 use Rattle.loops.specs.Parsed.{Parsed, got, refused}
 use Rattle.fields.specs.declared.Refusal.{Refusal}

@@ -18,9 +18,8 @@ ghost use Rattle.task.specs.declared.Task.{Task};
 ghost use Rattle.task.specs.Valid.{Valid};
 ghost use Rattle.fields.specs.Fields.{nextField};
 ghost use Rattle.parts.specs.Told.{placeTold, placeOf};
-ghost use Rattle.whole.specs.declared.Verdict.the-variants.{Accepted};
 ghost use Rattle.parts.specs.Grammar.{listsOf};
-ghost use Rattle.record.specs.Record.{refusedFor, verdictOf, bodyOf, readRecord};
+ghost use Rattle.record.specs.Record.{verdictNumber, refusedFor, verdictOf, bodyOf, readRecord};
 
 // What reading a record gives: the verdict and, where it is "accepted", the task; else a blank one.
 pub struct TaskRead {
@@ -215,7 +214,7 @@ fn read_body(rec: &[u8], variables: u8, leaves: u8, actions: u8, at: usize) -> T
 // The task that a record writes down, or why it is refused.
 pub fn read_record(rec: &[u8]) -> TaskRead
     ensures answer { λ r. ⌜ r ≡ readRecord (now (rec .entry)) ⌝ }
-    ensures valid { λ r. ⌜ (r .verdict ≡ Accepted → Valid (r .task)) ⌝ }
+    ensures valid { λ r. ⌜ (verdictNumber (r .verdict) ≡ 0 → Valid (r .task)) ⌝ }
 {
     let h = read_head(rec);
     match h {

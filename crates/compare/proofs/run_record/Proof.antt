@@ -1,4 +1,6 @@
 -- `compare::run_record` is safe. What the reader accepts is valid. Assumes nothing.
+use mathlib.Core.Path.{ap}
+use Rattle.record.specs.Record.{verdictNumber}
 use borrow.Author.Needs.{needs}
 use Rattle.compare.proofs.run_record.Statement.{statement}
 use Rattle.compare.proofs.run_record.Tie as tie
@@ -13,7 +15,7 @@ enum-told : tie.Need-enum-told
 enum-told c = search needs
 
 run-task-requires : tie.Need-run-task-requires
-run-task-requires c κs = c .before .before .before .read-record .ensures .1 (c .enum-told .given .1)
+run-task-requires c κs = c .before .before .before .read-record .ensures .1 (ap verdictNumber (c .enum-told .given .1))
 
 enum-told-2 : tie.Need-enum-told-2
 enum-told-2 c = search needs

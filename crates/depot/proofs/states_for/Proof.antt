@@ -1,6 +1,7 @@
 -- `depot::states_for` meets its contract: S of a task that the reader accepted. Assumes nothing.
 use mathlib.Core.Path.{ap, sym, _∙_}
 use denote.Ref.{now}
+use Rattle.record.specs.Record.{verdictNumber}
 use Rattle.task.specs.Factors.{allStates}
 use Rattle.depot.specs.Depot.{forNodes}
 use Rattle.depot.specs.Depot.Laws.{record-none, record-some}
@@ -18,7 +19,7 @@ enum-told : tie.Need-enum-told
 enum-told c = search needs
 
 task-states-requires : tie.Need-task-states-requires
-task-states-requires c κs = c .before .before .before .read-record .ensures .1 (c .enum-told .given .1)
+task-states-requires c κs = c .before .before .before .read-record .ensures .1 (ap verdictNumber (c .enum-told .given .1))
 
 returns : tie.Need-returns
 returns c =

@@ -16,6 +16,7 @@ use Rattle.task.specs.declared.Task.{Task}
 use Rattle.task.specs.Factors.{states, allStates}
 use Rattle.task.specs.Valid.{Valid}
 use Rattle.task.specs.Star.{number-lt}
+use Rattle.fields.specs.Answers.Laws.{record-number}
 use Rattle.fields.specs.declared.Refusal.{Refusal}
 use Rattle.whole.specs.declared.Verdict.{Verdict}
 use Rattle.whole.specs.declared.Verdict.the-variants.{Accepted, Refused as NotAccepted}
@@ -23,7 +24,6 @@ use Rattle.record.specs.Record.{verdictNumber, readRecord}
 use Rattle.record.specs.Record.Laws.{accepted-valid}
 use Rattle.answers.specs.declared.Told.{Told}
 use Rattle.answers.specs.Told.{planTold}
-use Rattle.answers.specs.Told.Laws.{record-number}
 use Rattle.solve.specs.Solve.{tableWords}
 use Rattle.planner.specs.Planner.{recordPlan, callOn, givenWith}
 use Rattle.planner.specs.Planner.Demands.{Decided, NodesOutside}

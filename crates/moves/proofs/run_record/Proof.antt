@@ -1,4 +1,6 @@
 -- `moves::run_record` is safe. Assumes nothing.
+use mathlib.Core.Path.{ap}
+use Rattle.record.specs.Record.{verdictNumber}
 use borrow.Author.Needs.{needs}
 use borrow.Author.Needs.{needs}
 use Rattle.moves.proofs.run_record.Statement.{statement}
@@ -11,7 +13,7 @@ enum-told : tie.Need-enum-told
 enum-told c = search needs
 
 run-task-requires : tie.Need-run-task-requires
-run-task-requires c κs = c .before .before .before .read-record .ensures .1 (c .enum-told .given .1)
+run-task-requires c κs = c .before .before .before .read-record .ensures .1 (ap verdictNumber (c .enum-told .given .1))
 
 enum-known-v : tie.Need-enum-known-v
 enum-known-v c = search needs

@@ -1,6 +1,7 @@
 -- `planner::fitting_nodes` meets its contract: as many nodes as fit a task that the reader accepted. Assumes nothing.
 use mathlib.Core.Path.{ap, sym, _∙_}
 use denote.Ref.{now}
+use Rattle.record.specs.Record.{verdictNumber}
 use borrow.Author.Needs.{needs}
 use Rattle.planner.specs.Planner.{fittingNodes}
 use Rattle.planner.specs.Planner.Answers.{nodes-refused, nodes-accepted}
@@ -17,7 +18,7 @@ enum-told : tie.Need-enum-told
 enum-told c = search needs
 
 task-nodes-requires : tie.Need-task-nodes-requires
-task-nodes-requires c κs = c .before .before .before .read-record .ensures .1 (c .enum-told .given .1)
+task-nodes-requires c κs = c .before .before .before .read-record .ensures .1 (ap verdictNumber (c .enum-told .given .1))
 
 returns : tie.Need-returns
 returns c =

@@ -1,6 +1,7 @@
 -- `planner::plan` meets its contract: what the reader accepts is planned, and what the answer says of sequences follows. Assumes nothing.
 use mathlib.Core.Path.{ap, sym, _∙_}
 use denote.Ref.{now}
+use Rattle.record.specs.Record.{verdictNumber}
 use borrow.Author.Needs.{needs}
 use Rattle.planner.specs.Planner.{taskPlan}
 use Rattle.planner.specs.Planner.Answers.{record-refused, record-accepted, outcome-says}
@@ -17,7 +18,7 @@ enum-told : tie.Need-enum-told
 enum-told c = search needs
 
 plan-task-requires : tie.Need-plan-task-requires
-plan-task-requires c κs = c .before .before .before .before .before .read-record .ensures .1 (c .before .before .enum-told .given .1)
+plan-task-requires c κs = c .before .before .before .before .before .read-record .ensures .1 (ap verdictNumber (c .before .before .enum-told .given .1))
 
 returns : tie.Need-returns
 returns c =

@@ -8,6 +8,7 @@ use native.Mathlib.Omega.{arith}
 use lib.Dec.{leb}
 use lib.ListN.{length}
 use borrow.Author.Tests.{leb-true, leb-false}
+use Rattle.fields.specs.Answers.Laws.{record-number}
 use Rattle.loops.specs.Count.Laws.{and-out}
 use Rattle.task.specs.declared.Task.{Task}
 use Rattle.task.specs.Factors.{allStates}
@@ -21,7 +22,6 @@ use Rattle.search.specs.Plan.{planOf}
 use Rattle.search.specs.Plan.Short.{best-short}
 use Rattle.answers.specs.declared.PlanAnswer.{PlanAnswer}
 use Rattle.answers.specs.Told.{planTold}
-use Rattle.answers.specs.Told.Laws.{record-number}
 use Rattle.solve.specs.Solve.{countsOf, withPlan, atBest, atStop, tableWords, cleared, searched}
 use Rattle.planner.specs.Planner.{taskPlan, onVerdict, recordPlan}
 

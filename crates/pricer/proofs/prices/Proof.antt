@@ -1,6 +1,7 @@
 -- `pricer::prices` meets its contract: what the reader accepts is priced, and what the answer says of sequences follows. Assumes nothing.
 use mathlib.Core.Path.{ap, sym, _∙_}
 use denote.Ref.{now}
+use Rattle.record.specs.Record.{verdictNumber}
 use borrow.Author.Needs.{needs}
 use Rattle.pricer.specs.Pricer.{taskPrices}
 use Rattle.pricer.specs.Pricer.Laws.{record-refused, record-accepted, outcome-says}
@@ -17,7 +18,7 @@ enum-told : tie.Need-enum-told
 enum-told c = search needs
 
 price-task-requires : tie.Need-price-task-requires
-price-task-requires c κs = c .before .before .before .before .read-record .ensures .1 (c .before .enum-told .given .1)
+price-task-requires c κs = c .before .before .before .before .read-record .ensures .1 (ap verdictNumber (c .before .enum-told .given .1))
 
 returns : tie.Need-returns
 returns c =

@@ -16,6 +16,7 @@ use Rattle.task.specs.Meaning.{initial}
 use Rattle.task.specs.Factors.{centreAction, states, allStates, leafCost}
 use Rattle.task.specs.Valid.{Valid}
 use Rattle.task.specs.Star.{number-lt}
+use Rattle.fields.specs.Answers.Laws.{record-number}
 use Rattle.fields.specs.declared.Refusal.{Refusal}
 use Rattle.fields.specs.Answers.{numberOf}
 use Rattle.whole.specs.declared.Verdict.{Verdict}
@@ -38,7 +39,6 @@ use Rattle.answers.specs.declared.PriceAnswer.the-variants.{Prices, Refused}
 use Rattle.answers.specs.declared.PriceRefusal.{PriceRefusal}
 use Rattle.answers.specs.declared.PriceRefusal.the-variants.{InRecord as PriceInRecord, PathWrong, SliceShort, NotApplicable}
 use Rattle.answers.specs.Told.{priceRefusalNumber, priceTold}
-use Rattle.answers.specs.Told.Laws.{record-number}
 use Rattle.pricer.specs.Pricer.{Outcome, refuse, unless, onVerdict, pathFits, atEnd, taskPrices, pricesOf, callOn, priceIn}
 
 -- ---- the path

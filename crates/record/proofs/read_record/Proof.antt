@@ -13,16 +13,15 @@ use Rattle.parts.specs.Grammar.{Head, headOf}
 use Rattle.parts.specs.Grammar.Laws.{head-fields}
 use Rattle.parts.specs.Places.{head-place}
 use Rattle.parts.specs.Told.{headTold}
-use Rattle.whole.specs.declared.Verdict.the-variants.{Accepted}
 use Rattle.record.specs.declared.TaskRead.{TaskRead}
-use Rattle.record.specs.Record.{readRecord}
-use Rattle.record.specs.Record.Laws.{read-head-first, accepted-valid}
+use Rattle.record.specs.Record.{verdictNumber, readRecord}
+use Rattle.record.specs.Record.Laws.{read-head-first, number-accepted, accepted-valid}
 use Rattle.record.proofs.read_record.Statement.{statement}
 use Rattle.record.proofs.read_record.Tie as tie
 
 -- what a record reads as is valid where it is accepted
-both : (rec : List ℕ) {r : TaskRead} → r ≡ readRecord rec → (r ≡ readRecord rec) × (r .verdict ≡ Accepted → Valid (r .task))
-both rec e = (e, λ h. rw e (accepted-valid rec (rw e at h)))
+both : (rec : List ℕ) {r : TaskRead} → r ≡ readRecord rec → (r ≡ readRecord rec) × (verdictNumber (r .verdict) ≡ 0 → Valid (r .task))
+both rec e = (e, λ h. rw e (accepted-valid rec (number-accepted (readRecord rec .verdict) (rw e at h))))
 
 -- the head that was read
 abbrev head : tie.After-known-told2 → Head

@@ -10,6 +10,7 @@ use Rattle.task.specs.Valid.{Valid}
 use Rattle.fields.specs.declared.Refusal.{Refusal}
 use Rattle.fields.specs.declared.Refusal.the-variants.{NotFilled}
 use Rattle.fields.specs.Answers.{Reading}
+use Rattle.fields.specs.Answers.Laws.{record-number}
 use Rattle.fields.specs.Fields.{nextField}
 use Rattle.fields.specs.Fields.Laws.{next-is}
 use Rattle.parts.specs.Grammar.{Head, noLists, taskWith, headOf, listsOf, taskOf}
@@ -19,7 +20,7 @@ use Rattle.whole.specs.declared.Verdict.the-variants.{Accepted, Refused}
 use Rattle.whole.specs.Whole.{wholeTask}
 use Rattle.whole.specs.Whole.Laws.{whole-valid}
 use Rattle.record.specs.declared.TaskRead.{TaskRead}
-use Rattle.record.specs.Record.{filledOf, taskVerdict, answerOf, answerFor, answerAt, readRecord, bodyOf}
+use Rattle.record.specs.Record.{verdictNumber, filledOf, taskVerdict, answerOf, answerFor, answerAt, readRecord, bodyOf}
 
 -- ---- readRecord
 
@@ -63,6 +64,11 @@ for-accepted (Refused why) t e = not-both e
 filled-accepted : (b : Bool) (v : Verdict) (why : Refusal) → cond b v (Refused why) ≡ Accepted → v ≡ Accepted
 filled-accepted true v why e = e
 filled-accepted false v why e = not-both e
+
+-- only "accepted" has the number 0
+pub number-accepted : (v : Verdict) → verdictNumber v ≡ 0 → v ≡ Accepted
+number-accepted Accepted e = refl
+number-accepted (Refused why) e = absurd (omega (arith, record-number why .0, e))
 
 -- what the reader accepts is valid
 pub accepted-valid : (rec : List ℕ) → readRecord rec .verdict ≡ Accepted → Valid (readRecord rec .task)

@@ -13,6 +13,7 @@ use Rattle.loops.specs.Count.Laws.{and-out}
 use Rattle.task.specs.declared.Task.{Task}
 use Rattle.task.specs.Meaning.{reaches, costOf, Least}
 use Rattle.task.specs.Valid.{Valid}
+use Rattle.fields.specs.Answers.Laws.{record-number}
 use Rattle.fields.specs.declared.Refusal.{Refusal}
 use Rattle.fields.specs.Answers.{numberOf}
 use Rattle.whole.specs.declared.Verdict.{Verdict}
@@ -30,7 +31,6 @@ use Rattle.answers.specs.declared.PlanRefusal.{PlanRefusal}
 use Rattle.answers.specs.declared.PlanRefusal.the-variants.{InRecord, NodesWrong, TableShort, TableFull, BudgetSpent, PlanLong}
 use Rattle.answers.specs.declared.PlanAnswer.the-variants.{Unsolvable, Refused}
 use Rattle.answers.specs.Told.{planRefusalNumber, planTold}
-use Rattle.answers.specs.Told.Laws.{record-number}
 use Rattle.solve.specs.Solve.{countsOf, unwritten, withPlan, planned, atBest, atStop, tableWords, cleared, searched}
 use Rattle.planner.specs.Planner.{noCounts, taskPlan, onVerdict, recordPlan, callOn, givenBy, givenWith}
 use Rattle.planner.specs.Planner.Demands.{Call, Given, NodesOutside, Searched, Reachable, Gave, ThatPlan, Decided, Meets}
