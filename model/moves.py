@@ -7,7 +7,7 @@ import sys
 from pathlib import Path
 from plain_tasks import depot, holds, least, outcome, star
 from planner import plan
-from prices import Star
+from prices import Star, cost_without_pause
 from record import *
 
 WORDS = 131072
@@ -49,9 +49,9 @@ def shown(record):
 
 
 def wide(t):
-    """Whether a leaf has two variables and the plan has at least eight actions."""
+    """Whether a leaf has two variables and the plan has at least eight actions, drawn as in `plain_tasks`."""
     count = [f for _, f, _ in t.variables]
-    found = least(t)
+    found = least(t, cost_without_pause)
     return any(f and count.count(f) > 1 for f in count) and found is not None and found[1] >= 8
 
 

@@ -7,7 +7,7 @@ import random
 import sys
 from collections import Counter
 from math import prod
-from prices import cost
+from prices import cost, cost_without_pause
 from record import *
 
 MANY = 340  # star tasks; ten depots come behind them
@@ -24,7 +24,7 @@ def outcome(pairs, state):
     return tuple(new.get(v, x) for v, x in enumerate(state))
 
 
-def walk(t):
+def walk(t, cost=cost):
     """Each state that can be reached, with its least cost and the fewest actions at that cost."""
     best, heap = {}, [(0, 0, tuple(i for _, _, i in t.variables))]
     while heap:
@@ -37,12 +37,12 @@ def walk(t):
     return best
 
 
-def least(t):
+def least(t, cost=cost):
     """The least cost of a plan and the fewest actions at that cost, or None."""
-    return min((x for s, x in walk(t).items() if holds(t.goal, s)), default=None)
+    return min((x for s, x in walk(t, cost).items() if holds(t.goal, s)), default=None)
 
 
-# ---- random star tasks
+# ---- random star tasks. They are drawn by what they cost without the pause, so that they are the same tasks whatever a drive takes.
 
 class Draw:
     """The variables of a task, and what can be drawn over them. Most actions apply in a state that those before them can reach."""
@@ -122,7 +122,7 @@ def drawn(R):
     """A task whose goal is met in one of the states that are furthest off, or drawn by itself."""
     d = Draw(R)
     t = Task(d.leaves, d.vs, [], d.actions())
-    far = sorted(walk(t).items(), key=lambda x: x[1][1])
+    far = sorted(walk(t, cost_without_pause).items(), key=lambda x: x[1][1])
     state = R.choice(far[len(far) * 4 // 5:])[0]
     if R.random() < .15:
         state = [R.randrange(s) for s, _, _ in d.vs]
@@ -134,7 +134,7 @@ def star(R):
     """A random task: of those with plans of few actions, most are drawn again."""
     while True:
         t = drawn(R)
-        found = least(t)
+        found = least(t, cost_without_pause)
         if found is None or found[1] > 2 or R.random() < .15:
             return t
 

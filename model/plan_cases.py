@@ -19,10 +19,10 @@ def put(**changes):
 
 e = encode(fetch())
 CASES = [
-    ("one pair to fetch", "plan 4 cost 1600 expanded 4 kept 4", e),
+    ("one pair to fetch", "plan 4 cost 1650 expanded 4 kept 4", e),
     ("without take", "unsolvable expanded 2 kept 2", encode(without_take())),
     ("with an empty goal", "plan 0 cost 0 expanded 0 kept 1", encode(empty_goal())),
-    ("skis to wax behind a door: two leaves, one of two variables", "plan 6 cost 1504 expanded 4 kept 4", encode(waxed())),
+    ("skis to wax behind a door: two leaves, one of two variables", "plan 6 cost 1554 expanded 4 kept 4", encode(waxed())),
     ("four pairs, four stops and one tray: the table is full", "refused 22 expanded 66 kept 77", encode(depot(random.Random(0), 4, 4, 1))),
     ("no bytes", "refused 1 expanded 0 kept 0", b""),
     ("one pair to fetch, its last byte missing", "refused 1 expanded 0 kept 0", e[:-1]),
@@ -37,7 +37,7 @@ CASES = [
     ("a leaf of 512 states", "refused 10 expanded 0 kept 0", encode(Task(1, [(2, 0, 0)] + [(2, 1, 0)] * 9, []))),
     ("an action with effects in two leaves", "refused 11 expanded 0 kept 0",
      encode(Task(2, [(2, 0, 0), (2, 1, 0), (2, 2, 0)], [], [Action(0, 0, [], [(1, 1), (2, 1)])]))),
-    ("one pair to fetch once more", "plan 4 cost 1600 expanded 4 kept 4", e),
+    ("one pair to fetch once more", "plan 4 cost 1650 expanded 4 kept 4", e),
 ]
 
 

@@ -1,4 +1,9 @@
-"""Reference model of the planner, from the paper alone ("The exploration", the planner's order of refusals). Slow and literal."""
+"""Reference model of the planner, from the paper alone ("The exploration", the planner's order of refusals). Slow and literal.
+
+`python3 planner.py FOLDER` writes the example to FOLDER/stdin, and to FOLDER/stdout what the program `plan` prints of it.
+"""
+import sys
+from pathlib import Path
 from prices import *
 
 
@@ -172,7 +177,10 @@ def empty_goal():
 if __name__ == "__main__":
     e = encode(fetch())
     print(program(e), end="")
-    assert plan(e, 94, 4096, 8192, 4096) == (0, [0, 2, 1, 3], 1600, 4, 4)
+    for folder in map(Path, sys.argv[1:]):
+        (folder / "stdin").write_bytes(e)
+        (folder / "stdout").write_text(program(e))
+    assert plan(e, 94, 4096, 8192, 4096) == (0, [0, 2, 1, 3], 1650, 4, 4)
     assert plan(e, 94, 3, 8192, 4096) == (23, None, 0, 3, 4)
     assert plan(e, 3, 4096, 8192, 4096) == (22, None, 0, 3, 3)
     assert plan(e, 3, 2, 8192, 4096) == (23, None, 0, 2, 3)

@@ -150,10 +150,10 @@ ZERO = Task(1, [(2, 0, 0), (4, 1, 2)], [], [
 call("a circle of leaf actions of cost 0", [0, 0, 0, N], ZERO, [])
 call("a circle of cost 0, and a way out of it in the next layer", [0, 0, 0, 9], ZERO, [0])
 call("a leaf action that changes nothing, of cost 0 and of cost 5", [0, N], Task(1, [(2, 0, 0), (2, 1, 0)], [], [A(0, 0, [(1, 0)], [(1, 0)]), A(5, 0, [], [(1, 0)])]), [])
-call("a leaf action with no conditions", [N, 0, 4807], Task(1, [(2, 0, 0), (3, 1, 1)], [], [A(4095, 1023, [], [(1, 2)])]), [])
-call("drive times: 1, 2, 100, 399, 400, 401, 402 and 1,023 cm", [0, 20, 29, 200, 400, 400, 401, 401, 712],
+call("a leaf action with no conditions", [N, 0, DEAREST], Task(1, [(2, 0, 0), (3, 1, 1)], [], [A(4095, 1023, [], [(1, 2)])]), [])
+call("drive times: 1, 2, 100, 399, 400, 401, 402 and 1,023 cm", [0, 45, 54, 225, 425, 425, 426, 426, 737],
      Task(1, [(2, 0, 0), (9, 1, 0)], [], [A(0, d, [(1, 0)], [(1, k + 1)]) for k, d in enumerate((1, 2, 100, 399, 400, 401, 402, 1023))]), [])
-call("handling and drive time together, 4,095 and 1,023 cm, three times over", [0, 4807, 9614, 14421],
+call("handling and drive time together, 4,095 and 1,023 cm, three times over", [0, 4832, 9664, 14496],
      Task(1, [(2, 0, 0), (4, 1, 0)], [], [A(4095, 1023, [(1, k)], [(1, k + 1)]) for k in range(3)]), [])
 TWOCOND = Task(1, [(2, 0, 0), (3, 1, 0), (2, 0, 1), (2, 0, 0)], [], [
     A(5, 0, [(0, 0), (2, 1)], [(1, 1)]), A(6, 0, [(0, 0), (3, 1)], [(1, 2)]), A(1, 1, [(2, 1)], [(2, 0), (3, 1)]), A(1, 1, [], [(2, 1)])])
@@ -284,11 +284,11 @@ call("the longest record: an action that does not apply", 13, C.LONGEST, [0], 10
 
 section("Large prices")
 UP = Task(1, [(2, 0, 0), (2, 1, 0)], [], [A(4095, 1023, [(1, 0)], [(1, 1)]), A(0, 0, [(1, 1)], [(0, 1), (1, 0)])])
-call("4,095 actions, each of which passes the dear state alone: 4,095 and 4,096 times 4,807", [4095 * 4807, 4096 * 4807], UP, [1] * 4095)
+call("4,095 actions, each of which passes the dear state alone: 4,095 and 4,096 times 4,832", [4095 * DEAREST, 4096 * DEAREST], UP, [1] * 4095)
 if "heavy" in sys.argv:
     UP16 = Task(1, [(2, 0, 0), (16, 1, 0), (16, 1, 0)], [], counting(1, 1, True, lambda k: (4095, 1023)) + [A(0, 0, [(1, 15), (2, 15)], [(0, 1), (1, 0), (2, 0)])])
-    call("3,510 actions, each behind 255 leaf actions of cost 4,807: prices above 2^32", [(3510 * 255 + k) * 4807 for k in range(256)], UP16, [30] * 3510)
-    assert 3510 * 255 * 4807 > 2 ** 32
+    call("3,510 actions, each behind 255 leaf actions of cost 4,832: prices above 2^32", [(3510 * 255 + k) * DEAREST for k in range(256)], UP16, [30] * 3510)
+    assert 3510 * 255 * DEAREST > 2 ** 32
 
 DESIGNED = len(CALLS)
 

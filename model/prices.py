@@ -7,7 +7,10 @@ from record import *
 INF = 2 ** 64 - 1
 
 
-def drive_time(d):
+PAUSE = 25  # how long the carriage holds still behind a drive
+
+
+def travel_time(d):
     if d > 400:
         return 200 + (d + 1) // 2
     t = 0
@@ -16,11 +19,21 @@ def drive_time(d):
     return t
 
 
-assert [drive_time(d) for d in (0, 1, 2, 100, 399, 400, 401, 402, 1023)] == [0, 20, 29, 200, 400, 400, 401, 401, 712]
+def drive_time(d):
+    return travel_time(d) + PAUSE if d else 0
+
+
+assert [drive_time(d) for d in (0, 1, 2, 100, 399, 400, 401, 402, 1023)] == [0, 45, 54, 225, 425, 425, 426, 426, 737]
+DEAREST = 4095 + drive_time(1023)
+assert DEAREST == 4832
 
 
 def cost(a):
     return a.handling + drive_time(a.distance)
+
+
+def cost_without_pause(a):
+    return a.handling + travel_time(a.distance)
 
 
 class Star:

@@ -1,6 +1,9 @@
 //! Drive times in hundredths of a second, by distance in cm.
 
-const fn time(distance: u32) -> u16 {
+/// How long the carriage holds still behind a drive.
+const PAUSE: u16 = 25;
+
+const fn travel(distance: u32) -> u16 {
     if distance > 400 {
         return (200 + distance.div_ceil(2)) as u16;
     }
@@ -9,6 +12,13 @@ const fn time(distance: u32) -> u16 {
         t += 1;
     }
     t as u16
+}
+
+const fn time(distance: u32) -> u16 {
+    if distance == 0 {
+        return 0;
+    }
+    travel(distance) + PAUSE
 }
 
 const fn times() -> [u16; 1024] {
@@ -28,7 +38,7 @@ pub static TIMES: [u16; 1024] = times();
 mod tests {
     #[test]
     fn the_papers_figures() {
-        for (d, t) in [(0, 0), (1, 20), (2, 29), (100, 200), (399, 400), (400, 400), (401, 401), (402, 401), (1023, 712)] {
+        for (d, t) in [(0, 0), (1, 45), (2, 54), (100, 225), (399, 425), (400, 425), (401, 426), (402, 426), (1023, 737)] {
             assert_eq!(super::TIMES[d], t);
         }
     }

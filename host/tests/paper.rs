@@ -30,9 +30,9 @@ fn the_record() {
 #[test]
 fn one_pair_to_fetch() {
     let (a, bytes) = planned(&fetch(), 94, 4096, 6);
-    assert_eq!(a, answer(0, 4, 1600, 4, 4));
+    assert_eq!(a, answer(0, 4, 1650, 4, 4));
     assert_eq!(bytes, [0, 2, 1, 3, 0xEE, 0xEE]);
-    assert_eq!(least_cost(&read(&fetch().record()).unwrap()).0, Some(1600));
+    assert_eq!(least_cost(&read(&fetch().record()).unwrap()).0, Some(1650));
 }
 
 #[test]

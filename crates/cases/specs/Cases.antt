@@ -6,7 +6,7 @@ use Prim.Native.Nat.{ℕ}
 use lib.ListN.{replicate, take}
 use Rattle.loops.specs.Count.{all, any, sum, list}
 use Rattle.loops.specs.Parsed.{turns}
-use Rattle.drive.specs.Drive.{driveTime, rootFrom}
+use Rattle.drive.specs.Drive.{driveTime, travelTime, rootFrom}
 use Rattle.task.specs.declared.Task.{Task}
 use Rattle.task.specs.Fetch.{fetch}
 use Rattle.task.specs.Meaning.{cost}
@@ -82,19 +82,19 @@ pub p-table :
     (record {
       tasks = accepted fetch ∷ accepted fetchWithoutTake ∷ accepted fetchEmptyGoal ∷ accepted waxed ∷ [];
       plans =
-          record { answer = Solved (record { length = 4; cost = 1600 }) (counts 4 4); front = 0 ∷ 2 ∷ 1 ∷ 3 ∷ 238 ∷ 238 ∷ 238 ∷ [] } ∷
+          record { answer = Solved (record { length = 4; cost = 1650 }) (counts 4 4); front = 0 ∷ 2 ∷ 1 ∷ 3 ∷ 238 ∷ 238 ∷ 238 ∷ [] } ∷
           record { answer = Unsolvable (counts 2 2); front = blank } ∷
           record { answer = Solved (record { length = 0; cost = 0 }) (counts 0 1); front = blank } ∷
           record { answer = Refused BudgetSpent (counts 3 4); front = blank } ∷
           record { answer = Refused TableFull (counts 3 3); front = blank } ∷
           record { answer = Refused BudgetSpent (counts 2 3); front = blank } ∷
           record { answer = Refused PlanLong (counts 4 4); front = 238 ∷ 238 ∷ 238 ∷ [] } ∷
-          record { answer = Solved (record { length = 6; cost = 1504 }) (counts 4 4); front = 0 ∷ 5 ∷ 1 ∷ 4 ∷ 3 ∷ 2 ∷ 238 ∷ [] } ∷ [];
+          record { answer = Solved (record { length = 6; cost = 1554 }) (counts 4 4); front = 0 ∷ 5 ∷ 1 ∷ 4 ∷ 3 ∷ 2 ∷ 238 ∷ [] } ∷ [];
       prices =
           record { answer = Prices 3; words = 0 ∷ 500 ∷ 800 ∷ [] } ∷ record { answer = Prices 3; words = 0 ∷ mark ∷ mark ∷ [] } ∷
           record { answer = Prices 8; words = mark ∷ 0 ∷ 500 ∷ mark ∷ mark ∷ mark ∷ 0 ∷ mark ∷ 7 ∷ [] } ∷
           record { answer = Prices 8; words = 800 ∷ mark ∷ 500 ∷ 840 ∷ mark ∷ 540 ∷ 30 ∷ 0 ∷ 7 ∷ [] } ∷ [];
-      times = 29 ∷ 400 ∷ 712 ∷ [];
+      times = 54 ∷ 425 ∷ 737 ∷ [];
     })
-unfolding fetch recordPlan taskPlan searched withPlan tableWords pricesOf taskPrices pathFits walk nextLayer planOf goalState pathTo stages over backIn begins back source depths tightTo tight lowest weave explored explore expand begin turn offer choose waits start keep bestWith belowBest dominates goalCost isGoal goalPrices key leastOf nextNode firstNode firstPrices nextPrices appliesTo joined leafPart base passes passLeaf startLeaf settleLeaf enabledTo pass settled settle relax pick keyOf keyAt priceKey lower readRecord filledOf wholeOf factorsUsed statesFew allStar taskOf listsOf actionOf costsOf effectPairs countedPairs pairsFrom pairOf variableOf headOf nextField fieldOf bitOf turns centreMeets centreAfter centreOf to meetsIn valuesOf allStates states number leafAction centreAction digitTo statesTo numberTo starPairs leafPairs holdsIn within touches cost driveTime rootFrom all any sum list
+unfolding fetch recordPlan taskPlan searched withPlan tableWords pricesOf taskPrices pathFits walk nextLayer planOf goalState pathTo stages over backIn begins back source depths tightTo tight lowest weave explored explore expand begin turn offer choose waits start keep bestWith belowBest dominates goalCost isGoal goalPrices key leastOf nextNode firstNode firstPrices nextPrices appliesTo joined leafPart base passes passLeaf startLeaf settleLeaf enabledTo pass settled settle relax pick keyOf keyAt priceKey lower readRecord filledOf wholeOf factorsUsed statesFew allStar taskOf listsOf actionOf costsOf effectPairs countedPairs pairsFrom pairOf variableOf headOf nextField fieldOf bitOf turns centreMeets centreAfter centreOf to meetsIn valuesOf allStates states number leafAction centreAction digitTo statesTo numberTo starPairs leafPairs holdsIn within touches cost driveTime travelTime rootFrom all any sum list
 p-table = refl

@@ -40,10 +40,13 @@ const BLANK: u8 = 238;
 
 // ---- what actions cost
 
-// The drive time of a distance: the least t with t times t at least 400 times the distance, up to 400; above that 200 and half of it,
+// How long the carriage holds still behind a drive.
+const PAUSE: u64 = 25;
+
+// The travel over a distance: the least t with t times t at least 400 times the distance, up to 400; above that 200 and half of it,
 // rounded up.
-fn drive(distance: u16) -> u64
-    ensures { λ r. ⌜ r ≤ 33000 ⌝ }
+fn travel(distance: u16) -> u64
+    ensures { λ r. ⌜ r ≤ 32968 ⌝ }
 {
     let d = distance as u64;
     if d > 400 {
@@ -55,6 +58,16 @@ fn drive(distance: u16) -> u64
         }
     }
     400
+}
+
+// The drive time of a distance: the travel and the pause, where there is a drive.
+fn drive(distance: u16) -> u64
+    ensures { λ r. ⌜ r ≤ 33000 ⌝ }
+{
+    if distance == 0 {
+        return 0;
+    }
+    travel(distance) + PAUSE
 }
 
 // What an action costs.

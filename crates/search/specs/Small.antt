@@ -9,7 +9,7 @@ use lib.ListN.{length}
 use Rattle.loops.specs.Count.{sum}
 use Rattle.task.specs.declared.Task.{Task}
 use Rattle.task.specs.Meaning.{costOf}
-use Rattle.task.specs.Valid.{Valid}
+use Rattle.task.specs.Valid.{dearest, Valid}
 use Rattle.leaf.specs.Price.{mark}
 use Rattle.layer.specs.Layer.{leafPart}
 use Rattle.price.specs.Path.{firstLayer}
@@ -30,8 +30,8 @@ sum-small (suc n) f h = omega (arith, sum-small n f (λ i l. h i (omega arith)),
 module _ (t : Task) (ok : Valid t) where
   -- ---- costs
 
-  -- a path costs at most 4,807 for each of its actions
-  pub path-cost : (p : List ℕ) → Centred t p → costOf t p ≤ length p * 4807
+  -- a path costs at most as much as the dearest action for each of its actions
+  pub path-cost : (p : List ℕ) → Centred t p → costOf t p ≤ length p * dearest
   unfolding costOf
   path-cost [] c = omega arith
   path-cost (a ∷ p) c = omega (arith, path-cost p (λ k n. c (suc k) (omega arith)), ok .fields .cost-bound a (c 0 (omega arith) .0))
@@ -46,7 +46,7 @@ module _ (t : Task) (ok : Valid t) where
     made-price i l x h = omega (arith, made-sound t ok u n m .small i l x h)
 
     -- what the node has paid
-    pub made-paid : n .paid ≤ 4096 * 4807
+    pub made-paid : n .paid ≤ 4096 * dearest
     made-paid = omega (arith, m .spent, path-cost (m .path) (m .centred), m .short)
 
     -- a leaf's least price

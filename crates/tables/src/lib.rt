@@ -9,7 +9,7 @@ ghost use Prim.Native.Nat.{ℕ, suc, _*_, _+_, _<_, _≤_};
 ghost use lib.ListN.{length, getD};
 ghost use Rattle.drive.specs.Drive.{driveTime};
 ghost use Rattle.task.specs.Factors.{numberTo, starPairs, statesTo, allStates};
-ghost use Rattle.task.specs.Valid.{Valid};
+ghost use Rattle.task.specs.Valid.{dearest, Valid};
 ghost use Rattle.digits.specs.Digits.{entries, entriesFrom, Each, Filled, Same, startOf};
 ghost use Rattle.tables.specs.Tables.{KindIs, Bases, Starts, Costs, Kinds, Moves, Goals};
 
@@ -105,7 +105,7 @@ pub fn leaf_starts(task: Task) -> [usize; 8]
 // Each action's handling plus the drive time of its distance, which together fit.
 fn costs_of(handling: &[u16], distance: &[u16], actions: usize) -> [u16; 256]
     requires { ⌜ (actions ≤ length (now handling)) × (actions ≤ length (now distance)) × (actions ≤ 256) ⌝ }
-    requires { ⌜ ((a : ℕ) → a < actions → getD (now handling) a 0 + driveTime (getD (now distance) a 0) ≤ 4807) ⌝ }
+    requires { ⌜ ((a : ℕ) → a < actions → getD (now handling) a 0 + driveTime (getD (now distance) a 0) ≤ dearest) ⌝ }
     ensures { λ r. ⌜ (length r ≡ 256) × Filled actions (λ a. getD (now (handling .entry)) a 0 + driveTime (getD (now (distance .entry)) a 0)) r ⌝ }
 {
     let mut costs: [u16; 256] = [0; 256];

@@ -4,7 +4,7 @@ use mathlib.Core.Bool.{Bool, true, false}
 use mathlib.Core.List.{List, [], _∷_}
 use Prim.Native.Nat.{ℕ}
 use Rattle.loops.specs.Count.{all, any, sum}
-use Rattle.drive.specs.Drive.{rootFrom, driveTime}
+use Rattle.drive.specs.Drive.{rootFrom, travelTime, driveTime}
 use Rattle.task.specs.Meaning.{initial, cost, holds, applies, runs, final, reaches, costOf}
 use Rattle.task.specs.Factors.{touches, within, holdsIn, leafPairs, numberTo, statesTo, digitTo, centreAction, leafAction, number, states, allStates, valuesOf, meetsIn, to}
 use Rattle.task.specs.Fetch.{fetch}
@@ -28,6 +28,6 @@ figures =
     to fetch 1 2 0 ∷ to fetch 1 2 1 ∷ to fetch 1 3 1 ∷ to fetch 1 0 2 ∷ []
 
 pub fetch-computed : _≡_ {A = List Bool × List ℕ} (tests, figures)
-    (true ∷ false ∷ false ∷ true ∷ true ∷ false ∷ false ∷ true ∷ true ∷ [], 1600 ∷ 3 ∷ 3 ∷ 0 ∷ 2 ∷ 0 ∷ 3 ∷ 3 ∷ [])
-unfolding fetch all any sum rootFrom driveTime cost holds applies runs final reaches costOf touches within holdsIn leafPairs numberTo statesTo digitTo centreAction leafAction number states allStates valuesOf meetsIn to
+    (true ∷ false ∷ false ∷ true ∷ true ∷ false ∷ false ∷ true ∷ true ∷ [], 1650 ∷ 3 ∷ 3 ∷ 0 ∷ 2 ∷ 0 ∷ 3 ∷ 3 ∷ [])
+unfolding fetch all any sum rootFrom travelTime driveTime cost holds applies runs final reaches costOf touches within holdsIn leafPairs numberTo statesTo digitTo centreAction leafAction number states allStates valuesOf meetsIn to
 fetch-computed = refl

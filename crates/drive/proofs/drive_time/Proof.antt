@@ -9,8 +9,8 @@ use lib.Dec.{T, eqb, eqb→eq}
 use lib.ListN.{length, getD}
 use borrow.Author.Needs.{needs}
 use Rattle.loops.specs.Table.{every, every-at}
-use Rattle.drive.specs.Drive.{DriveRule, rootFrom, driveTime}
-use Rattle.drive.specs.Drive.Laws.{drive-rule}
+use Rattle.drive.specs.Drive.{DriveRule, rootFrom, travelTime, driveTime}
+use Rattle.drive.specs.Drive.Laws.{travel-rule, drive-some, drive-rule}
 use Rattle.drive.proofs.drive_time.Statement.{statement}
 use Rattle.drive.proofs.drive_time.Tie as tie
 
@@ -40,7 +40,7 @@ add-result-2 c = search needs
 
 -- `rw` finds the table in the goal, so it is not written here again; `passed` is the test of the whole of it, which computes to `true`
 returns : tie.Need-returns
-unfolding driveTime rootFrom
+unfolding driveTime travelTime rootFrom
 returns c =
     let inside : c .before .args .distance < 1024 = omega arith in
     let passed : T true = tt in
@@ -48,8 +48,9 @@ returns c =
 
 returns-2 : tie.Need-returns-2
 returns-2 c =
-    let beyond : 400 < c .before .args .distance = omega arith in
-    both (c .before .args .distance) _ (omega (arith, drive-rule (c .before .args .distance) .line beyond))
+    let d = c .before .args .distance in
+    let beyond : 400 < d = omega arith in
+    both d _ (omega (arith, drive-some d (omega arith), travel-rule d .line beyond))
 
 pub drive-time-spec : {M : Type 1} → statement M
 drive-time-spec = tie.close (tie.spec mul-result array-read-result add-result add-result-2 returns returns-2)

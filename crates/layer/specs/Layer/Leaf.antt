@@ -17,7 +17,7 @@ use Rattle.task.specs.declared.Centre.{Centre}
 use Rattle.task.specs.Meaning.{initial, factor, condition, cost}
 use Rattle.task.specs.Factors.{leafAction, number, states, to}
 use Rattle.task.specs.Centre.{centreMeets}
-use Rattle.task.specs.Valid.{Valid}
+use Rattle.task.specs.Valid.{dearest, Valid}
 use Rattle.task.specs.Star.{number-lt, to-in}
 use Rattle.leaf.specs.Price.{mark}
 use Rattle.leaf.specs.Settle.Steps.{set-cases, replicate-at}
@@ -155,10 +155,10 @@ module _ (t : Task) (ok : Valid t) where
   -- start prices of B at most: no price below the mark is above B and one cost for each state
   pub leaf-bound : (i : ℕ) (c : Centre) (B : ℕ) (P : List ℕ) → i < t .leaves → length P ≡ states t (suc i)
       → ((u : ℕ) → getD P u mark < mark → getD P u mark ≤ B)
-      → (u : ℕ) → getD (settleLeaf t (suc i) c P) u mark < mark → getD (settleLeaf t (suc i) c P) u mark ≤ B + 256 * 4807
+      → (u : ℕ) → getD (settleLeaf t (suc i) c P) u mark < mark → getD (settleLeaf t (suc i) c P) u mark ≤ B + 256 * dearest
   unfolding settleLeaf
   leaf-bound i c B P l len b u h =
-      let r = settled-bound mark (length (enabled t (suc i) c)) _ _ B 4807 P (λ j k. ok .fields .cost-bound _ (enabled-at t (suc i) c j k .0)) b u h in
+      let r = settled-bound mark (length (enabled t (suc i) c)) _ _ B dearest P (λ j k. ok .fields .cost-bound _ (enabled-at t (suc i) c j k .0)) b u h in
       omega (arith, ok .whole .few-states i l)
 
 -- ---- startLeaf

@@ -12,7 +12,7 @@ use Rattle.task.specs.declared.Task.{Task}
 use Rattle.task.specs.Meaning.{initial, factor, condition, cost}
 use Rattle.task.specs.Factors.{number, states, allStates, to}
 use Rattle.task.specs.Centre.{centre, centreMeets}
-use Rattle.task.specs.Valid.{Valid}
+use Rattle.task.specs.Valid.{dearest, Valid}
 use Rattle.leaf.specs.Price.{mark}
 use Rattle.layer.specs.Layer.{LeafWalk, startLeaf, passLeaf, leafPart, nextCentre, appliesTo}
 use Rattle.layer.specs.Layer.Leaf.{leaf-below, leaf-closed, leaf-real, leaf-bound, startLeaf-length, startLeaf-cases, startLeaf-cap, startLeaf-at, passLeaf-length, passLeaf-cap, passLeaf-hit, passLeaf-from, passes-in}
@@ -67,9 +67,9 @@ pub record Settled (t : Task) (l : Layer) : Type 0 where
 abbrev pub Small : Task → ℕ → Layer → Type 0
 Small t B l = (i : ℕ) → i < t .leaves → (x : ℕ) → price t l i x < mark → price t l i x ≤ B
 
--- by how much prices rise in a layer at most: 256 states in a leaf, 4,807 for an action
+-- by how much prices rise in a layer at most: 256 states in a leaf, and for each the dearest action
 abbrev pub rise : ℕ
-rise = 256 * 4807
+rise = 256 * dearest
 
 -- where a price of the layer behind action a comes from: a state that the action takes through, and a walk
 pub record Came (t : Task) (a : ℕ) (l : Layer) (i z : ℕ) : Type 0 where

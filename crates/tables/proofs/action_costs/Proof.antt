@@ -1,4 +1,4 @@
--- `tables::action_costs` meets its contract: no cost of a valid task is above 4,807. Assumes nothing.
+-- `tables::action_costs` meets its contract: no cost of a valid task is above that of the dearest action. Assumes nothing.
 use mathlib.Core.Path.{_≡_}
 use native.Mathlib.Omega.{arith}
 use lib.ListN.{length}

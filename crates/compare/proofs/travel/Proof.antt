@@ -1,10 +1,10 @@
--- `compare::drive` is safe and ends. The measure is what is left up to 400. Assumes nothing.
+-- `compare::travel` is safe and ends. The measure is what is left up to 400. Assumes nothing.
 use borrow.Author.Needs.{needs}
 use Prim.Native.Nat.{_≤_, _-_}
 use native.Mathlib.Nat.{mul-le-mul}
 use native.Mathlib.Omega.{arith}
-use Rattle.compare.proofs.drive.Statement.{statement}
-use Rattle.compare.proofs.drive.Tie as tie
+use Rattle.compare.proofs.travel.Statement.{statement}
+use Rattle.compare.proofs.travel.Tie as tie
 
 abbrev Inv-loop : tie.InvT-loop
 Inv-loop distance d t₀ t = t ≤ 400
@@ -45,8 +45,8 @@ loop-again c = search needs
 returns-3 : tie.Need-returns-3 Inv-loop μ-loop
 returns-3 c = search needs
 
-pub drive-spec : {M : Type 1} → statement M
-drive-spec =
+pub travel-spec : {M : Type 1} → statement M
+travel-spec =
     tie.close
     (tie.spec
     Inv-loop
