@@ -1,6 +1,7 @@
 """Writes the example record, one pair to fetch, as bytes and as a listing of its fields: python3 example.py FOLDER."""
 import sys
 from pathlib import Path
+from prices import drive_time
 from record import *
 
 WORDS = {
@@ -29,7 +30,7 @@ def word(name, value, variable):
     if rest == "handling":
         return who + f"handling of {value} hundredths of a second"
     if rest == "distance":
-        return f"{value} cm of rail"
+        return f"{value} cm of rail: {drive_time(value)}" if value else "0 cm of rail"
     if rest == "c.count":
         return f"conditions: {value}"
     if rest == "e.count":

@@ -15,7 +15,7 @@ use Rattle.task.specs.declared.Centre.{Centre}
 use Rattle.task.specs.Meaning.{State, initial, goal, factor, cost, applies, outcome, holds}
 use Rattle.task.specs.Factors.{leafAction, number, states}
 use Rattle.task.specs.Centre.{centre, centreMeets}
-use Rattle.task.specs.Valid.{Inside, Valid}
+use Rattle.task.specs.Valid.{Inside, dearest, Valid}
 use Rattle.task.specs.Star.{number-lt, applies-in, leaf-centre, leaf-other, centre-next, goal-splits}
 use Rattle.leaf.specs.Price.{mark}
 use Rattle.layer.specs.Layer.{base, leafPart, appliesTo, nextCentre}
@@ -64,7 +64,7 @@ module _ (t : Task) (ok : Valid t) where
   -- ---- actions
 
   -- a leaf action that applies in a covered state leads to a state that the node covers
-  pub cover-leaf : (B : ℕ) (n : Node) {s : State} {k : ℕ} (a i : ℕ) → Sound t B n → B + 4808 ≤ mark → Inside t s → applies t a s ≡ true → i < t .leaves
+  pub cover-leaf : (B : ℕ) (n : Node) {s : State} {k : ℕ} (a i : ℕ) → Sound t B n → B + dearest < mark → Inside t s → applies t a s ≡ true → i < t .leaves
       → leafAction t a (suc i) ≡ true → Covers t n s k → Covers t n (outcome t a s) (k + cost t a)
   cover-leaf B n {s} {k} a i w fits h e l own c =
       record {
