@@ -1,25 +1,26 @@
 // What the planner and the pricer answer, and each answer in the paper's numbers.
+#![tactic(auto)]
 ghost use Rattle.std.specs.Prelude.{◌≡◌};
 ghost use Rattle.answers.specs.Told.{plan_refusal_number, plan_told, price_refusal_number, price_told};
 
 use fields::Refusal;
 
 // How many expansions have begun, and how many nodes are kept.
-#[derive(Drop)]
+#[derive(Clone, Copy)]
 pub struct Counts {
     pub expanded: usize,
     pub kept: usize,
 }
 
 // A plan's length and cost.
-#[derive(Drop)]
+#[derive(Clone, Copy)]
 pub struct Solution {
     pub length: usize,
     pub cost: u64,
 }
 
 // Why there is no plan: the record's own refusals, then 20 to 24.
-#[derive(Drop)]
+#[derive(Clone, Copy)]
 pub enum PlanRefusal {
     InRecord(Refusal),
     NodesWrong,
@@ -30,7 +31,7 @@ pub enum PlanRefusal {
 }
 
 // A plan, none, or a refusal.
-#[derive(Drop)]
+#[derive(Clone, Copy)]
 pub enum PlanAnswer {
     Solved(Solution, Counts),
     Unsolvable(Counts),
@@ -38,7 +39,7 @@ pub enum PlanAnswer {
 }
 
 // Why no prices are given: the record's own refusals, then 12, 21, 13.
-#[derive(Drop)]
+#[derive(Clone, Copy)]
 pub enum PriceRefusal {
     InRecord(Refusal),
     PathWrong,
@@ -47,14 +48,14 @@ pub enum PriceRefusal {
 }
 
 // How many prices were written, or why none.
-#[derive(Drop)]
+#[derive(Clone, Copy)]
 pub enum PriceAnswer {
     Prices(usize),
     Refused(PriceRefusal),
 }
 
 // An answer of the planner in numbers.
-#[derive(Drop)]
+#[derive(Clone, Copy)]
 pub struct Told {
     pub number: u32,
     pub length: u64,
@@ -64,7 +65,7 @@ pub struct Told {
 }
 
 // An answer of the pricer in numbers.
-#[derive(Drop)]
+#[derive(Clone, Copy)]
 pub struct PricesTold {
     pub number: u32,
     pub count: u64,

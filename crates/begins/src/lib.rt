@@ -1,4 +1,5 @@
 // The begin of a layer behind a centre action, and what makes it cheap: only leaves that the action moves pass, and an action that is stuck makes none.
+#![tactic(auto)]
 ghost use Rattle.std.specs.Prelude.{◌≡◌, ◌++◌, ℕ, ◌+◌, ◌*◌, ◌≤◌, ◌<◌, length, get_or, take, drop};
 ghost use Rattle.leaf.specs.Price.{mark};
 ghost use Rattle.leaf.specs.Pass.{pass};
@@ -16,7 +17,7 @@ use rows::sign_of;
 use words::copy_words;
 
 // The key and the signature of a layer's begin.
-#[derive(Drop)]
+#[derive(Clone, Copy)]
 pub struct Begun {
     pub key: u64,
     pub sign: u64,

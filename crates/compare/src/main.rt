@@ -5,6 +5,7 @@
 // run. The plain planner is a uniform-cost search over whole states by the published meaning of a task; of the planner's code it uses the
 // record reader alone. A line ends in DIFFERENT where the costs differ, or where a plan does not carry out for the cost that its answer
 // states, or where the bytes behind the plan are not as they were.
+#![tactic(auto)]
 ghost use Rattle.std.specs.Prelude.{◌≡◌, ◌+◌, ◌<◌, ◌≤◌, length};
 ghost use Rattle.task.specs.Valid.{Valid};
 
@@ -501,7 +502,7 @@ fn run_planner(t: Task, rec: &[u8], plain: u64) -> bool
 // ---- the run
 
 // What came of a call: the end of the input; a task that was not planned; one with a plan and one without, each with whether the planners agree.
-#[derive(Drop)]
+#[derive(Clone, Copy)]
 enum Outcome {
     End,
     Left,
@@ -510,7 +511,7 @@ enum Outcome {
 }
 
 // The totals of a run.
-#[derive(Drop)]
+#[derive(Clone, Copy)]
 struct Totals {
     tasks: u64,
     solved: u64,

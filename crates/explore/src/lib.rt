@@ -1,4 +1,5 @@
 // The exploration over the lent table.
+#![tactic(auto)]
 ghost use Rattle.std.specs.Prelude.{◌≡◌, ℕ, ◌+◌, ◌*◌, ◌≤◌, ◌<◌, length, get_or};
 ghost use Rattle.task.specs.declared.Task.{Task};
 ghost use Rattle.task.specs.Factors.{all_states};
@@ -30,21 +31,21 @@ use stills::{still_actions, still_leaves};
 use task::{Centre, Task};
 
 // Why a search stops.
-#[derive(Drop)]
+#[derive(Clone, Copy)]
 pub enum Why {
     Finished,
     TableFull,
     BudgetSpent,
 }
 
-#[derive(Drop)]
+#[derive(Clone, Copy)]
 pub struct Stop {
     pub why: Why,
     pub run: Run,
 }
 
 // What a round gives: the search stops, or it goes on.
-#[derive(Drop)]
+#[derive(Clone, Copy)]
 pub enum Round {
     Stops(Stop),
     Goes(Run),

@@ -1,4 +1,5 @@
 // The fields of a task record, most significant bit first, and what a record can be refused for.
+#![tactic(auto)]
 ghost use Rattle.std.specs.Prelude.{◌≡◌, ◌&&◌, ◌+◌, ◌*◌, ◌<◌, ◌≤◌, ◌^◌, eqb, length};
 ghost use Rattle.fields.specs.Fields.{field_of, next_field, ends_at, fill_of};
 ghost use Rattle.fields.specs.Answers.{number_of, field_told};
@@ -30,7 +31,7 @@ pub const VARIABLE: usize = 9;
 pub const VALUE: usize = 10;
 
 // Why a record is refused, in the order of the numbers 1 to 11.
-#[derive(Drop)]
+#[derive(Clone, Copy)]
 pub enum Refusal {
     RecordEnds,
     SizeOne,
@@ -65,7 +66,7 @@ pub fn number(r: Refusal) -> u8
 }
 
 // A field's number and the bit behind it, or that the record ends inside the field.
-#[derive(Drop)]
+#[derive(Clone, Copy)]
 pub enum FieldRead {
     Bits(u16, usize),
     Ends,

@@ -1,4 +1,5 @@
 // The later parts of a task record, field by field: lists of pairs, and actions. Refusals 1 and 5 to 7 come here, each at its field.
+#![tactic(auto)]
 ghost use Rattle.std.specs.Prelude.{◌≡◌, ◌+◌, ◌*◌, ◌<◌, ◌≤◌, ◌^◌, length};
 ghost use Rattle.fields.specs.Fields.{next_field};
 ghost use Rattle.parts.specs.Elsewhere.{Elsewhere};
@@ -10,14 +11,14 @@ use fields::{DISTANCE, FieldRead, HANDLING, PAIRS, Refusal, VALUE, VARIABLE, fie
 use parts::Place;
 
 // A pair's variable and value, and the bit behind it.
-#[derive(Drop)]
+#[derive(Clone, Copy)]
 pub enum PairRead {
     Is(u8, u8, usize),
     Refused(Refusal),
 }
 
 // An action's handling and distance, and the bit behind them.
-#[derive(Drop)]
+#[derive(Clone, Copy)]
 pub enum CostsRead {
     Are(u16, u16, usize),
     Ends,

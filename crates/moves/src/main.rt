@@ -5,6 +5,7 @@
 // counts both. The last line counts the moves of all leaves and says whether the goal holds at the end.
 //
 // The record stands on standard input; where the command names files, each of them holds one.
+#![tactic(auto)]
 ghost use Rattle.std.specs.Prelude.{◌≡◌, ◌+◌, ◌≤◌, length};
 ghost use Rattle.task.specs.Valid.{Valid};
 
@@ -23,7 +24,7 @@ const WORDS: usize = 131072;
 const BUDGET: u32 = 4096;
 
 // The moves of a leaf: how many are planned, and how many were made.
-#[derive(Drop)]
+#[derive(Clone, Copy)]
 struct Tally {
     planned: u64,
     made: u64,

@@ -1,4 +1,5 @@
 // A successor is offered to the search that the lent table holds: dropped, refused for a full table, or settled and kept.
+#![tactic(auto)]
 ghost use Rattle.std.specs.Prelude.{◌≡◌, false, ◌++◌, ◌+◌, ◌*◌, ◌≤◌, ◌<◌, length, get_or, take, drop};
 ghost use Rattle.layer.specs.Board.{Sound, settled_on};
 ghost use Rattle.layer.specs.First.{Firsts};
@@ -22,7 +23,7 @@ use task::Centre;
 use words::copy_words;
 
 // The search beside its table: nodes kept, expansions begun, one more than best's node (0 for none), best's goal cost (the mark for none).
-#[derive(Drop)]
+#[derive(Clone, Copy)]
 pub struct Run {
     pub count: usize,
     pub begun: usize,
@@ -31,7 +32,7 @@ pub struct Run {
 }
 
 // Whether the table was full, and the search to go on with.
-#[derive(Drop)]
+#[derive(Clone, Copy)]
 pub struct Turned {
     pub full: bool,
     pub run: Run,

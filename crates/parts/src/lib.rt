@@ -1,4 +1,5 @@
 // The first parts of a task record, field by field: head and variables, with the grammar of all parts. Refusals 1 to 4 come here, each at its field.
+#![tactic(auto)]
 ghost use Rattle.std.specs.Prelude.{◌≡◌, ◌+◌, ◌*◌, ◌<◌, ◌≤◌, ◌^◌, length};
 ghost use Rattle.fields.specs.Fields.{next_field};
 ghost use Rattle.parts.specs.Elsewhere.{Elsewhere};
@@ -8,21 +9,21 @@ ghost use Rattle.parts.specs.Told.{head_told, variable_told, place_told, place_o
 use fields::{ACTIONS, FACTOR, FieldRead, INITIAL, LEAVES, Refusal, SIZE, VARIABLES, field};
 
 // How many variables, leaves and actions there are, and the bit behind the head.
-#[derive(Drop)]
+#[derive(Clone, Copy)]
 pub enum HeadRead {
     Is(u8, u8, u8, usize),
     Refused(Refusal),
 }
 
 // A variable's size, factor and initial value, and the bit behind it.
-#[derive(Drop)]
+#[derive(Clone, Copy)]
 pub enum VariableRead {
     Is(u8, u8, u8, usize),
     Refused(Refusal),
 }
 
 // The bit behind what was read into lent slices.
-#[derive(Drop)]
+#[derive(Clone, Copy)]
 pub enum Place {
     At(usize),
     Refused(Refusal),

@@ -1,4 +1,5 @@
 // Paths of centre actions: whether one fits a task, and the layers along it to the last.
+#![tactic(auto)]
 ghost use Rattle.std.specs.Prelude.{◌≡◌, ℕ, ◌<◌, ◌≤◌, length, get_or, take, replicate};
 ghost use Rattle.task.specs.Factors.{all_states};
 ghost use Rattle.task.specs.Valid.{Valid};
@@ -16,7 +17,7 @@ use task::{Centre, Task};
 use words::copy_words;
 
 // Where a path ends: whether all its actions applied, and the last centre state.
-#[derive(Drop)]
+#[derive(Clone, Copy)]
 pub struct Walked {
     pub ends: bool,
     pub spot: Centre,

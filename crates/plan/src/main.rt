@@ -1,4 +1,5 @@
 // Plans the task whose record stands on standard input, and prints the answer.
+#![tactic(auto)]
 use libc::STDIN_FILENO;
 use report::print_answer;
 

@@ -1,6 +1,7 @@
 // Plans the records on standard input one after the other, and prints of each what the program `plan` would.
 //
 // A record stands there behind its length, which has two bytes, the more significant one first. The end of the input ends the run.
+#![tactic(auto)]
 ghost use Rattle.std.specs.Prelude.{◌≤◌};
 
 use libc::STDIN_FILENO;

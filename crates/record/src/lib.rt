@@ -1,4 +1,5 @@
 // The record reader: for every byte string the task that it writes down, or the one refusal of 1 to 11 that it meets first.
+#![tactic(auto)]
 ghost use Rattle.std.specs.Prelude.{◌≡◌, ◌+◌, ◌*◌, ◌<◌, ◌≤◌, ◌^◌, length, get_or};
 ghost use Rattle.task.specs.declared.Task.{Task};
 ghost use Rattle.task.specs.Valid.{Valid};
@@ -14,7 +15,7 @@ use task::{FREE, Task};
 use whole::{Verdict, whole};
 
 // What reading a record gives: the verdict and, where it is "accepted", the task; else a blank one.
-#[derive(Drop)]
+#[derive(Clone, Copy)]
 pub struct TaskRead {
     pub verdict: Verdict,
     pub task: Task,

@@ -1,4 +1,5 @@
 // The task as the reader hands it over, and the centre state. What a task means stands in specs/: Meaning first, then Factors.
+#![tactic(auto)]
 ghost use Rattle.std.specs.Prelude.{◌≡◌, cond, ◌&&◌, eqb, get_or};
 ghost use Rattle.task.specs.Factors.{named};
 ghost use Rattle.task.specs.Centre.{blank_centre, centre_after};
@@ -8,7 +9,7 @@ pub const FREE: u8 = 16;
 
 // A task. Entries behind the last variable or action hold one fixed value: 0, or 16 in factors, goal, conditions and effects.
 // What an action names of variable v stands at 32 times the action plus v.
-#[derive(Drop)]
+#[derive(Clone, Copy)]
 pub struct Task {
     pub variables: u8,
     pub leaves: u8,
@@ -24,7 +25,7 @@ pub struct Task {
 }
 
 // A centre state: the value of each centre variable at its number, 0 elsewhere.
-#[derive(Drop)]
+#[derive(Clone, Copy)]
 pub struct Centre {
     pub values: [u8; 32],
 }

@@ -1,5 +1,6 @@
 // The walk back of one leaf inside one layer: from a state to one that has kept the price that the layer began with, by actions at the right
 // price, each written into the plan as it is met.
+#![tactic(auto)]
 ghost use Rattle.std.specs.Prelude.{◌≡◌, ◌⊎◌, cond, ◌&&◌, ℕ, suc, ◌+◌, ◌*◌, ◌<◌, ◌≤◌, ltb, eqb, length, get_or, drop, replicate};
 ghost use Rattle.leaf.specs.Price.{mark};
 ghost use Rattle.edges.specs.Edges.{edges_at};
@@ -16,7 +17,7 @@ use leaf::MARK;
 use sweeps::settle_along;
 
 // Where a walk back ends: the state, and the place of the next action.
-#[derive(Drop)]
+#[derive(Clone, Copy)]
 pub struct Ended {
     pub state: usize,
     pub place: usize,

@@ -1,4 +1,5 @@
 // What is tested over the whole of a task, once its fields are read: refusals 9, 10 and 11, in this order.
+#![tactic(auto)]
 ghost use Rattle.std.specs.Prelude.{◌≡◌, not, ◌&&◌, ◌||◌, ◌*◌, ◌+◌, ◌≤◌, min, eqb, length, get_or};
 ghost use Rattle.loops.specs.Count.{any};
 ghost use Rattle.task.specs.Factors.{named, touches, within, leaf_pairs, star_pairs, states_to};
@@ -8,7 +9,7 @@ use fields::Refusal;
 use task::FREE;
 
 // A task is accepted, or its record is refused.
-#[derive(Drop)]
+#[derive(Clone, Copy)]
 pub enum Verdict {
     Accepted,
     Refused(Refusal),

@@ -1,4 +1,5 @@
 // Lent words, copied and zeroed.
+#![tactic(auto)]
 ghost use Rattle.std.specs.Prelude.{◌≡◌, ◌++◌, ◌≤◌, length, take, drop, replicate};
 
 // The first `count` words of `from`, at the front of `into`.
