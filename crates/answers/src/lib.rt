@@ -1,5 +1,6 @@
 // What the planner and the pricer answer, and each answer in the paper's numbers.
 #![tactic(auto)]
+
 ghost use Rattle.std.specs.Prelude.{◌≡◌};
 ghost use Rattle.answers.specs.Told.{plan_refusal_number, plan_told, price_refusal_number, price_told};
 

@@ -1,5 +1,6 @@
 // The begin of a layer behind a centre action, and what makes it cheap: only leaves that the action moves pass, and an action that is stuck makes none.
 #![tactic(auto)]
+
 ghost use Rattle.std.specs.Prelude.{◌≡◌, ◌++◌, ℕ, ◌+◌, ◌*◌, ◌≤◌, ◌<◌, length, get_or, take, drop};
 ghost use Rattle.leaf.specs.Price.{mark};
 ghost use Rattle.leaf.specs.Pass.{pass};

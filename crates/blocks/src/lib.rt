@@ -1,5 +1,6 @@
 // The blocks of open keys: keys are stored and retired, and the next node is chosen.
 #![tactic(auto)]
+
 ghost use Rattle.std.specs.Prelude.{◌≡◌, ◌+◌, ◌*◌, ◌≤◌, ◌<◌, cond, ltb, length, drop};
 ghost use Rattle.leaf.specs.Price.{mark};
 ghost use Rattle.blocks.specs.Choice.{choose_by};

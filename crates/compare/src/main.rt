@@ -6,6 +6,7 @@
 // record reader alone. A line ends in DIFFERENT where the costs differ, or where a plan does not carry out for the cost that its answer
 // states, or where the bytes behind the plan are not as they were.
 #![tactic(auto)]
+
 ghost use Rattle.std.specs.Prelude.{◌≡◌, ◌+◌, ◌<◌, ◌≤◌, length};
 ghost use Rattle.task.specs.Valid.{Valid};
 

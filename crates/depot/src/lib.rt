@@ -1,5 +1,6 @@
 // The library that a controller links. Every call is answered; the contracts are those of the planner and the pricer, in numbers and words.
 #![tactic(auto)]
+
 ghost use Rattle.std.specs.Prelude.{◌≡◌, List, ℕ, ◌≤◌};
 ghost use Rattle.task.specs.Factors.{all_states};
 ghost use Rattle.task.specs.Valid.{Valid};

@@ -1,5 +1,6 @@
 // Detours: a hop behind a hop that goes back, or in place of which one hop goes all the way at no higher cost. What it makes is dealt with already.
 #![tactic(auto)]
+
 ghost use Rattle.std.specs.Prelude.{◌≡◌, ℕ, ◌+◌, ◌*◌, ◌≤◌, ◌<◌, length, get_or};
 ghost use Rattle.detours.specs.Detours.{detours, detours_from, kept_of, kept_in, same_front, hop_behind};
 

@@ -1,5 +1,6 @@
 // What an action makes of each state of a leaf, a digit more for each of the leaf's variables; from this the rows of the table of moves.
 #![tactic(auto)]
+
 ghost use Rattle.std.specs.Prelude.{◌≡◌, ℕ, suc, ◌*◌, ◌+◌, ◌<◌, ◌≤◌, length, get_or};
 ghost use Rattle.task.specs.Meaning.{met};
 ghost use Rattle.task.specs.Factors.{states_to};

@@ -1,6 +1,7 @@
 // Whether the node of a row dominates another: the same centre state, no higher centre cost and no higher price anywhere. Where there are many states, those
 // that the other reaches are listed first.
 #![tactic(auto)]
+
 ghost use Rattle.std.specs.Prelude.{◌≡◌, ◌+◌, ◌≤◌, ◌<◌, eqb, length, take};
 ghost use Rattle.loops.specs.Count.{all};
 ghost use Rattle.task.specs.Centre.{value_in};

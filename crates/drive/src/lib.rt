@@ -1,5 +1,6 @@
 // Drive times: how long the carriage takes for a distance, and then holds still before the tray may move, looked up in one constant table.
 #![tactic(auto)]
+
 ghost use Rattle.std.specs.Prelude.{◌≡◌};
 ghost use Rattle.drive.specs.Drive.{DriveRule, drive_time};
 

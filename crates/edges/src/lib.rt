@@ -1,5 +1,6 @@
 // The edges of each leaf state: the leaf actions that move it, in a table made once.
 #![tactic(auto)]
+
 ghost use Rattle.std.specs.Prelude.{◌≡◌, ℕ, ◌+◌, ◌*◌, ◌<◌, ◌≤◌, length, get_or, set};
 ghost use Rattle.layer.specs.Board.{Sound};
 ghost use Rattle.layer.specs.Lent.{Front, board_of};

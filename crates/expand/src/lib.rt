@@ -1,5 +1,6 @@
 // One node's expansion over the lent table: the actions that need a turn, and their turns.
 #![tactic(auto)]
+
 ghost use Rattle.std.specs.Prelude.{◌≡◌, true, ◌+◌, ◌*◌, ◌≤◌, ◌<◌, length, get_or, take};
 ghost use Rattle.layer.specs.Board.{Sound, met_on};
 ghost use Rattle.layer.specs.First.{Firsts};

@@ -1,5 +1,6 @@
 // The fields of a task record, most significant bit first, and what a record can be refused for.
 #![tactic(auto)]
+
 ghost use Rattle.std.specs.Prelude.{◌≡◌, ◌&&◌, ◌+◌, ◌*◌, ◌<◌, ◌≤◌, ◌^◌, eqb, length};
 ghost use Rattle.fields.specs.Fields.{field_of, next_field, ends_at, fill_of};
 ghost use Rattle.fields.specs.Answers.{number_of, field_told};

@@ -1,5 +1,6 @@
 // Hops: centre actions that move one centre variable and leave all leaves alone, such as the drives of a carriage.
 #![tactic(auto)]
+
 ghost use Rattle.std.specs.Prelude.{◌≡◌, ℕ, ◌+◌, ◌*◌, ◌≤◌, ◌<◌, length, get_or};
 ghost use Rattle.layer.specs.Board.{Sound};
 ghost use Rattle.layer.specs.First.{Firsts};

@@ -1,5 +1,6 @@
 // What is read from prices: least prices, keys and goal costs.
 #![tactic(auto)]
+
 ghost use Rattle.std.specs.Prelude.{◌≡◌, ◌+◌, ◌*◌, ◌≤◌, ◌<◌, min, length, take};
 ghost use Rattle.search.specs.Node.{least_of};
 ghost use Rattle.keys.specs.Scan.{Cut, goals_by, key_by, goal_sum_by, goal_cost_by};

@@ -1,5 +1,6 @@
 // Layers: the prices of all leaves. A layer begins with what comes through a centre action, and settles by the leaf actions that its centre enables.
 #![tactic(auto)]
+
 ghost use Rattle.std.specs.Prelude.{◌≡◌, not, ◌&&◌, ◌||◌, [], ◌++◌, ℕ, ◌+◌, ◌*◌, ◌-◌, ◌<◌, ◌≤◌, eqb, length, get_or, drop, replicate};
 ghost use Rattle.loops.specs.Count.{list};
 ghost use Rattle.task.specs.Meaning.{met};

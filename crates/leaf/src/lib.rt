@@ -1,5 +1,6 @@
 // The prices of one leaf: sums and the lower of two, and how they pass over a centre action.
 #![tactic(auto)]
+
 ghost use Rattle.std.specs.Prelude.{◌≡◌, not, ◌&&◌, ℕ, ◌+◌, ◌<◌, ◌≤◌, min, ltb, eqb, length, get_or, replicate};
 ghost use Rattle.loops.specs.Count.{any};
 ghost use Rattle.leaf.specs.Price.{mark};

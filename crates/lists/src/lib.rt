@@ -1,5 +1,6 @@
 // The later parts of a task record, field by field: lists of pairs, and actions. Refusals 1 and 5 to 7 come here, each at its field.
 #![tactic(auto)]
+
 ghost use Rattle.std.specs.Prelude.{◌≡◌, ◌+◌, ◌*◌, ◌<◌, ◌≤◌, ◌^◌, length};
 ghost use Rattle.fields.specs.Fields.{next_field};
 ghost use Rattle.parts.specs.Elsewhere.{Elsewhere};

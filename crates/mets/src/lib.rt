@@ -4,6 +4,7 @@
 // how many actions are listed, and from 320 on those whose flag is set, by rising number. A centre state has its slot by its class; the last one that came
 // to a slot stands there.
 #![tactic(auto)]
+
 ghost use Rattle.std.specs.Prelude.{◌≡◌, Bool, cond, true, ℕ, ◌+◌, ◌≤◌, ◌<◌, length, get_or};
 ghost use Rattle.layer.specs.Board.{met_on};
 ghost use Rattle.layer.specs.First.{Firsts, asks_of};

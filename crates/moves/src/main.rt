@@ -6,6 +6,7 @@
 //
 // The record stands on standard input; where the command names files, each of them holds one.
 #![tactic(auto)]
+
 ghost use Rattle.std.specs.Prelude.{◌≡◌, ◌+◌, ◌≤◌, length};
 ghost use Rattle.task.specs.Valid.{Valid};
 

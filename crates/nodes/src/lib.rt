@@ -1,5 +1,6 @@
 // What the search scans: chains of nodes, and the node that dominates.
 #![tactic(auto)]
+
 ghost use Rattle.std.specs.Prelude.{◌≡◌, ◌+◌, ◌*◌, ◌≤◌, ◌<◌, length, take};
 ghost use Rattle.rows.specs.Reach.{Reaches};
 ghost use Rattle.rows.specs.Row.{row_in, node_in, node_with, Packed, Tested};

@@ -1,5 +1,6 @@
 // A successor is offered to the search that the lent table holds: dropped, refused for a full table, or settled and kept.
 #![tactic(auto)]
+
 ghost use Rattle.std.specs.Prelude.{◌≡◌, false, ◌++◌, ◌+◌, ◌*◌, ◌≤◌, ◌<◌, length, get_or, take, drop};
 ghost use Rattle.layer.specs.Board.{Sound, settled_on};
 ghost use Rattle.layer.specs.First.{Firsts};

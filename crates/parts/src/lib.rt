@@ -1,5 +1,6 @@
 // The first parts of a task record, field by field: head and variables, with the grammar of all parts. Refusals 1 to 4 come here, each at its field.
 #![tactic(auto)]
+
 ghost use Rattle.std.specs.Prelude.{◌≡◌, ◌+◌, ◌*◌, ◌<◌, ◌≤◌, ◌^◌, length};
 ghost use Rattle.fields.specs.Fields.{next_field};
 ghost use Rattle.parts.specs.Elsewhere.{Elsewhere};

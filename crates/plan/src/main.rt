@@ -1,5 +1,6 @@
 // Plans the task whose record stands on standard input, and prints the answer.
 #![tactic(auto)]
+
 use libc::STDIN_FILENO;
 use report::print_answer;
 

@@ -2,6 +2,7 @@
 //
 // A record stands there behind its length, which has two bytes, the more significant one first. The end of the input ends the run.
 #![tactic(auto)]
+
 ghost use Rattle.std.specs.Prelude.{◌≤◌};
 
 use libc::STDIN_FILENO;

@@ -1,5 +1,6 @@
 // The planner: a plan of least cost, "unsolvable", or one numbered refusal. Here stands what comes in front of the search, which is the crate solve's.
 #![tactic(auto)]
+
 ghost use Rattle.std.specs.Prelude.{◌≡◌};
 ghost use Rattle.task.specs.Valid.{Valid};
 ghost use Rattle.record.specs.Record.{read_record};

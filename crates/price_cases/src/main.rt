@@ -7,6 +7,7 @@
 // the line of a refused one has the refusal's number. The lent words lie between other words. All of them hold a pattern before the call;
 // behind it, those outside the lent part must hold it still, and so must those behind the prices, or on a refusal all.
 #![tactic(auto)]
+
 ghost use Rattle.std.specs.Prelude.{◌≡◌, ◌<◌, ◌≤◌, length};
 
 use answers::{PriceAnswer, PriceRefusal, price_refusal_number};

@@ -1,5 +1,6 @@
 // The record reader: for every byte string the task that it writes down, or the one refusal of 1 to 11 that it meets first.
 #![tactic(auto)]
+
 ghost use Rattle.std.specs.Prelude.{◌≡◌, ◌+◌, ◌*◌, ◌<◌, ◌≤◌, ◌^◌, length, get_or};
 ghost use Rattle.task.specs.declared.Task.{Task};
 ghost use Rattle.task.specs.Valid.{Valid};

@@ -4,6 +4,7 @@
 // The line of an accepted record has the numbers of variables, leaves and actions, and a checksum over every entry of each of the task's
 // arrays, in their order in the task; the line of a refused one has the refusal's number.
 #![tactic(auto)]
+
 ghost use Rattle.std.specs.Prelude.{◌<◌, ◌≤◌};
 
 use fields::Refusal;

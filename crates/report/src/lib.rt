@@ -3,6 +3,7 @@
 //
 // Prints the plan's length, its cost and the counts, then an action to a line; or one line that says why there is no plan.
 #![tactic(auto)]
+
 use answers::{Counts, PlanAnswer, PlanRefusal, Solution, plan_refusal_number};
 use libc::STDOUT_FILENO;
 use planner::{fitting_nodes, plan};

@@ -1,5 +1,6 @@
 // Rows of nodes in the lent table, and signatures of prices.
 #![tactic(auto)]
+
 ghost use Rattle.std.specs.Prelude.{◌≡◌, ℕ, ◌+◌, ◌*◌, ◌≤◌, ◌<◌, length, get_or, take};
 ghost use Rattle.rows.specs.Four.{four_to};
 ghost use Rattle.rows.specs.Row.{spot_of, node_of, node_with, pack_of, Packed};

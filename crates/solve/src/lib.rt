@@ -1,6 +1,7 @@
 // The search over a task's tables, and its answer: a plan of least cost, "unsolvable", or one of the refusals that a search can meet. It takes a task that is valid
 // and a table with words enough; what looks at these first is the planner's. It is apart from the planner so that the check of each, and of its wrong edits, is shorter.
 #![tactic(auto)]
+
 ghost use Rattle.std.specs.Prelude.{◌≡◌, [], ◌*◌, ◌≤◌, length};
 ghost use Rattle.task.specs.Factors.{all_states};
 ghost use Rattle.task.specs.Valid.{Valid};

@@ -1,5 +1,6 @@
 // One action carried out by the published meaning: whether pairs hold of the values of a state, and the values behind an action's effects.
 #![tactic(auto)]
+
 ghost use Rattle.std.specs.Prelude.{◌≡◌, cond, ◌++◌, ◌+◌, ◌≤◌, eqb, length, get_or, drop};
 ghost use Rattle.loops.specs.Count.{list};
 ghost use Rattle.task.specs.Meaning.{free, met, holds, put};

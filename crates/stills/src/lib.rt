@@ -1,5 +1,6 @@
 // Actions that leave the states of a leaf as they are, told once for each action and leaf, and actions that leave those of all leaves.
 #![tactic(auto)]
+
 ghost use Rattle.std.specs.Prelude.{◌≡◌, ◌+◌, ◌*◌, ◌/◌, ◌≤◌, length, get_or};
 ghost use Rattle.keys.specs.Scan.{Cut};
 ghost use Rattle.stills.specs.Still.{stays_by, still_entry, still_leaves, still_by, still_actions};

@@ -1,5 +1,6 @@
 // The tables that the layers and the search work with, made once from an accepted task.
 #![tactic(auto)]
+
 ghost use Rattle.std.specs.Prelude.{◌≡◌, true, ℕ, suc, ◌*◌, ◌+◌, ◌<◌, ◌≤◌, length, get_or};
 ghost use Rattle.drive.specs.Drive.{drive_time};
 ghost use Rattle.task.specs.Factors.{number_to, star_pairs, states_to, all_states};

@@ -1,5 +1,6 @@
 // The task as the reader hands it over, and the centre state. What a task means stands in specs/: Meaning first, then Factors.
 #![tactic(auto)]
+
 ghost use Rattle.std.specs.Prelude.{◌≡◌, cond, ◌&&◌, eqb, get_or};
 ghost use Rattle.task.specs.Factors.{named};
 ghost use Rattle.task.specs.Centre.{blank_centre, centre_after};

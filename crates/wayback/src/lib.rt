@@ -1,6 +1,7 @@
 // The walk back of one leaf inside one layer: from a state to one that has kept the price that the layer began with, by actions at the right
 // price, each written into the plan as it is met.
 #![tactic(auto)]
+
 ghost use Rattle.std.specs.Prelude.{◌≡◌, ◌⊎◌, cond, ◌&&◌, ℕ, suc, ◌+◌, ◌*◌, ◌<◌, ◌≤◌, ltb, eqb, length, get_or, drop, replicate};
 ghost use Rattle.leaf.specs.Price.{mark};
 ghost use Rattle.edges.specs.Edges.{edges_at};

@@ -1,5 +1,6 @@
 // What is tested over the whole of a task, once its fields are read: refusals 9, 10 and 11, in this order.
 #![tactic(auto)]
+
 ghost use Rattle.std.specs.Prelude.{◌≡◌, not, ◌&&◌, ◌||◌, ◌*◌, ◌+◌, ◌≤◌, min, eqb, length, get_or};
 ghost use Rattle.loops.specs.Count.{any};
 ghost use Rattle.task.specs.Factors.{named, touches, within, leaf_pairs, star_pairs, states_to};

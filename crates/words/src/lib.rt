@@ -1,5 +1,6 @@
 // Lent words, copied and zeroed.
 #![tactic(auto)]
+
 ghost use Rattle.std.specs.Prelude.{◌≡◌, ◌++◌, ◌≤◌, length, take, drop, replicate};
 
 // The first `count` words of `from`, at the front of `into`.

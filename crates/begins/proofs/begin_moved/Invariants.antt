@@ -1,0 +1,23 @@
+-- `begins::begin_moved` meets its contract: each leaf is carried. The invariant: what came through of the leaves so far stands one leaf's behind the other, and behind
+-- them the old prices, which were copied first; the key has risen with their least prices. Assumes nothing.
+use Rattle.std.proofs.Common.{◌≡◌, sym, ap, ◌∙◌, List, [], ◌++◌, ℕ, ◌+◌, ◌*◌, ◌-◌, ◌≤◌, ◌<◌, arith, length, get_or, take, drop, rules}
+use Rattle.layer.specs.Board.{Board, base_on, row_on, part_on, pass_on, begin_on}
+use Rattle.layer.specs.Board.Turns.{base_in, moves_here, moves_stay, leaf_passed, part_length, Laid, laid_none, laid_more, laid_rest}
+use Rattle.layer.specs.Lent.{board_of}
+use Rattle.search.specs.Node.{least_of}
+use Rattle.begins.specs.Begin.{Risen, risen_none, risen_more, risen_laid, part_copied, rest_copied}
+use Rattle.begins.proofs.begin_moved.Given as goal
+
+-- what comes through of the leaf behind k leaves
+abbrev pub leaf : Board → ℕ → List ℕ → ℕ → List ℕ
+leaf b action old k = pass_on b k action (part_on b k old)
+
+-- factors are not looked at
+abbrev pub invariant-loop-i : goal.invariant-loop-i
+invariant-loop-i l =
+    (l.i ≤ l.leaves) × Laid (leaf (board_of l.leaves l.actions l.bases l.moves l.costs l.kinds [] l.conditions) l.action l.old) l.i (get_or l.bases l.i 0) l.initial.new l.new
+    × Risen (λ k. least_of (part_on (board_of l.leaves l.actions l.bases l.moves l.costs l.kinds [] l.conditions) k l.old))
+    (λ k. least_of (leaf (board_of l.leaves l.actions l.bases l.moves l.costs l.kinds [] l.conditions) l.action l.old k)) l.i l.low l.key
+
+abbrev pub decreases-loop-i : goal.decreases-loop-i
+decreases-loop-i l = l.leaves - l.i

@@ -1,0 +1,16 @@
+-- `begins::is_stuck` meets its contract. The invariant: the action is stuck in none of the leaves so far. Assumes nothing.
+use Rattle.std.proofs.Common.{◌≡◌, refl, Bool, false, ℕ, ◌+◌, ◌-◌, ◌*◌, ◌≤◌, ◌<◌, arith, le_antisymm, length, get_or, rules, eq-eqb, ne_eqb}
+use Rattle.loops.specs.Count.{any}
+use Rattle.loops.specs.Count.Laws.{told, any_in, any_more}
+use Rattle.layer.specs.Board.{Board, base_on, row_on}
+use Rattle.layer.specs.Board.Turns.{base_in, row_in}
+use Rattle.layer.specs.Lent.{board_of}
+use Rattle.begins.specs.Begin.{stuck_in, stuck_by}
+use Rattle.begins.proofs.is_stuck.Given as goal
+
+abbrev pub invariant-loop-i : goal.invariant-loop-i
+invariant-loop-i l =
+    (l.i ≤ l.leaves) × (any l.i (λ k. stuck_in k l.bases l.moves (l.a * get_or l.bases l.leaves 0) (get_or l.stills (l.a * 8 + k) 0) l.old) ≡ false)
+
+abbrev pub decreases-loop-i : goal.decreases-loop-i
+decreases-loop-i l = l.leaves - l.i

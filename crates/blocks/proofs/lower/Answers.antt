@@ -1,0 +1,8 @@
+-- `blocks::lower` meets its contract. Assumes nothing.
+use Rattle.std.proofs.Common.{rules}
+use Rattle.blocks.specs.Block.{lowered_to}
+use Rattle.blocks.proofs.lower.Goals as goal
+
+pub returns : goal.returns
+unfolding lowered_to
+returns c = rw c.lesser-low.ensures

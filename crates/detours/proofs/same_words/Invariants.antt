@@ -1,0 +1,12 @@
+-- `detours::same_words` meets its contract. The invariant: no bit was apart so far just where the words so far are the same. Assumes nothing.
+use Rattle.std.proofs.Common.{◌≡◌, refl, ap, ◌∙◌, ◌&&◌, ◌-◌, ◌≤◌, le_antisymm, add-one, arith, eqb, bit_xor, length, get_or, rules}
+use Rattle.loops.specs.Count.{all}
+use Rattle.detours.specs.Detours.{same_front}
+use Rattle.detours.specs.Detours.Laws.{or_none, xor_same}
+use Rattle.detours.proofs.same_words.Given as goal
+
+abbrev pub invariant-loop-j : goal.invariant-loop-j
+invariant-loop-j l = (l.j-end ≡ length l.xs) × (l.j ≤ l.j-end) × (eqb l.apart 0 ≡ all l.j (λ k. eqb (get_or l.xs k 0) (get_or l.ys k 0)))
+
+abbrev pub decreases-loop-j : goal.decreases-loop-j
+decreases-loop-j l = l.j-end - l.j

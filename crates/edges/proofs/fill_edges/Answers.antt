@@ -1,0 +1,32 @@
+use Rattle.std.proofs.Common.{◌≡◌, refl, ◌∙◌, ◌-◌, ◌≤◌, le_antisymm, arith, length, get_or, length-set, rules}
+use Rattle.layer.specs.Lent.{board_of}
+use Rattle.edges.specs.Edges.{EdgesTo}
+use Rattle.edges.specs.Edges.Fill.{edges_none}
+use Rattle.edges.proofs.fill_edges.Goals as goal
+
+pub loop-i-init : goal.loop-i-init
+loop-i-init c =
+    let a = c.args in
+    let b = board_of a.leaves a.actions a.bases.now a.moves.now a.costs.now a.kinds.now a.factors a.conditions.now in
+    (omega arith, refl, refl, rw c.requires.0.bases_first (edges_none b c.requires.0 a.edges.now a.ends.now c.requires.1 c.requires.2))
+
+pub fill_leaf-requires : goal.fill_leaf-requires
+fill_leaf-requires c =
+    (c.requires.0, c.loop-i-test.true, c.loop-i.invariant.3)
+
+pub loop-i-preserved : goal.loop-i-preserved
+loop-i-preserved c =
+    let l = c.loop-i in
+    let kept = c.fill_leaf.auto.1.1.1.1.1.1.1.1.1 in
+    (omega (arith, c.loop-i-test.true), kept.0 ∙ l.invariant.1, kept.1.0 ∙ l.invariant.2, c.fill_leaf.ensures)
+
+pub shape_of-edges : goal.shape_of-edges
+shape_of-edges c = c.loop-i.invariant.1
+
+pub shape_of-ends : goal.shape_of-ends
+shape_of-ends c = c.loop-i.invariant.2 ∙ simp length-set
+
+pub returns : goal.returns
+returns c =
+    let inv = c.loop-i.invariant in
+    record { filled = rw (le_antisymm inv.0 c.loop-i-test.false) at inv.3; lengths = (inv.1, inv.2 ∙ simp length-set) }

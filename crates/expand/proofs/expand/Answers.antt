@@ -1,0 +1,151 @@
+-- `expand::expand` meets its contract: the node's parts are read, the actions that need a turn are listed, and these have their turns. Assumes nothing.
+use Rattle.std.proofs.Common.{◌≡◌, sym, ap, ◌∙◌, ◌+◌, ◌*◌, ◌≤◌, ◌<◌, arith, length, length-take, length-drop, length-take-le, rules}
+use Rattle.layer.specs.Board.{Board, row_on}
+use Rattle.layer.specs.Lent.{board_of}
+use Rattle.expand.specs.Held.Lists.{useful_front}
+use Rattle.rows.specs.Reach.{reaches_front}
+use Rattle.rows.specs.Row.Laws.{row_in, row_word}
+use Rattle.rows.specs.Sign.{sign_of}
+use Rattle.offers.specs.Held.Laws.{row_has}
+use Rattle.expand.proofs.expand.Goals as goal
+use Rattle.expand.proofs.expand.Goals.{After-list_reached-reached, After-list_turns-many, Start}
+
+-- the Board that is lent, and node u's row, which lies within the table
+abbrev board : Start → Board
+board s =
+    let a = s.args in
+    board_of a.leaves a.actions a.bases.now a.moves.now a.costs.now a.kinds.now a.factors a.conditions.now
+
+row_fits : (s : Start) → s.args.u * (40 + row_on (board s)) + (40 + row_on (board s)) ≤ length s.args.table.now
+row_fits s =
+    let room = s.requires.1.1.1.0 in
+    let inside : s.args.u < s.args.nodes + 1 = omega (arith, s.requires.1.1.0.2, room.count_few) in
+    row_in (row_on (board s)) (s.args.nodes + 1) s.args.u s.args.table.now inside room.table_long
+
+-- the node is one of those that the scan words have room for
+inside_scan : (s : Start) → s.args.u < 4096
+inside_scan s = omega (arith, s.requires.1.1.0.2, s.requires.1.1.1.0.count_few, s.requires.1.1.1.0.few_nodes)
+
+-- the list lies within the room for it
+listed_in : (c : After-list_turns-many) → c.list_turns-many.result ≤ length c.list_turns-many.new.mets
+listed_in c =
+    let m = c.list_turns-many in
+    let kept : length m.new.1.1.1.1.1.1.1.1.1.1.1.1.1.1.1.1.1.0 ≡ length c.args.mets.now = m.auto.1.1.1.1.1.1.1.1.1.1.1.1.1.1.1.1.1.0 in
+    omega (arith, c.requires.1.0.4, m.ensures.1)
+
+-- the list of the states that the node reaches lies within the room for it
+reached_in : (c : After-list_reached-reached) → c.list_reached-reached.result ≤ length c.list_reached-reached.new.list
+reached_in c =
+    let kept : length c.list_reached-reached.new.list ≡ length c.args.list.now = c.list_reached-reached.ensures.lengths in
+    omega (arith, c.requires.1.1.1.1.2, c.list_reached-reached.ensures.listed.0)
+
+pub overflow_mul-at : goal.overflow_mul-at
+overflow_mul-at c = omega (arith, c.well-formed, row_fits (goal.at.overflow_mul-at c).Start)
+
+pub overflow_add-end : goal.overflow_add-end
+overflow_add-end c = omega (arith, c.well-formed, row_fits (goal.at.overflow_add-end c).Start)
+
+pub offset_bounds-table-at : goal.offset_bounds-table-at
+offset_bounds-table-at c = omega (arith, c.well-formed, row_fits (goal.at.offset_bounds-table-at c).Start)
+
+pub slice_bounds-read_spot-end : goal.slice_bounds-read_spot-end
+slice_bounds-read_spot-end c = omega (arith, c.well-formed, row_fits (goal.at.slice_bounds-read_spot-end c).Start)
+
+pub overflow_add-paid : goal.overflow_add-paid
+overflow_add-paid c = omega (arith, c.well-formed, row_fits (goal.at.overflow_add-paid c).Start)
+
+pub offset_bounds-table-at-2 : goal.offset_bounds-table-at-2
+offset_bounds-table-at-2 c = omega (arith, c.well-formed, row_fits (goal.at.offset_bounds-table-at-2 c).Start)
+
+pub bounds-table-at : goal.bounds-table-at
+bounds-table-at c = omega (arith, c.well-formed, row_fits (goal.at.bounds-table-at c).Start)
+
+pub overflow_add-sign : goal.overflow_add-sign
+overflow_add-sign c = omega (arith, c.well-formed, row_fits (goal.at.overflow_add-sign c).Start)
+
+pub offset_bounds-table-at-3 : goal.offset_bounds-table-at-3
+offset_bounds-table-at-3 c = omega (arith, c.well-formed, row_fits (goal.at.offset_bounds-table-at-3 c).Start)
+
+pub bounds-table-at-2 : goal.bounds-table-at-2
+bounds-table-at-2 c = omega (arith, c.well-formed, row_fits (goal.at.bounds-table-at-2 c).Start)
+
+pub overflow_add-at : goal.overflow_add-at
+overflow_add-at c = omega (arith, c.well-formed, row_fits (goal.at.overflow_add-at c).Start)
+
+pub offset_bounds-table-at-4 : goal.offset_bounds-table-at-4
+offset_bounds-table-at-4 c = omega (arith, c.well-formed, row_fits (goal.at.offset_bounds-table-at-4 c).Start)
+
+pub slice_bounds-copy_words-end : goal.slice_bounds-copy_words-end
+slice_bounds-copy_words-end c = omega (arith, c.well-formed, row_fits (goal.at.slice_bounds-copy_words-end c).Start)
+
+pub copy_words-requires : goal.copy_words-requires
+copy_words-requires c =
+    (simp (length-take, length-drop) (omega (arith, row_fits (goal.at.copy_words-requires c).Start)), omega (arith, c.requires.1.1.1.1.0, c.requires.0.few_all))
+
+pub list_turns-many-requires : goal.list_turns-many-requires
+list_turns-many-requires c =
+    let w = c.copy_words in
+    let long : length w.new.1.0 ≡ 1024 = w.auto.1.0 ∙ c.requires.1.1.1.1.0 in
+    record { sound = c.requires.0; firsts = (c.requires.1.0.1, c.requires.1.0.3, c.requires.1.0.6, c.requires.1.0.7); mets_len = (c.requires.1.0.4, long, inside_scan (goal.at.list_turns-many-requires c).Start, row_fits (goal.at.list_turns-many-requires c).Start) }
+
+pub list_reached-reached-requires : goal.list_reached-reached-requires
+list_reached-reached-requires c =
+    let w = c.copy_words in
+    let long : length w.new.1.0 ≡ 1024 = w.auto.1.0 ∙ c.requires.1.1.1.1.0 in
+    (c.requires.1.1.1.1.2, c.requires.0.few_all, omega (arith, c.requires.0.few_all))
+
+pub slice_bounds-turns-end : goal.slice_bounds-turns-end
+slice_bounds-turns-end c = listed_in (goal.at.slice_bounds-turns-end c).After-list_turns-many
+
+pub slice_bounds-turns-end-2 : goal.slice_bounds-turns-end-2
+slice_bounds-turns-end-2 c = sym (length-take-le c.list_turns-many.result c.list_turns-many.new.mets (listed_in (goal.at.slice_bounds-turns-end-2 c).After-list_turns-many))
+
+pub slice_bounds-turns-end-3 : goal.slice_bounds-turns-end-3
+slice_bounds-turns-end-3 c = reached_in (goal.at.slice_bounds-turns-end-3 c).After-list_reached-reached
+
+pub slice_bounds-turns-end-4 : goal.slice_bounds-turns-end-4
+slice_bounds-turns-end-4 c = sym (length-take-le c.list_reached-reached.result c.list_reached-reached.new.list (reached_in (goal.at.slice_bounds-turns-end-4 c).After-list_reached-reached))
+
+pub turns-requires : goal.turns-requires
+turns-requires c =
+    let r = c.read_spot-spot in
+    let w = c.copy_words in
+    let m = c.list_turns-many in
+    let useful = useful_front _ _ _ _ _ _ m.result m.new.1.1.1.1.1.1.1.1.1.1.1.1.1.1.1.1.1.0 (listed_in (goal.at.turns-requires c).After-list_turns-many) m.ensures.2 in
+    let long : length w.new.1.0 ≡ 1024 = w.auto.1.0 ∙ c.requires.1.1.1.1.0 in
+    let has = row_has (row_on (board (goal.at.turns-requires c).Start)) c.args.u c.args.table.now r.result w.new.1.0 _ (row_fits (goal.at.turns-requires c).Start) r.ensures w.ensures in
+    let sign =
+    sym (row_word (row_on (board (goal.at.turns-requires c).Start)) c.args.u c.args.table.now 39 (omega arith))
+    ∙ c.requires.1.1.1.0.chained.signs c.args.u c.requires.1.1.0.2 ∙ ap sign_of has.prices_is in record {
+      sound = c.requires.0;
+      still = (c.requires.1.0.0, c.requires.1.0.1, c.requires.1.0.2, m.ensures.0, useful, c.requires.1.0.5);
+      effects_len = (
+        c.requires.1.1.0.0,
+        c.requires.1.1.0.1,
+        long,
+        c.requires.1.1.1.1.1,
+        c.requires.1.1.0.2,
+        λ l. reaches_front (row_on (board (goal.at.turns-requires c).Start)) w.new.1.0 c.list_reached-reached.new.list c.list_reached-reached.result (reached_in (goal.at.turns-requires c).After-list_reached-reached) (c.list_reached-reached.ensures.listed.1 l),
+        c.requires.1.1.1.1.3,
+      );
+      sign_value = (sign, has);
+      room = c.requires.1.1.1.0;
+    }
+
+pub shape_of-known : goal.shape_of-known
+shape_of-known c = c.turns.auto.known ∙ c.list_turns-many.auto.known
+
+pub shape_of-mets : goal.shape_of-mets
+shape_of-mets c = c.list_turns-many.auto.mets
+
+pub shape_of-old : goal.shape_of-old
+shape_of-old c = c.copy_words.auto.into
+
+pub shape_of-list : goal.shape_of-list
+shape_of-list c = c.list_reached-reached.auto.list
+
+pub shape_of-room : goal.shape_of-room
+shape_of-room c = c.turns.auto.room
+
+pub returns : goal.returns
+returns c = let e = c.turns.ensures in record { grown = e.0; expanded = e.1.0; known = e.1.1; lengths = (same-length-4 c, same-length-5 c, same-length-6 c, same-length-7 c, same-length-8 c) }

@@ -1,0 +1,13 @@
+-- `hops::list_hops` meets its contract. The invariant: the actions so far have their words. Assumes nothing.
+use Rattle.std.proofs.Common.{◌≡◌, refl, ap, ap₂, ◌∙◌, List, ℕ, ◌-◌, ◌≤◌, ◌<◌, le_antisymm, arith, length, set}
+use Rattle.loops.specs.Count.{list}
+use Rattle.stills.specs.Still.{padded, padded_length, padded_more}
+use Rattle.hops.specs.Hops.{hop_word, hops_by}
+use Rattle.hops.proofs.list_hops.Given as goal
+
+abbrev pub invariant-loop-a : goal.invariant-loop-a
+invariant-loop-a l =
+    (l.a ≤ l.actions) × (l.hops ≡ padded 256 l.a (hop_word l.kinds l.conditions l.effects l.firsts l.still))
+
+abbrev pub decreases-loop-a : goal.decreases-loop-a
+decreases-loop-a l = l.actions - l.a

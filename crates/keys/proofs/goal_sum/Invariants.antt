@@ -1,0 +1,20 @@
+-- `keys::goal_sum` meets its contract. The invariant: the centre cost and the least price of a goal state of each leaf so far, at most the
+-- mark. Assumes nothing.
+use Rattle.std.proofs.Common.{◌≡◌, sym, ◌∙◌, List, ℕ, ◌+◌, ◌-◌, ◌≤◌, min, arith, length, rules}
+use Rattle.loops.specs.Count as count
+use Rattle.leaf.specs.Price.{mark}
+use Rattle.layer.specs.Board.Turns.{part_length}
+use Rattle.search.specs.Node.{least_of}
+use Rattle.keys.specs.Scan.{part_by, goals_by, goal_sum_by}
+use Rattle.keys.specs.Scan.Laws.{Inside, cut_in, capped_more, capped_full}
+use Rattle.keys.proofs.goal_sum.Given as goal
+
+-- the sum over the first i leaves
+abbrev pub sum_to : List ℕ → List ℕ → ℕ → List ℕ → ℕ → ℕ
+sum_to bases goals paid prices i = min (paid + count.sum i (λ k. least_of (goals_by (part_by bases k goals) (part_by bases k prices)))) mark
+
+abbrev pub invariant-loop-i : goal.invariant-loop-i
+invariant-loop-i l = (l.i ≤ l.leaves) × (l.sum ≡ sum_to l.bases l.goals l.paid l.prices l.i)
+
+abbrev pub decreases-loop-i : goal.decreases-loop-i
+decreases-loop-i l = l.leaves - l.i

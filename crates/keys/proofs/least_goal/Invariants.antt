@@ -1,0 +1,14 @@
+-- `keys::least_goal` meets its contract. The invariant: `low` is the least price of the goal states so far. Assumes nothing.
+use Rattle.std.proofs.Common.{◌≡◌, refl, ◌∙◌, ⊎_elim, ◌-◌, ◌≤◌, arith, length, rules}
+use Rattle.loops.specs.Count.{list}
+use Rattle.search.specs.Node.{least_of}
+use Rattle.search.specs.Node.Laws.{least_of_cap}
+use Rattle.keys.specs.Scan.{goals_by}
+use Rattle.keys.specs.Scan.Laws.{goal_by, least_list_more, goal_here, goal_not}
+use Rattle.keys.proofs.least_goal.Given as goal
+
+abbrev pub invariant-loop-k : goal.invariant-loop-k
+invariant-loop-k l = (l.k-end ≡ length l.prices) × (l.k ≤ l.k-end) × (l.low ≡ least_of (list l.k (goal_by l.goals l.prices)))
+
+abbrev pub decreases-loop-k : goal.decreases-loop-k
+decreases-loop-k l = l.k-end - l.k

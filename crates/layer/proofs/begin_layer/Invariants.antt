@@ -1,0 +1,19 @@
+-- `layer::begin_layer` meets its contract. The invariant: what came through of the leaves so far stands one leaf's behind the other, and behind
+-- them the prices are as they were. Assumes nothing.
+use Rattle.std.proofs.Common.{◌≡◌, ◌∙◌, List, [], ℕ, ◌+◌, ◌*◌, ◌-◌, ◌≤◌, arith, length, get_or, rules}
+use Rattle.layer.specs.Board.{Board, base_on, row_on, part_on, pass_on, begin_on}
+use Rattle.layer.specs.Board.Turns.{base_in, moves_here, moves_stay, leaf_passed, part_length, Laid, laid_none, laid_more, laid_unreached}
+use Rattle.layer.specs.Lent.{board_of}
+use Rattle.layer.proofs.begin_layer.Given as goal
+
+-- what comes through of the leaf behind k leaves
+abbrev pub leaf : Board → ℕ → List ℕ → ℕ → List ℕ
+leaf b action old k = pass_on b k action (part_on b k old)
+
+-- factors are not looked at
+abbrev pub invariant-loop-i : goal.invariant-loop-i
+invariant-loop-i l =
+    (l.i ≤ l.leaves) × Laid (leaf (board_of l.leaves l.actions l.bases l.moves l.costs l.kinds [] l.conditions) l.action l.old) l.i (get_or l.bases l.i 0) l.initial.new l.new
+
+abbrev pub decreases-loop-i : goal.decreases-loop-i
+decreases-loop-i l = l.leaves - l.i

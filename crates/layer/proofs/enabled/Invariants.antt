@@ -1,0 +1,15 @@
+-- `layer::enabled` meets its contract. The invariant: the enabled actions so far stand at the front, and behind them the list
+-- is as it was. Assumes nothing.
+use Rattle.std.proofs.Common.{◌≡◌, refl, sym, ap, ◌∙◌, ⊎_elim, ◌++◌, ◌-◌, ◌≤◌, le_antisymm, arith, length, drop, length-append, length-set, rules}
+use Rattle.layer.specs.Board.{enabled_on}
+use Rattle.layer.specs.Board.Turns.{enabled_here, enabled_not, push_more}
+use Rattle.layer.specs.Lent.{tests_of}
+use Rattle.layer.proofs.enabled.Given as goal
+
+abbrev pub invariant-loop-a : goal.invariant-loop-a
+invariant-loop-a l =
+    (l.a ≤ l.actions) × (l.count ≤ l.a) × (length l.acts ≡ length l.initial.acts) × (l.count ≡ length (enabled_on (tests_of l.kinds l.factors l.conditions) l.i l.centre l.a))
+    × (l.acts ≡ enabled_on (tests_of l.kinds l.factors l.conditions) l.i l.centre l.a ++ drop l.count l.initial.acts)
+
+abbrev pub decreases-loop-a : goal.decreases-loop-a
+decreases-loop-a l = l.actions - l.a

@@ -1,0 +1,11 @@
+-- `layer::first_conditions` meets its contract. The invariant: the entries of the actions so far are right. Assumes nothing.
+use Rattle.std.proofs.Common.{◌≡◌, refl, ℕ, ◌-◌, ◌≤◌, ◌<◌, not-suc-le-zero, arith, length, get_or, length-set, rules}
+use Rattle.layer.specs.First.{First, first_more, firsts_all}
+use Rattle.layer.proofs.first_conditions.Given as goal
+
+abbrev pub invariant-loop-a : goal.invariant-loop-a
+invariant-loop-a l =
+    (l.a ≤ l.actions) × (length l.firsts ≡ 256) × ((k : ℕ) → k < l.a → First l.factors l.conditions k (get_or l.firsts k 0))
+
+abbrev pub decreases-loop-a : goal.decreases-loop-a
+decreases-loop-a l = l.actions - l.a

@@ -1,0 +1,19 @@
+-- `layer::first_layer` meets its contract. The invariant: the leaves so far stand one behind the other, as the first layer has them, and behind
+-- them the prices are as they were. Assumes nothing.
+use Rattle.std.proofs.Common.{◌≡◌, ◌∙◌, List, ℕ, ◌+◌, ◌-◌, ◌≤◌, arith, length, get_or, rules}
+use Rattle.task.specs.declared.Centre.{Centre}
+use Rattle.layer.specs.Board.{Board, base_on, row_on, first_on}
+use Rattle.layer.specs.Board.Turns.{base_in, part_length, Laid, laid_none, laid_more, laid_unreached}
+use Rattle.layer.specs.Lent.{board_of, first_leaf_on}
+use Rattle.layer.proofs.first_layer.Given as goal
+
+-- the prices of the leaf behind k leaves
+abbrev pub leaf : Board → Centre → List ℕ → ℕ → List ℕ
+leaf b centre starts k = first_leaf_on b k centre (get_or starts k 0)
+
+abbrev pub invariant-loop-i : goal.invariant-loop-i
+invariant-loop-i l =
+    (l.i ≤ l.leaves) × Laid (leaf (board_of l.leaves l.actions l.bases l.moves l.costs l.kinds l.factors l.conditions) l.centre l.starts) l.i (get_or l.bases l.i 0) l.initial.new l.new
+
+abbrev pub decreases-loop-i : goal.decreases-loop-i
+decreases-loop-i l = l.leaves - l.i

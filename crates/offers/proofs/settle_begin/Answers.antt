@@ -1,0 +1,29 @@
+-- `offers::settle_begin` meets its contract: the flags in the slot are those of the centre state. Assumes nothing.
+use Rattle.std.proofs.Common.{◌+◌, ◌≤◌, arith, length, rules}
+use Rattle.layer.specs.Board.{Board}
+use Rattle.layer.specs.Lent.{board_of}
+use Rattle.mets.specs.Known.{firsts_asks, known_asks, asks_known, asks_told, told_mets}
+use Rattle.offers.proofs.settle_begin.Goals as goal
+use Rattle.offers.proofs.settle_begin.Goals.{Start}
+
+-- the Board that is lent
+abbrev board : Start → Board
+board s =
+    let a = s.args in
+    board_of a.leaves a.actions a.bases.now a.moves.now a.costs.now a.kinds.now a.factors a.conditions.now
+
+pub slot_for-slot-requires : goal.slot_for-slot-requires
+slot_for-slot-requires c =
+    (c.requires.0.few_actions, c.requires.0.conditions_long, firsts_asks (board (goal.at.slot_for-slot-requires c).Start) _ c.requires.1.0, c.requires.1.3, known_asks (board (goal.at.slot_for-slot-requires c).Start) _ c.requires.1.2)
+
+pub settle_edges-requires : goal.settle_edges-requires
+settle_edges-requires c =
+    let r = c.slot_for-slot in
+    let told = asks_told (board (goal.at.settle_edges-requires c).Start) c.args.spot _ r.ensures.2 in
+    let room : r.result + 576 ≤ length r.new.1.1.1.1.1.1.0 = omega (arith, r.ensures.0, r.ensures.1.long) in
+    (c.requires.0, told_mets (board (goal.at.settle_edges-requires c).Start) c.args.spot _ r.result c.requires.0.few_actions room told, c.requires.1.1, c.requires.1.4)
+
+pub returns : goal.returns
+returns c =
+    let e = c.settle_edges.ensures in
+    (e.0, asks_known (board (goal.at.returns c).Start) _ c.slot_for-slot.ensures.1, e.1)

@@ -1,0 +1,13 @@
+-- `paths::path_fits` meets its contract: the entries before k are centre actions. Assumes nothing.
+use Rattle.std.proofs.Common.{◌≤◌, ◌-◌, ◌≡◌, refl, true, arith, length, get_or, rules, lt-ltb, eq-eqb}
+use Rattle.loops.specs.Count.{all}
+use Rattle.loops.specs.Count.Laws.{and_in, all_more}
+use Rattle.paths.specs.Paths.{entry_by}
+use Rattle.paths.specs.Paths.Laws.{fits_long, fits_high, fits_leaf, fits_all}
+use Rattle.paths.proofs.path_fits.Given as goal
+
+abbrev pub invariant-loop-k : goal.invariant-loop-k
+invariant-loop-k l = (l.k ≤ length l.path) × (l.k-end ≡ length l.path) × (length l.path ≤ 4095) × (all l.k (entry_by l.actions l.kinds l.path) ≡ true)
+
+abbrev pub decreases-loop-k : goal.decreases-loop-k
+decreases-loop-k l = length l.path - l.k

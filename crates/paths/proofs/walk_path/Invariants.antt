@@ -1,0 +1,23 @@
+-- `paths::walk_path` meets its contract: what is left of the path goes from the layer where the whole goes from the first. Assumes nothing.
+use Rattle.std.proofs.Common.{◌≤◌, ◌-◌, ◌≡◌, refl, ap, sym, ◌∙◌, false, arith, length, get_or, drop, rules}
+use lib.ListN.{length-replicate}
+use borrow.Author.Tests.{not-true, not-false}
+use Rattle.task.specs.Meaning.{factor, initial}
+use Rattle.task.specs.Centre.{centre_after}
+use Rattle.task.specs.Star.{initial_centre}
+use Rattle.leaf.specs.Price.{mark}
+use Rattle.leaf.specs.Settle.Turns.{take_replicate}
+use Rattle.layer.specs.Board.{Board, Fits, Sound}
+use Rattle.layer.specs.Lent.{board_of}
+use Rattle.tables.specs.Fit.{start_in, tables_fit}
+use Rattle.price.specs.Path.{first_layer, walk}
+use Rattle.paths.specs.Paths.Laws.{AlongBy, front, walk_first, walk_end, along_more, along_stuck}
+use Rattle.paths.proofs.walk_path.Given as goal
+
+abbrev pub invariant-loop-k : goal.invariant-loop-k
+invariant-loop-k l =
+    (l.k ≤ length l.path) × (l.k-end ≡ length l.path) × (length l.layer ≡ 1024)
+    × AlongBy (board_of l.leaves l.actions l.bases l.moves l.costs l.kinds l.factors l.conditions) l.effects l.path l.initial.spot l.initial.layer l.spot l.layer l.k
+
+abbrev pub decreases-loop-k : goal.decreases-loop-k
+decreases-loop-k l = length l.path - l.k

@@ -1,0 +1,15 @@
+-- `plans::go_over` meets its contract. The invariant: the leaves so far are in the parent's layer, the others where they were. Assumes nothing.
+use Rattle.std.proofs.Common.{sym, subst, ℕ, ◌-◌, ◌≤◌, ◌<◌, le_antisymm, arith, length, rules}
+use Rattle.layer.specs.Board.{Board, row_on}
+use Rattle.layer.specs.Lent.{board_of}
+use Rattle.plans.specs.Walk.{over_on, RowIn}
+use Rattle.plans.specs.Walk.Turns.{OverLeft, over_none, over_more}
+use Rattle.plans.proofs.go_over.Given as goal
+
+abbrev pub invariant-loop-i : goal.invariant-loop-i
+invariant-loop-i l =
+    (l.i ≤ l.leaves) × OverLeft (λ j z. over_on (board_of l.leaves l.actions l.bases l.moves l.costs l.kinds l.factors l.conditions) l.table j l.node z) l.initial.ends l.i l.ends
+
+abbrev pub decreases-loop-i : goal.decreases-loop-i
+decreases-loop-i l =
+    l.leaves - l.i

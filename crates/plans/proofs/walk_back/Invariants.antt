@@ -1,0 +1,28 @@
+-- `plans::walk_back` meets its contract. The invariant: what is left, from where the walk is, ends as the whole from the start. Assumes nothing.
+use Rattle.std.proofs.Common.{◌≡◌, refl, sym, subst, ◌∙◌, ℕ, ◌+◌, ◌*◌, ◌≤◌, ◌<◌, suc-mul, mul-le-mul, arith, length, get_or, rules}
+use borrow.Author.Rules.{length_unmapped}
+use Rattle.task.specs.declared.Task.{Task}
+use Rattle.task.specs.Factors.{all_states}
+use Rattle.leaf.specs.Price.{mark}
+use Rattle.layer.specs.Board.{Board, row_on}
+use Rattle.layer.specs.Board.Laws.{row_on_lem}
+use Rattle.layer.specs.Lent.{board_of}
+use Rattle.search.specs.Plan.Backwards.{plan_back}
+use Rattle.search.specs.Plan.Laid.{laid}
+use Rattle.search.specs.Plan.Stages.{Priced}
+use Rattle.rows.specs.Row.{node_in}
+use Rattle.plans.specs.Walk.{held_in, Roomy, Standing}
+use Rattle.plans.specs.Fit.{Grounds, search_on, grounds_on, standing_on}
+use Rattle.plans.specs.Steps.{layer_few, walks, lands, Along, along_none, along_more, along_few, along_end}
+use Rattle.plans.proofs.walk_back.Given as goal
+
+abbrev pub invariant-loop-u : goal.invariant-loop-u
+invariant-loop-u l =
+    let b = board_of l.leaves l.actions l.bases l.moves l.costs l.kinds l.factors l.conditions in
+    (l.u < l.count) × (length l.states ≡ 8) × (length l.tight ≡ length l.initial.tight) × (length l.plan ≡ length l.initial.plan) × (l.place + l.u * (row_on b + 1) ≤ l.node * (row_on b + 1))
+    × ((t : Task) → Grounds t b l.starts l.table l.count → Priced t (search_on b l.table l.count) l.node (λ i. get_or l.initial.states i 0)
+    → Along t (search_on b l.table l.count) l.node l.initial.states l.total l.initial.plan l.u l.states l.place l.plan)
+
+abbrev pub decreases-loop-u : goal.decreases-loop-u
+decreases-loop-u l =
+    l.u

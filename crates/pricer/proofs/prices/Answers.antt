@@ -1,0 +1,24 @@
+-- `pricer::prices` meets its contract: what the reader accepts is priced, and what the answer says of sequences follows. Assumes nothing.
+use Rattle.std.proofs.Common.{ap, sym, ◌∙◌, rules}
+use Rattle.record.specs.Record.{verdict_number}
+use Rattle.pricer.specs.Pricer.{task_prices}
+use Rattle.pricer.specs.Pricer.Laws.{record_refused, record_accepted, outcome_says}
+use Rattle.pricer.proofs.prices.Goals as goal
+
+pub price_task-requires : goal.price_task-requires
+price_task-requires c = c.read_record-r.ensures.valid (ap verdict_number c.enum_told-1.given.1)
+
+pub returns-in-Refused : goal.returns-in-Refused
+returns-in-Refused c =
+    let s = c.args in
+    let read = c.read_record-r.ensures.answer in
+    outcome_says s.«record».now s.path.now s.out.now _ _
+    (record_refused s.«record».now s.path.now s.out.now (sym (ap (λ r. r.verdict) read) ∙ c.v-1.given.1))
+
+pub returns-in-Accepted : goal.returns-in-Accepted
+returns-in-Accepted c =
+    let s = c.args in
+    let read = c.read_record-r.ensures.answer in
+    outcome_says s.«record».now s.path.now s.out.now _ _
+    (record_accepted s.«record».now s.path.now s.out.now (sym (ap (λ r. r.verdict) read) ∙ c.enum_told-1.given.1)
+    (c.price_task.ensures ∙ ap (λ r. task_prices r.task s.path.now s.out.now) read))

@@ -1,0 +1,57 @@
+use Rattle.std.proofs.Common.{◌≡◌, refl, sym, ◌∙◌, ⊎_elim, ◌+◌, ◌*◌, ◌/◌, ◌-◌, ◌≤◌, ◌<◌, div-le_self, arith, length, rules}
+use Rattle.leaf.specs.Price.{mark}
+use Rattle.leaf.specs.Settle.Turns.{at_any}
+use Rattle.rows.specs.Sign.{stride_of, sign_to, sign_of}
+use Rattle.rows.specs.Sign.Laws.{one_bit, stride_many, look_in, sign_here, sign_kept}
+use Rattle.rows.proofs.sign_of_many.Goals as goal
+use Rattle.rows.proofs.sign_of_many.Goals.{In-loop-k}
+
+-- the state that is looked at is one of all
+inside : (c : In-loop-k) → let n = length c.args.prices.now in
+    (c.loop-k.k * (n / 64) < n) × (c.loop-k.k < n)
+inside c =
+    let n = length c.args.prices.now in
+    let step = n / 64 in
+    let some : 1 ≤ step = omega (arith, c.requires) in
+    (look_in n step c.loop-k.k some c.loop-k-test.true, omega (arith, c.loop-k-test.true, div-le_self n step))
+
+pub loop-k-init : goal.loop-k-init
+unfolding sign_to
+loop-k-init c = (stride_many (length c.args.prices.now) c.requires, refl, omega arith, refl)
+
+pub overflow_mul-k : goal.overflow_mul-k
+overflow_mul-k c = omega (arith, c.well-formed, inside (goal.at.overflow_mul-k c).In-loop-k)
+
+pub offset_bounds-prices-k : goal.offset_bounds-prices-k
+offset_bounds-prices-k c = omega (arith, c.well-formed, inside (goal.at.offset_bounds-prices-k c).In-loop-k)
+
+pub bounds-prices-k : goal.bounds-prices-k
+bounds-prices-k c = (inside (goal.at.bounds-prices-k c).In-loop-k).0
+
+pub overflow_step-k : goal.overflow_step-k
+overflow_step-k c = omega (arith, c.well-formed, inside (goal.at.overflow_step-k c).In-loop-k)
+
+pub loop-k-preserved : goal.loop-k-preserved
+loop-k-preserved c =
+    let l = c.loop-k in
+    let P = c.args.prices.now in
+    let step = length P / 64 in
+    let here = at_any P (l.k * step) mark 0 (inside (goal.at.loop-k-preserved c).In-loop-k).0 in
+    let more : l.k + 1 ≤ length P / step = omega (arith, c.loop-k-test.true) in
+    ⊎_elim
+    (λ w.
+    let more-sign = sign_here step P l.k (omega (arith, here, w.0.taken)) in
+    (l.invariant.0, refl, omega arith, w.1 ∙ cc (one_bit l.k, l.invariant.3, more-sign)))
+    (λ w.
+    let kept = sign_kept step P l.k (omega (arith, here, w.0.left)) in
+    (l.invariant.0, refl, omega arith, w.1 ∙ l.invariant.3 ∙ sym kept))
+    c.if-prices-k-lt-MARK.branch
+
+pub returns : goal.returns
+unfolding sign_of
+returns c =
+    let l = c.loop-k in
+    let P = c.args.prices.now in
+    let step = length P / 64 in
+    let all : l.k ≡ length P / step = omega (arith, c.loop-k-test.false, l.invariant.2) in
+    l.invariant.3 ∙ rw (all, l.invariant.0)

@@ -1,0 +1,18 @@
+-- `settle::relax_from` meets its contract. The invariant: the first j actions have lowered the prices, and what fell is told. No price is
+-- above the mark, so a sum capped at the mark lowers as the sum itself does. Assumes nothing.
+use Rattle.std.proofs.Common.{◌≡◌, refl, ◌∙◌, ℕ, ◌+◌, ◌-◌, ◌≤◌, min, le_antisymm, arith, length, get_or, rules}
+use Rattle.leaf.specs.Price.{mark}
+use Rattle.leaf.specs.Settle.{relax}
+use Rattle.leaf.specs.Settle.Turns.{at_any, relax_more}
+use Rattle.leaf.specs.Settle.Sweeps.{Fell, fell_none, fell_join}
+use Rattle.leaf.specs.Lent.{cost_by, move_by}
+use Rattle.settle.proofs.relax_from.Given as goal
+
+abbrev pub invariant-loop-j : goal.invariant-loop-j
+invariant-loop-j l =
+    (l.j ≤ l.count) × (length l.prices ≡ length l.initial.prices) × (length l.dirty ≡ length l.initial.dirty) × ((i : ℕ) → get_or l.prices i 0 ≤ mark)
+    × (l.prices ≡ relax mark (cost_by l.costs l.acts) (move_by l.moves l.row l.at l.acts) l.x (get_or l.initial.prices l.x mark) l.initial.prices l.j)
+    × Fell mark l.x l.initial.prices l.initial.dirty l.fell l.prices l.dirty
+
+abbrev pub decreases-loop-j : goal.decreases-loop-j
+decreases-loop-j l = l.count - l.j

@@ -1,0 +1,16 @@
+-- `steps::put` meets its contract: after v turns the first v values are written. Assumes nothing.
+use Rattle.std.proofs.Common.{◌≡◌, refl, ap, ◌∙◌, List, ◌++◌, ℕ, ◌+◌, ◌-◌, ◌≤◌, arith, length, get_or, drop, length-set, get_or-append-add, get_or-drop, rules}
+use Rattle.loops.specs.Count.{list}
+use Rattle.loops.specs.Count.Laws.{list_more, list_length}
+use Rattle.task.specs.Meaning.{put}
+use Rattle.steps.proofs.put.Given as goal
+
+-- the values behind the effects
+abbrev pub behind : List ℕ → ℕ → List ℕ → ℕ → ℕ
+behind pairs at values = put (λ v. get_or pairs (at + v) 0) (λ v. get_or values v 0)
+
+abbrev pub invariant-loop-v : goal.invariant-loop-v
+invariant-loop-v l = (l.v ≤ l.n) × (length l.values ≡ length l.initial.values) × (l.values ≡ list l.v (behind l.pairs l.at l.initial.values) ++ drop l.v l.initial.values)
+
+abbrev pub decreases-loop-v : goal.decreases-loop-v
+decreases-loop-v l = l.n - l.v

@@ -1,0 +1,73 @@
+use Rattle.std.proofs.Common.{◌≡◌, refl, ◌∙◌, List, ℕ, arith, length, rules}
+use borrow.Author.Tests.{not-true}
+use Rattle.leaf.specs.Price.{mark}
+use Rattle.leaf.specs.Settle.Walks.{Capped}
+use Rattle.leaf.specs.Settle.Turns.{at_most}
+use Rattle.leaf.specs.Settle.Sweeps.{total, Sweeping, sweeping_start, sweeping_end}
+use Rattle.sweeps.specs.Sweeps.{Meant}
+use Rattle.sweeps.proofs.settle_along.Goals as goal
+use Rattle.sweeps.proofs.settle_along.Goals.{After-first_sweep, At-loop-dirty, Start}
+
+-- where the prices are known; they are no more than the mark
+abbrev known : After-first_sweep → Start
+known t = t
+
+few : (k : Start) → Capped mark k.args.prices.now
+few k = at_most mark k.args.prices.now (λ i. omega (arith, k.type_inv.prices i))
+
+-- there are as many prices as at the start
+turned : (t : At-loop-dirty) → length t.loop-dirty.prices ≡ length (known t).before.args.prices.now
+turned t = t.loop-dirty.invariant.0 ∙ t.first_sweep.auto.prices
+
+pub first_sweep-requires : goal.first_sweep-requires
+first_sweep-requires c = (c.requires.0, c.requires.1)
+
+pub returns-then-not-first_sweep : goal.returns-then-not-first_sweep
+returns-then-not-first_sweep c m cost to meant =
+    let first = c.before.before.before.before in
+    let k = known first in
+    let P = k.before.args.prices.now in
+    sweeping_end mark _ _ _ _ meant.ranged 0 P P _ _ _ refl (few k) (sweeping_start mark _ _ _ _ P _ refl (few k)) (first.first-sweep.ensures _ _ _ meant)
+    (not-true _ c.if1.true)
+
+pub loop-dirty-init : goal.loop-dirty-init
+loop-dirty-init c = (refl, c.first_sweep.auto.dirty, λ m cost to h P s. s)
+
+pub slice_bounds-sweep-end : goal.slice_bounds-sweep-end
+slice_bounds-sweep-end c = omega (arith, c.loop-dirty.invariant.1)
+
+pub sweep-requires : goal.sweep-requires
+sweep-requires c =
+    let l = c.loop-dirty in
+    let s = (known (goal.at.sweep-requires c).After-first_sweep).before in
+    let long = l.invariant.0 ∙ c.first_sweep.auto.prices in
+    (rw (long, l.invariant.1) s.pre.0, rw long s.pre.1)
+
+pub loop-dirty-smaller : goal.loop-dirty-smaller
+loop-dirty-smaller c =
+    let s = (known (goal.at.loop-dirty-smaller c).After-first_sweep).before in
+    ((rw (turned (goal.at.loop-dirty-smaller c).At-loop-dirty) at c.sweep.ensures) _ _ _ s.pre.2.meant).falls c.loop-dirty-test.true
+
+pub loop-dirty-preserved : goal.loop-dirty-preserved
+loop-dirty-preserved c =
+    let l = c.loop-dirty in
+    let told = rw l.invariant.0 at c.sweep.ensures in (
+      c.sweep.auto.prices ∙ l.invariant.0,
+      c.sweep.auto.dirty ∙ l.invariant.1,
+      λ m cost to h P s. (told m cost to h).keeps P (l.invariant.2 m cost to h P s),
+    )
+
+pub shape_of-prices : goal.shape_of-prices
+shape_of-prices c =
+    c.sweep.auto.prices ∙ turned (goal.at.shape_of-prices c).At-loop-dirty
+
+pub returns : goal.returns
+returns c m cost to meant =
+    let called = c.before.before.before.before in
+    let t = called.before.before.before in
+    let first = t.before.before.before.before.before in
+    let k = known first in
+    let P = k.before.args.prices.now in
+    sweeping_end mark _ _ _ _ meant.ranged (length P) P _ _ _ _ refl (few k)
+    ((rw first.first-sweep.auto.0 at t.loop.invariant.2) _ _ _ meant P ((first.first-sweep.ensures _ _ _ meant).keeps P (sweeping_start mark _ _ _ _ P _ refl (few k))))
+    ((rw (turned t) at called.sweep.ensures) _ _ _ meant) c.if2.false

@@ -1,0 +1,18 @@
+-- The loop's invariant: the first v values are those of the next centre state, the others are as they were. Assumes nothing.
+use Rattle.std.proofs.Common.{◌≡◌, refl, ap, ◌∙◌, cond, ◌&&◌, List, ◌++◌, append-nil, ℕ, ◌+◌, ◌-◌, ◌≤◌, arith, eqb, length, get_or, drop, length-set, drop_of_length-le, get_or-append-add, get_or-drop, rules}
+use Rattle.loops.specs.Count.{list}
+use Rattle.loops.specs.Count.Laws.{list_more, list_length}
+use Rattle.task.specs.Factors.{named}
+use Rattle.task.specs.Centre.{centre_after}
+use Rattle.task.proofs.Centre.after.Given as goal
+
+-- the next centre state's value of a variable
+abbrev pub entry : List ℕ → List ℕ → List ℕ → ℕ → ℕ
+entry factors effects before v = cond (eqb (get_or factors v 0) 0 && named (get_or effects v 0)) (get_or effects v 0) (get_or before v 0)
+
+abbrev pub invariant-loop-v : goal.invariant-loop-v
+invariant-loop-v l =
+    (l.v ≤ 32) × (length l.self.values ≡ 32) × (l.self.values ≡ list l.v (entry l.factors l.effects l.initial.self.values) ++ drop l.v l.initial.self.values)
+
+abbrev pub decreases-loop-v : goal.decreases-loop-v
+decreases-loop-v l = 32 - l.v

@@ -1,0 +1,18 @@
+-- `wayback::first_depths` meets its contract. The invariant: the depths so far are those where depths begin. Assumes nothing.
+use Rattle.std.proofs.Common.{◌≡◌, refl, ◌∙◌, cond, ◌&&◌, List, ◌++◌, append-nil, ℕ, ◌-◌, ◌≤◌, arith, ltb, eqb, length, get_or, drop, length-set, rules}
+use lib.Seq.{drop-length}
+use Rattle.loops.specs.Count.{list}
+use Rattle.loops.specs.Count.Laws.{list_more}
+use Rattle.leaf.specs.Price.{mark}
+use Rattle.wayback.proofs.first_depths.Given as goal
+
+-- the depth of state x where depths begin
+abbrev pub start : List ℕ → List ℕ → ℕ → ℕ
+start begins prices x = cond (ltb (get_or prices x mark) mark && eqb (get_or begins x mark) (get_or prices x mark)) 0 mark
+
+abbrev pub invariant-loop-x : goal.invariant-loop-x
+invariant-loop-x l =
+    (l.x-end ≡ length l.prices) × (l.x ≤ l.x-end) × (length l.depths ≡ length l.initial.depths) × (l.depths ≡ list l.x (start l.begins l.prices) ++ drop l.x l.initial.depths)
+
+abbrev pub decreases-loop-x : goal.decreases-loop-x
+decreases-loop-x l = l.x-end - l.x

@@ -1,0 +1,14 @@
+-- `wayback::sources_state` meets its contract. The invariant: the edges so far are met. Assumes nothing.
+use Rattle.std.proofs.Common.{◌≡◌, refl, ◌∙◌, ℕ, ◌+◌, ◌-◌, ◌*◌, ◌≤◌, ◌<◌, arith, length, get_or, rules}
+use Rattle.leaf.specs.Price.{mark}
+use Rattle.leaf.specs.Settle.Turns.{at_any}
+use Rattle.wayback.specs.Least.{StateMet, state_none, state_more}
+use Rattle.wayback.proofs.sources_state.Given as goal
+
+abbrev pub invariant-loop-k : goal.invariant-loop-k
+invariant-loop-k l =
+    (l.k-end ≡ length l.acts) × (l.k ≤ l.k-end) × (length l.sources ≡ length l.initial.sources) × (l.p ≡ get_or l.depths l.x mark)
+    × StateMet l.moves l.row l.at l.index l.acts l.depths l.x l.k l.initial.sources l.sources
+
+abbrev pub decreases-loop-k : goal.decreases-loop-k
+decreases-loop-k l = l.k-end - l.k

@@ -1,0 +1,65 @@
+-- `wayback::tight_back` meets its contract. The depths that are made have what the walk needs, and the walk goes by them. Assumes nothing.
+use Rattle.std.proofs.Common.{◌≡◌, List, ℕ, arith, rules}
+use Rattle.wayback.specs.Steps.{depths_by}
+use Rattle.wayback.specs.Woven.{Backed}
+use Rattle.wayback.specs.Woven.Laws.{woven_ways, woven_meant, woven_leading}
+use Rattle.wayback.specs.Least.{Guided}
+use Rattle.wayback.specs.Ready.{backed_length, backed_few, backed_guided, backed_way}
+use Rattle.wayback.proofs.tight_back.Goals as goal
+use Rattle.wayback.proofs.tight_back.Goals.{After-depths_of, After-sources_of-sources, Start}
+
+-- where the function starts, and what is lent there
+abbrev start : After-depths_of → Start
+start d = d
+
+abbrev Lent : After-depths_of → Type 0
+Lent d =
+    let a = (start d).args in
+    Backed a.moves.now a.row a.at a.acts.now a.index.now a.tight.now a.stops.now a.begins.now a.prices.now a.state
+
+-- the depths
+abbrev depths : After-depths_of → List ℕ
+depths d = d.depths_of.new.depths
+
+made : (d : After-depths_of) (w : Lent d) → depths d ≡ depths_by w.woven.edges w.woven.count (start d).args.begins.now (start d).args.prices.now
+made d w = d.depths_of.ensures w.woven.count w.woven.edges (woven_meant _ _ _ _ _ _ _ _ w.woven)
+
+-- what guides the walk
+abbrev guide : (o : After-sources_of-sources) → Lent o → Guided (start o).args.acts.now (depths o) o.sources_of-sources.result
+guide o w = let o = o in backed_guided _ _ _ _ _ _ _ _ _ _ w _ (made o w) _ o.sources_of-sources.ensures.1
+
+pub depths_of-requires : goal.depths_of-requires
+depths_of-requires c =
+    let w = c.requires.0 in
+    let ways = woven_ways _ _ _ _ _ _ _ _ w.woven in
+    record { begins_len = (w.same, c.requires.1, w.woven.few_states, c.requires.2); ways = (ways, record { count = _; cost = _; to = _; meant = woven_meant _ _ _ _ _ _ _ _ w.woven }) }
+
+pub sources_of-sources-requires : goal.sources_of-sources-requires
+sources_of-sources-requires c =
+    let w = (start (goal.at.sources_of-sources-requires c).After-depths_of).requires.0 in
+    let long = backed_length _ _ _ _ _ _ _ _ _ _ w _ (made (goal.at.sources_of-sources-requires c).After-depths_of w) in
+    rw long (
+      w.woven.few_states,
+      w.woven.stops_long,
+      λ x h.
+          let r = w.woven.stops_in x h in (r.0, r.1, woven_leading _ _ _ _ _ _ _ _ w.woven x h),
+    )
+
+pub walk-requires : goal.walk-requires
+walk-requires c =
+    let s = start (goal.at.walk-requires c).After-depths_of in
+    let w = s.pre.0 in
+    let long = backed_length _ _ _ _ _ _ _ _ _ _ w _ (made (goal.at.walk-requires c).After-depths_of w) in (
+      rw long w.inside,
+      guide (goal.at.walk-requires c).After-sources_of-sources w,
+      rw long (omega (arith, w.woven.few_states, c.sources_of-sources.ensures.0)),
+      backed_few _ _ _ _ _ _ _ _ _ _ w _ (made (goal.at.walk-requires c).After-depths_of w),
+      s.pre.3,
+      s.pre.4,
+    )
+
+pub returns : goal.returns
+returns c w =
+    let o = c.before.before.before.before.before.before in
+    let d = o.before.before.before.before in
+    rw (backed_way _ _ _ _ _ _ _ _ _ _ w _ (made d w)) at (c.before.before.walk.ensures (guide o w))
