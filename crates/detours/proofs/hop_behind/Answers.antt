@@ -32,16 +32,16 @@ pub returns-then-action-actions : goal.returns-then-action-actions
 returns-then-action-actions c = rw (words (goal.at.returns-then-action-actions c).Start, lt-ltb _ _ c.if-states-ge128.false, lt-ltb _ _ c.if-parent-u.false, le-ltb _ _ c.if-action-actions.true)
 
 pub overflow_mul-from : goal.overflow_mul-from
-overflow_mul-from c = omega (arith, fits (goal.at.overflow_mul-from c).Else-word-eq0, c.well-formed)
+overflow_mul-from c = omega (arith, fits (goal.at.overflow_mul-from c).Else-word-eq0, c.well_formed)
 
 pub overflow_add-from : goal.overflow_add-from
-overflow_add-from c = omega (arith, fits (goal.at.overflow_add-from c).Else-word-eq0, c.well-formed)
+overflow_add-from c = omega (arith, fits (goal.at.overflow_add-from c).Else-word-eq0, c.well_formed)
 
 pub overflow_add-end : goal.overflow_add-end
-overflow_add-end c = omega (arith, fits (goal.at.overflow_add-end c).Else-word-eq0, c.well-formed)
+overflow_add-end c = omega (arith, fits (goal.at.overflow_add-end c).Else-word-eq0, c.well_formed)
 
 pub offset_bounds-table-from : goal.offset_bounds-table-from
-offset_bounds-table-from c = omega (arith, fits (goal.at.offset_bounds-table-from c).Else-word-eq0, c.well-formed)
+offset_bounds-table-from c = omega (arith, fits (goal.at.offset_bounds-table-from c).Else-word-eq0, c.well_formed)
 
 pub slice_bounds-same_words-end : goal.slice_bounds-same_words-end
 slice_bounds-same_words-end c = omega (arith, fits (goal.at.slice_bounds-same_words-end c).Else-word-eq0)

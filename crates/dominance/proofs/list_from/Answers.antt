@@ -1,24 +1,6 @@
 use Rattle.std.proofs.Common.{◌≡◌, refl, ◌∙◌, ⊎_elim, ◌+◌, ◌-◌, ◌≤◌, ◌<◌, arith, length, set, length-set, rules}
 use Rattle.rows.specs.Reach.{ReachesIn, reaches_more, reaches_skip}
 use Rattle.dominance.proofs.list_from.Goals as goal
-use Rattle.dominance.proofs.list_from.Goals.{In-loop-x, Joined-prices-x-lt-MARK}
-
--- there is room for the next word of the list
-room : (c : In-loop-x) → c.loop-x.n < length c.loop-x.list
-room c =
-    let l = c.loop-x in
-    omega (arith, l.invariant.2.few, l.invariant.1, c.requires.0, c.requires.2, c.loop-x-test.true)
-
--- the states up to the next are listed
-listed : (c : Joined-prices-x-lt-MARK) → let l = c.loop-x in
-    ReachesIn (l.x + 1) c.args.prices.now (set l.list l.n l.x) c.if-prices-x-lt-MARK.n
-listed c =
-    let l = c.loop-x in
-    let P = c.args.prices.now in
-    ⊎_elim
-    (λ w. rw w.1 (reaches_more P l.list l.x l.n l.invariant.2 (room c) w.0.taken))
-    (λ w. rw w.1 (reaches_skip P l.list l.x l.n l.invariant.2 l.x w.0.left))
-    c.if-prices-x-lt-MARK.branch
 
 pub loop-x-init : goal.loop-x-init
 loop-x-init c = (c.requires.1, refl, c.requires.4)
@@ -27,15 +9,19 @@ pub offset_bounds-list-n : goal.offset_bounds-list-n
 offset_bounds-list-n c = omega (arith, c.loop-x.invariant.2.few)
 
 pub bounds-list-n : goal.bounds-list-n
-bounds-list-n c = room (goal.at.bounds-list-n c).In-loop-x
+bounds-list-n c =
+    let room : c.loop-x.n < length c.loop-x.list = let l = c.loop-x in omega (arith, l.invariant.2.few, l.invariant.1, c.requires.0, c.requires.2, c.loop-x-test.true) in
+    room
 
 pub overflow_add-n : goal.overflow_add-n
 overflow_add-n c = omega (arith, c.loop-x.invariant.2.few)
 
 pub loop-x-preserved : goal.loop-x-preserved
 loop-x-preserved c =
+    let room : c.loop-x.n < length c.loop-x.list = let l = c.loop-x in omega (arith, l.invariant.2.few, l.invariant.1, c.requires.0, c.requires.2, c.loop-x-test.true) in
+    let listed : let l = c.loop-x in ReachesIn (l.x + 1) c.args.prices.now (set l.list l.n l.x) c.if-prices-x-lt-MARK.n = let l = c.loop-x in let P = c.args.prices.now in ⊎_elim (λ w. rw w.1 (reaches_more P l.list l.x l.n l.invariant.2 room w.0.taken)) (λ w. rw w.1 (reaches_skip P l.list l.x l.n l.invariant.2 l.x w.0.left)) c.if-prices-x-lt-MARK.branch in
     let l = c.loop-x in
-    (omega arith, length-set l.list l.n l.x ∙ l.invariant.1, listed (goal.at.loop-x-preserved c).Joined-prices-x-lt-MARK)
+    (omega arith, length-set l.list l.n l.x ∙ l.invariant.1, listed)
 
 pub shape_of-list : goal.shape_of-list
 shape_of-list c = c.loop-x.invariant.1

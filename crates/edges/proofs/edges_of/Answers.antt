@@ -18,13 +18,13 @@ pub overflow_cast-a : goal.overflow_cast-a
 overflow_cast-a c = omega (arith, c.type_inv.own c.loop-j.j)
 
 pub overflow_mul-a : goal.overflow_mul-a
-overflow_mul-a c = omega (arith, inside (goal.at.overflow_mul-a c).In-loop-j, c.well-formed)
+overflow_mul-a c = omega (arith, inside (goal.at.overflow_mul-a c).In-loop-j, c.well_formed)
 
 pub overflow_add-a : goal.overflow_add-a
-overflow_add-a c = omega (arith, inside (goal.at.overflow_add-a c).In-loop-j, c.well-formed)
+overflow_add-a c = omega (arith, inside (goal.at.overflow_add-a c).In-loop-j, c.well_formed)
 
 pub offset_bounds-moves-a : goal.offset_bounds-moves-a
-offset_bounds-moves-a c = omega (arith, inside (goal.at.offset_bounds-moves-a c).In-loop-j, c.well-formed)
+offset_bounds-moves-a c = omega (arith, inside (goal.at.offset_bounds-moves-a c).In-loop-j, c.well_formed)
 
 pub bounds-moves-a : goal.bounds-moves-a
 bounds-moves-a c = inside (goal.at.bounds-moves-a c).In-loop-j

@@ -40,43 +40,43 @@ reached_in c =
     omega (arith, c.requires.1.1.1.1.2, c.list_reached-reached.ensures.listed.0)
 
 pub overflow_mul-at : goal.overflow_mul-at
-overflow_mul-at c = omega (arith, c.well-formed, row_fits (goal.at.overflow_mul-at c).Start)
+overflow_mul-at c = omega (arith, c.well_formed, row_fits (goal.at.overflow_mul-at c).Start)
 
 pub overflow_add-end : goal.overflow_add-end
-overflow_add-end c = omega (arith, c.well-formed, row_fits (goal.at.overflow_add-end c).Start)
+overflow_add-end c = omega (arith, c.well_formed, row_fits (goal.at.overflow_add-end c).Start)
 
 pub offset_bounds-table-at : goal.offset_bounds-table-at
-offset_bounds-table-at c = omega (arith, c.well-formed, row_fits (goal.at.offset_bounds-table-at c).Start)
+offset_bounds-table-at c = omega (arith, c.well_formed, row_fits (goal.at.offset_bounds-table-at c).Start)
 
 pub slice_bounds-read_spot-end : goal.slice_bounds-read_spot-end
-slice_bounds-read_spot-end c = omega (arith, c.well-formed, row_fits (goal.at.slice_bounds-read_spot-end c).Start)
+slice_bounds-read_spot-end c = omega (arith, c.well_formed, row_fits (goal.at.slice_bounds-read_spot-end c).Start)
 
 pub overflow_add-paid : goal.overflow_add-paid
-overflow_add-paid c = omega (arith, c.well-formed, row_fits (goal.at.overflow_add-paid c).Start)
+overflow_add-paid c = omega (arith, c.well_formed, row_fits (goal.at.overflow_add-paid c).Start)
 
 pub offset_bounds-table-at-2 : goal.offset_bounds-table-at-2
-offset_bounds-table-at-2 c = omega (arith, c.well-formed, row_fits (goal.at.offset_bounds-table-at-2 c).Start)
+offset_bounds-table-at-2 c = omega (arith, c.well_formed, row_fits (goal.at.offset_bounds-table-at-2 c).Start)
 
 pub bounds-table-at : goal.bounds-table-at
-bounds-table-at c = omega (arith, c.well-formed, row_fits (goal.at.bounds-table-at c).Start)
+bounds-table-at c = omega (arith, c.well_formed, row_fits (goal.at.bounds-table-at c).Start)
 
 pub overflow_add-sign : goal.overflow_add-sign
-overflow_add-sign c = omega (arith, c.well-formed, row_fits (goal.at.overflow_add-sign c).Start)
+overflow_add-sign c = omega (arith, c.well_formed, row_fits (goal.at.overflow_add-sign c).Start)
 
 pub offset_bounds-table-at-3 : goal.offset_bounds-table-at-3
-offset_bounds-table-at-3 c = omega (arith, c.well-formed, row_fits (goal.at.offset_bounds-table-at-3 c).Start)
+offset_bounds-table-at-3 c = omega (arith, c.well_formed, row_fits (goal.at.offset_bounds-table-at-3 c).Start)
 
 pub bounds-table-at-2 : goal.bounds-table-at-2
-bounds-table-at-2 c = omega (arith, c.well-formed, row_fits (goal.at.bounds-table-at-2 c).Start)
+bounds-table-at-2 c = omega (arith, c.well_formed, row_fits (goal.at.bounds-table-at-2 c).Start)
 
 pub overflow_add-at : goal.overflow_add-at
-overflow_add-at c = omega (arith, c.well-formed, row_fits (goal.at.overflow_add-at c).Start)
+overflow_add-at c = omega (arith, c.well_formed, row_fits (goal.at.overflow_add-at c).Start)
 
 pub offset_bounds-table-at-4 : goal.offset_bounds-table-at-4
-offset_bounds-table-at-4 c = omega (arith, c.well-formed, row_fits (goal.at.offset_bounds-table-at-4 c).Start)
+offset_bounds-table-at-4 c = omega (arith, c.well_formed, row_fits (goal.at.offset_bounds-table-at-4 c).Start)
 
 pub slice_bounds-copy_words-end : goal.slice_bounds-copy_words-end
-slice_bounds-copy_words-end c = omega (arith, c.well-formed, row_fits (goal.at.slice_bounds-copy_words-end c).Start)
+slice_bounds-copy_words-end c = omega (arith, c.well_formed, row_fits (goal.at.slice_bounds-copy_words-end c).Start)
 
 pub copy_words-requires : goal.copy_words-requires
 copy_words-requires c =

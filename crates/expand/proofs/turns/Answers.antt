@@ -5,34 +5,6 @@ use Rattle.mets.specs.Listed.{past, past_more}
 use Rattle.mets.specs.Known.{Known}
 use Rattle.expand.specs.Held.Turns.{Passed, passed_none, passed_more, passed_full, passed_next, passed_last, passed_all}
 use Rattle.expand.proofs.turns.Goals as goal
-use Rattle.expand.proofs.turns.Goals.{In-loop-j, Start}
-
--- where the function starts, the Board that is lent
-abbrev board : Start → Board
-board s =
-    let a = s.args in
-    board_of a.leaves a.actions a.bases.now a.moves.now a.costs.now a.kinds.now a.factors a.conditions.now
-
--- where the loop's body starts: the function's start, the next action, and where the expansion stands before it
-abbrev start : In-loop-j → Start
-start t = t
-
-abbrev next-action : In-loop-j → ℕ
-next-action t = get_or (start t).args.mets.now t.loop-j.j 0
-
-inside : (t : In-loop-j) → next-action t < (start t).args.actions
-inside t = (start t).requires.1.0.4.listed.inside t.loop-j.j t.loop-j-test.true
-
-reached : (t : In-loop-j) → let a = (start t).args in let l = t.loop-j in
-    Passed (board (start t)) a.effects.now a.goals.now a.goal a.nodes a.u a.key a.table.now a.scan.now a.run
-    l.table l.scan l.going (next-action t)
-reached t =
-    let s = start t in
-    let a = s.args in
-    let l = t.loop-j in
-    passed_next (board s) a.effects.now a.goals.now a.goal a.nodes a.u a.key a.table.now a.scan.now a.run
-    a.spot a.paid a.old.now s.pre.1.1.1.0.1 s.pre.1.1.0.4 l.table l.scan l.going
-    a.mets.now s.pre.1.0.4 l.j t.loop-j-test.true l.invariant.0
 
 pub loop-j-init : goal.loop-j-init
 unfolding past
@@ -44,12 +16,13 @@ overflow_cast-a c = omega (arith, c.type_inv.mets c.loop-j.j)
 
 pub turn-r-requires : goal.turn-r-requires
 turn-r-requires c =
+    let next-action : ℕ = get_or c.args.mets.now c.loop-j.j 0 in
+    let inside : next-action < c.args.actions = c.requires.1.0.4.listed.inside c.loop-j.j c.loop-j-test.true in
     let l = c.loop-j in
-    let s = start (goal.at.turn-r-requires c).In-loop-j in
-    let few : s.args.u < l.going.count = omega (arith, s.pre.1.1.0.4, l.invariant.0.more) in record { sound = s.pre.0; still = (s.pre.1.0.0, s.pre.1.0.1, s.pre.1.0.2, l.invariant.2, s.pre.1.0.4.met (next-action (goal.at.turn-r-requires c).In-loop-j) (inside (goal.at.turn-r-requires c).In-loop-j) (s.pre.1.0.4.listed.holds l.j c.loop-j-test.true), s.pre.1.0.5); effects_len = (s.pre.1.1.0.0, s.pre.1.1.0.1, s.pre.1.1.0.2, l.invariant.1, few, inside (goal.at.turn-r-requires c).In-loop-j, s.pre.1.1.0.5, omega (arith, s.pre.1.1.0.6, l.invariant.4)); sign_value = s.pre.1.1.1.0.0; room = l.invariant.0.room }
+    let few : c.args.u < l.going.count = omega (arith, c.requires.1.1.0.4, l.invariant.0.more) in record { sound = c.requires.0; still = (c.requires.1.0.0, c.requires.1.0.1, c.requires.1.0.2, l.invariant.2, c.requires.1.0.4.met next-action inside (c.requires.1.0.4.listed.holds l.j c.loop-j-test.true), c.requires.1.0.5); effects_len = (c.requires.1.1.0.0, c.requires.1.1.0.1, c.requires.1.1.0.2, l.invariant.1, few, inside, c.requires.1.1.0.5, omega (arith, c.requires.1.1.0.6, l.invariant.4)); sign_value = c.requires.1.1.1.0.0; room = l.invariant.0.room }
 
 pub shape_of-next-then-r : goal.shape_of-next-then-r
-shape_of-next-then-r c = c.turn-r.auto.next ∙ c.loop-j.invariant.1 ∙ sym (start (goal.at.shape_of-next-then-r c).In-loop-j).requires.1.1.0.3
+shape_of-next-then-r c = c.turn-r.auto.next ∙ c.loop-j.invariant.1 ∙ sym c.requires.1.1.0.3
 
 pub shape_of-table-then-r : goal.shape_of-table-then-r
 shape_of-table-then-r c = c.turn-r.auto.table ∙ c.loop-j.invariant.0.table_kept
@@ -58,39 +31,45 @@ pub shape_of-scan-then-r : goal.shape_of-scan-then-r
 shape_of-scan-then-r c = c.turn-r.auto.scan ∙ c.loop-j.invariant.0.scan_kept
 
 pub shape_of-known-then-r : goal.shape_of-known-then-r
-shape_of-known-then-r c = c.turn-r.auto.known ∙ c.loop-j.invariant.2.long ∙ sym (start (goal.at.shape_of-known-then-r c).In-loop-j).requires.1.0.3.long
+shape_of-known-then-r c = c.turn-r.auto.known ∙ c.loop-j.invariant.2.long ∙ sym c.requires.1.0.3.long
 
 pub shape_of-room-then-r : goal.shape_of-room-then-r
 shape_of-room-then-r c = c.turn-r.auto.room ∙ c.loop-j.invariant.4
 
 pub returns-then-r : goal.returns-then-r
 returns-then-r c =
+    let board : Board = let a = c.args in board_of a.leaves a.actions a.bases.now a.moves.now a.costs.now a.kinds.now a.factors a.conditions.now in
+    let next-action : ℕ = get_or c.args.mets.now c.loop-j.j 0 in
+    let inside : next-action < c.args.actions = c.requires.1.0.4.listed.inside c.loop-j.j c.loop-j-test.true in
+    let reached : let a = c.args in let l = c.loop-j in Passed board a.effects.now a.goals.now a.goal a.nodes a.u a.key a.table.now a.scan.now a.run l.table l.scan l.going next-action = let a = c.args in let l = c.loop-j in passed_next board a.effects.now a.goals.now a.goal a.nodes a.u a.key a.table.now a.scan.now a.run a.spot a.paid a.old.now c.requires.1.1.1.0.1 c.requires.1.1.0.4 l.table l.scan l.going a.mets.now c.requires.1.0.4 l.j c.loop-j-test.true l.invariant.0 in
     let l = c.loop-j in
-    let s = start (goal.at.returns-then-r c).In-loop-j in
-    let a = s.args in
+    let a = c.args in
     let w = c.turn-r in
     let full =
-    passed_full (board s) a.effects.now a.goals.now a.goal a.nodes a.u a.key a.table.now a.scan.now a.run
-    a.spot a.paid a.old.now s.pre.1.1.1.0.1 s.pre.1.1.0.4
-    l.table l.scan l.going (next-action (goal.at.returns-then-r c).In-loop-j) (inside (goal.at.returns-then-r c).In-loop-j) (reached (goal.at.returns-then-r c).In-loop-j) w.new.1.1.1.1.1.1.1.1.1.1.1.1.1.1.1.1.1.1.1.1.1.1.1.1.1.0 w.new.1.1.1.1.1.1.1.1.1.1.1.1.1.1.1.1.1.1.1.1.1.1.1.1.1.1.0 w.result w.ensures.0 c.if-r.true in
+    passed_full board a.effects.now a.goals.now a.goal a.nodes a.u a.key a.table.now a.scan.now a.run
+    a.spot a.paid a.old.now c.requires.1.1.1.0.1 c.requires.1.1.0.4
+    l.table l.scan l.going next-action inside reached w.new.1.1.1.1.1.1.1.1.1.1.1.1.1.1.1.1.1.1.1.1.1.1.1.1.1.0 w.new.1.1.1.1.1.1.1.1.1.1.1.1.1.1.1.1.1.1.1.1.1.1.1.1.1.1.0 w.result w.ensures.0 c.if-r.true in
     record { grown = full.0; expanded = full.1; known = w.ensures.1 }
 
 pub overflow_step-j : goal.overflow_step-j
-overflow_step-j c = omega (arith, (start (goal.at.overflow_step-j c).In-loop-j).well-formed, c.loop-j-test.true)
+overflow_step-j c = omega (arith, c.well_formed, c.loop-j-test.true)
 
 pub loop-j-smaller : goal.loop-j-smaller
 loop-j-smaller c = omega (arith, c.loop-j-test.true)
 
 pub loop-j-preserved : goal.loop-j-preserved
 loop-j-preserved c =
+    let board : Board = let a = c.args in board_of a.leaves a.actions a.bases.now a.moves.now a.costs.now a.kinds.now a.factors a.conditions.now in
+    let next-action : ℕ = get_or c.args.mets.now c.loop-j.j 0 in
+    let inside : next-action < c.args.actions = c.requires.1.0.4.listed.inside c.loop-j.j c.loop-j-test.true in
+    let reached : let a = c.args in let l = c.loop-j in Passed board a.effects.now a.goals.now a.goal a.nodes a.u a.key a.table.now a.scan.now a.run l.table l.scan l.going next-action = let a = c.args in let l = c.loop-j in passed_next board a.effects.now a.goals.now a.goal a.nodes a.u a.key a.table.now a.scan.now a.run a.spot a.paid a.old.now c.requires.1.1.1.0.1 c.requires.1.1.0.4 l.table l.scan l.going a.mets.now c.requires.1.0.4 l.j c.loop-j-test.true l.invariant.0 in
     let l = c.loop-j in
-    let s = start (goal.at.loop-j-preserved c).In-loop-j in
-    let a = s.args in
+    let a = c.args in
     let w = c.turn-r in
     let passed =
-    passed_more (board s) a.effects.now a.goals.now a.goal a.nodes a.u a.key a.table.now a.scan.now a.run
-    a.spot a.paid a.old.now s.pre.1.1.1.0.1 s.pre.1.1.0.4
-    l.table l.scan l.going (next-action (goal.at.loop-j-preserved c).In-loop-j) (inside (goal.at.loop-j-preserved c).In-loop-j) (reached (goal.at.loop-j-preserved c).In-loop-j) w.new.1.1.1.1.1.1.1.1.1.1.1.1.1.1.1.1.1.1.1.1.1.1.1.1.1.0 w.new.1.1.1.1.1.1.1.1.1.1.1.1.1.1.1.1.1.1.1.1.1.1.1.1.1.1.0 w.result w.ensures.0
+    passed_more board a.effects.now a.goals.now a.goal a.nodes a.u a.key a.table.now a.scan.now a.run
+    a.spot a.paid a.old.now c.requires.1.1.1.0.1 c.requires.1.1.0.4
+    l.table l.scan l.going next-action inside reached w.new.1.1.1.1.1.1.1.1.1.1.1.1.1.1.1.1.1.1.1.1.1.1.1.1.1.0 w.new.1.1.1.1.1.1.1.1.1.1.1.1.1.1.1.1.1.1.1.1.1.1.1.1.1.1.0 w.result w.ensures.0
     c.if-r.false w.auto.1.1.1.1.1.1.1.1.1.1.1.1.1.1.1.1.1.1.1.1.1.1.1.1.1.0 w.auto.1.1.1.1.1.1.1.1.1.1.1.1.1.1.1.1.1.1.1.1.1.1.1.1.1.1.0 in
     (rw (past_more (λ i. get_or a.mets.now i 0) l.j) passed, w.auto.1.1.1.1.1.1.1.1.1.1.1.1.1.1.1.1.1.1.1.1.1.1.1.1.0 ∙ l.invariant.1, w.ensures.1, omega (arith, c.loop-j-test.true), w.auto.1.1.1.1.1.1.1.1.1.1.1.1.1.1.1.1.1.1.1.1.1.1.1.1.1.1.1.1.1.0 ∙ l.invariant.4)
 
@@ -111,14 +90,15 @@ shape_of-room c = c.loop-j.invariant.4
 
 pub returns : goal.returns
 returns c =
+    let board : Board = let a = c.args in board_of a.leaves a.actions a.bases.now a.moves.now a.costs.now a.kinds.now a.factors a.conditions.now in
     let l = c.loop-j in
     let a = c.args in
     let every : l.j ≡ length a.mets.now = omega arith in
     let last =
-    passed_last (board (goal.at.returns c).Start) a.effects.now a.goals.now a.goal a.nodes a.u a.key a.table.now a.scan.now a.run
+    passed_last board a.effects.now a.goals.now a.goal a.nodes a.u a.key a.table.now a.scan.now a.run
     a.spot a.paid a.old.now c.requires.1.1.1.0.1 c.requires.1.1.0.4 l.table l.scan l.going
     a.mets.now c.requires.1.0.4 (rw every at l.invariant.0) in
     let all =
-    passed_all (board (goal.at.returns c).Start) a.effects.now a.goals.now a.goal a.nodes a.u a.key a.table.now a.scan.now a.run
+    passed_all board a.effects.now a.goals.now a.goal a.nodes a.u a.key a.table.now a.scan.now a.run
     l.table l.scan l.going a.actions (omega arith) last in
     record { grown = all.0; expanded = all.1; known = l.invariant.2 }

@@ -5,58 +5,61 @@ use Rattle.layer.specs.Board.Turns.{base_in, part_length, Laid, laid_none, laid_
 use Rattle.layer.specs.Lent.{board_of}
 use Rattle.layer.proofs.settle_layer.Invariants.{leaf}
 use Rattle.layer.proofs.settle_layer.Goals as goal
-use Rattle.layer.proofs.settle_layer.Goals.{In-loop-i, Start}
-
--- where the function starts, and the Board that is lent
-abbrev start : In-loop-i → Start
-start c = c
-
-abbrev board : In-loop-i → Board
-board c =
-    let a = (start c).args in
-    board_of a.leaves a.actions a.bases.now a.moves.now a.costs.now a.kinds.now a.factors a.conditions.now
-
--- where the leaf's prices begin and end, and that they lie within the list
-abbrev from : In-loop-i → ℕ
-from c = base_on (board c) c.loop-i.i
-
-abbrev to : In-loop-i → ℕ
-to c = base_on (board c) (c.loop-i.i + 1)
-
-room : (c : In-loop-i) → (from c ≤ to c) × (to c ≤ 1024) × (to c ≤ length c.loop-i.new)
-room c =
-    let s = start c in
-    let i = c.loop-i.i in
-    let end = base_in (board c) s.pre.0 i c.loop-i-test.true in
-    let rise = s.pre.0.bases_rise i c.loop-i-test.true in
-    omega (arith, end, rise, s.pre.0.few_all, s.pre.1, c.loop-i.invariant.1.kept)
 
 pub loop-i-init : goal.loop-i-init
 loop-i-init c =
     (omega arith, laid_none _ _ _ c.requires.0.bases_first)
 
 pub offset_bounds-new-from : goal.offset_bounds-new-from
-offset_bounds-new-from c = omega (arith, room (goal.at.offset_bounds-new-from c).In-loop-i)
+offset_bounds-new-from c =
+    let board : Board = let a = c.args in board_of a.leaves a.actions a.bases.now a.moves.now a.costs.now a.kinds.now a.factors a.conditions.now in
+    let from : ℕ = base_on board c.loop-i.i in
+    let to : ℕ = base_on board (c.loop-i.i + 1) in
+    let room : (from ≤ to) × (to ≤ 1024) × (to ≤ length c.loop-i.new) = let i = c.loop-i.i in let end = base_in board c.requires.0 i c.loop-i-test.true in let rise = c.requires.0.bases_rise i c.loop-i-test.true in omega (arith, end, rise, c.requires.0.few_all, c.requires.1, c.loop-i.invariant.1.kept) in
+    omega (arith, room)
 
 pub slice_bounds-settle_leaf-count : goal.slice_bounds-settle_leaf-count
-slice_bounds-settle_leaf-count c = omega (arith, room (goal.at.slice_bounds-settle_leaf-count c).In-loop-i)
+slice_bounds-settle_leaf-count c =
+    let board : Board = let a = c.args in board_of a.leaves a.actions a.bases.now a.moves.now a.costs.now a.kinds.now a.factors a.conditions.now in
+    let from : ℕ = base_on board c.loop-i.i in
+    let to : ℕ = base_on board (c.loop-i.i + 1) in
+    let room : (from ≤ to) × (to ≤ 1024) × (to ≤ length c.loop-i.new) = let i = c.loop-i.i in let end = base_in board c.requires.0 i c.loop-i-test.true in let rise = c.requires.0.bases_rise i c.loop-i-test.true in omega (arith, end, rise, c.requires.0.few_all, c.requires.1, c.loop-i.invariant.1.kept) in
+    omega (arith, room)
 
 pub slice_bounds-settle_leaf-start : goal.slice_bounds-settle_leaf-start
-slice_bounds-settle_leaf-start c = omega (arith, room (goal.at.slice_bounds-settle_leaf-start c).In-loop-i)
+slice_bounds-settle_leaf-start c =
+    let board : Board = let a = c.args in board_of a.leaves a.actions a.bases.now a.moves.now a.costs.now a.kinds.now a.factors a.conditions.now in
+    let from : ℕ = base_on board c.loop-i.i in
+    let to : ℕ = base_on board (c.loop-i.i + 1) in
+    let room : (from ≤ to) × (to ≤ 1024) × (to ≤ length c.loop-i.new) = let i = c.loop-i.i in let end = base_in board c.requires.0 i c.loop-i-test.true in let rise = c.requires.0.bases_rise i c.loop-i-test.true in omega (arith, end, rise, c.requires.0.few_all, c.requires.1, c.loop-i.invariant.1.kept) in
+    omega (arith, room)
 
 pub slice_bounds-settle_leaf-end : goal.slice_bounds-settle_leaf-end
-slice_bounds-settle_leaf-end c = omega (arith, room (goal.at.slice_bounds-settle_leaf-end c).In-loop-i)
+slice_bounds-settle_leaf-end c =
+    let board : Board = let a = c.args in board_of a.leaves a.actions a.bases.now a.moves.now a.costs.now a.kinds.now a.factors a.conditions.now in
+    let from : ℕ = base_on board c.loop-i.i in
+    let to : ℕ = base_on board (c.loop-i.i + 1) in
+    let room : (from ≤ to) × (to ≤ 1024) × (to ≤ length c.loop-i.new) = let i = c.loop-i.i in let end = base_in board c.requires.0 i c.loop-i-test.true in let rise = c.requires.0.bases_rise i c.loop-i-test.true in omega (arith, end, rise, c.requires.0.few_all, c.requires.1, c.loop-i.invariant.1.kept) in
+    omega (arith, room)
 
 pub settle_leaf-requires : goal.settle_leaf-requires
 settle_leaf-requires c =
-    ((start (goal.at.settle_leaf-requires c).In-loop-i).requires.0, c.loop-i-test.true, part_length c.loop-i.new (from (goal.at.settle_leaf-requires c).In-loop-i) (to (goal.at.settle_leaf-requires c).In-loop-i) (room (goal.at.settle_leaf-requires c).In-loop-i).2)
+    let board : Board = let a = c.args in board_of a.leaves a.actions a.bases.now a.moves.now a.costs.now a.kinds.now a.factors a.conditions.now in
+    let from : ℕ = base_on board c.loop-i.i in
+    let to : ℕ = base_on board (c.loop-i.i + 1) in
+    let room : (from ≤ to) × (to ≤ 1024) × (to ≤ length c.loop-i.new) = let i = c.loop-i.i in let end = base_in board c.requires.0 i c.loop-i-test.true in let rise = c.requires.0.bases_rise i c.loop-i-test.true in omega (arith, end, rise, c.requires.0.few_all, c.requires.1, c.loop-i.invariant.1.kept) in
+    (c.requires.0, c.loop-i-test.true, part_length c.loop-i.new from to room.2)
 
 pub loop-i-preserved : goal.loop-i-preserved
 loop-i-preserved c =
+    let board : Board = let a = c.args in board_of a.leaves a.actions a.bases.now a.moves.now a.costs.now a.kinds.now a.factors a.conditions.now in
+    let from : ℕ = base_on board c.loop-i.i in
+    let to : ℕ = base_on board (c.loop-i.i + 1) in
+    let room : (from ≤ to) × (to ≤ 1024) × (to ≤ length c.loop-i.new) = let i = c.loop-i.i in let end = base_in board c.requires.0 i c.loop-i-test.true in let rise = c.requires.0.bases_rise i c.loop-i-test.true in omega (arith, end, rise, c.requires.0.few_all, c.requires.1, c.loop-i.invariant.1.kept) in
     let l = c.loop-i in
-    let settled = c.settle_leaf.ensures ∙ ap (λ (xs : List ℕ). settle_on (board (goal.at.loop-i-preserved c).In-loop-i) l.i (start (goal.at.loop-i-preserved c).In-loop-i).args.centre (take (to (goal.at.loop-i-preserved c).In-loop-i - from (goal.at.loop-i-preserved c).In-loop-i) xs)) (laid_rest l.invariant.1) in
+    let settled = c.settle_leaf.ensures ∙ ap (λ (xs : List ℕ). settle_on board l.i c.args.centre (take (to - from) xs)) (laid_rest l.invariant.1) in
     let kept = c.settle_leaf.auto.prices in
-    (omega arith, laid_more _ l.i (from (goal.at.loop-i-preserved c).In-loop-i) (to (goal.at.loop-i-preserved c).In-loop-i) _ l.new _ (room (goal.at.loop-i-preserved c).In-loop-i).0 (room (goal.at.loop-i-preserved c).In-loop-i).2 l.invariant.1 settled kept)
+    (omega arith, laid_more _ l.i from to _ l.new _ room.0 room.2 l.invariant.1 settled kept)
 
 pub shape_of-new : goal.shape_of-new
 shape_of-new c = c.loop-i.invariant.1.kept

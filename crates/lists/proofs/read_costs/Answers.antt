@@ -6,34 +6,25 @@ use Rattle.fields.specs.Fields.Laws.{next_is}
 use Rattle.fields.specs.Answers.{field_told}
 use Rattle.parts.specs.Grammar.{costs_of}
 use Rattle.lists.proofs.read_costs.Goals as goal
-use Rattle.lists.proofs.read_costs.Goals.{In-Bits, In-Bits-g, Start}
-
--- places: the start, and after the first field
-abbrev start : In-Bits → Start
-start c = c
-
-abbrev first : In-Bits-g → In-Bits
-first c = c
-
--- what the two fields read
-read1 : (c : In-Bits) → let a = (start c).args in let g = c.f-1.given.0 in next_field a.rec.now HANDLING a.at ≡ got g.0 g.1.0
-read1 c = c.field-f.ensures ∙ ap field_told c.f-1.given.1
-
-read2 : (c : In-Bits-g) → let a = (start (first c)).args in let g = c.g-1.given.0 in
-    next_field a.rec.now DISTANCE (first c).before.f.given.0.1.0 ≡ got g.0 g.1.0
-read2 c = c.field-g.ensures ∙ ap field_told c.g-1.given.1
 
 pub returns-in_default : goal.returns-in_default
 unfolding costs_of
 returns-in_default c = simp (c.field-f.ensures ∙ ap field_told c.enum_told-1.given.1)
 
 pub field-g-requires : goal.field-g-requires
-field-g-requires c = omega (arith, next_is _ HANDLING _ (read1 (goal.at.field-g-requires c).In-Bits))
+field-g-requires c =
+    let read1 : let a = c.args in let g = c.f-1.given.0 in next_field a.rec.now HANDLING a.at ≡ got g.0 g.1.0 = c.field-f.ensures ∙ ap field_told c.f-1.given.1 in
+    omega (arith, next_is _ HANDLING _ read1)
 
 pub returns-in_default-g : goal.returns-in_default-g
 unfolding costs_of
-returns-in_default-g c = simp (read1 (goal.at.returns-in_default-g c).In-Bits, c.field-g.ensures ∙ ap field_told c.enum_told-in_default-g-1.given.1)
+returns-in_default-g c =
+    let read1 : let a = c.args in let g = c.f-1.given.0 in next_field a.rec.now HANDLING a.at ≡ got g.0 g.1.0 = c.field-f.ensures ∙ ap field_told c.f-1.given.1 in
+    simp (read1, c.field-g.ensures ∙ ap field_told c.enum_told-in_default-g-1.given.1)
 
 pub returns : goal.returns
 unfolding costs_of
-returns c = simp (read1 (first (goal.at.returns c).In-Bits-g), read2 (goal.at.returns c).In-Bits-g)
+returns c =
+    let read1 : let a = c.args in let g = c.f-1.given.0 in next_field a.rec.now HANDLING a.at ≡ got g.0 g.1.0 = c.field-f.ensures ∙ ap field_told c.f-1.given.1 in
+    let read2 : let a = c.args in let g = c.g-1.given.0 in next_field a.rec.now DISTANCE c.f-1.given.0.1.0 ≡ got g.0 g.1.0 = c.field-g.ensures ∙ ap field_told c.g-1.given.1 in
+    simp (read1, read2)

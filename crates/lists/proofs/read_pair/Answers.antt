@@ -8,24 +8,6 @@ use Rattle.fields.specs.Fields.Laws.{next_is}
 use Rattle.fields.specs.Answers.{field_told}
 use Rattle.parts.specs.Grammar.{pair_of}
 use Rattle.lists.proofs.read_pair.Goals as goal
-use Rattle.lists.proofs.read_pair.Goals.{Else-n-variable, In-Bits, In-Bits-g, Start}
-
--- places: the start, after the variable is read, after its two tests
-abbrev start : In-Bits → Start
-start c = c
-
-abbrev named : Else-n-variable → In-Bits
-named c = c
-
-abbrev tested : In-Bits-g → Else-n-variable
-tested c = c
-
--- what the two fields read
-read1 : (c : In-Bits) → next_field (start c).args.rec.now VARIABLE (start c).args.at ≡ got c.f-1.given.0.0 c.f-1.given.0.1.0
-read1 c = c.field-f.ensures ∙ ap field_told c.f-1.given.1
-
-read2 : (c : In-Bits-g) → next_field (start (named (tested c))).args.rec.now VALUE (named (tested c)).before.f.given.0.1.0 ≡ got c.g-1.given.0.0 c.g-1.given.0.1.0
-read2 c = c.field-g.ensures ∙ ap field_told c.g-1.given.1
 
 pub returns-in_default : goal.returns-in_default
 unfolding pair_of
@@ -33,20 +15,27 @@ returns-in_default c = simp (c.field-f.ensures ∙ ap field_told c.enum_told-1.g
 
 pub returns-then-variable-low : goal.returns-then-variable-low
 unfolding pair_of
-returns-then-variable-low c = simp (read1 (goal.at.returns-then-variable-low c).In-Bits, lt-ltb _ _ c.if-variable-low.true)
+returns-then-variable-low c =
+    let read1 : next_field c.args.rec.now VARIABLE c.args.at ≡ got c.f-1.given.0.0 c.f-1.given.0.1.0 = c.field-f.ensures ∙ ap field_told c.f-1.given.1 in
+    simp (read1, lt-ltb _ _ c.if-variable-low.true)
 
 pub returns-then-n-variable : goal.returns-then-n-variable
 unfolding pair_of
-returns-then-n-variable c = simp (read1 (goal.at.returns-then-n-variable c).In-Bits, le-ltb _ _ c.if-variable-low.false, le-leb _ _ c.if-n-variable.true)
+returns-then-n-variable c =
+    let read1 : next_field c.args.rec.now VARIABLE c.args.at ≡ got c.f-1.given.0.0 c.f-1.given.0.1.0 = c.field-f.ensures ∙ ap field_told c.f-1.given.1 in
+    simp (read1, le-ltb _ _ c.if-variable-low.false, le-leb _ _ c.if-n-variable.true)
 
 pub field-g-requires : goal.field-g-requires
-field-g-requires c = omega (arith, next_is _ VARIABLE _ (read1 (named (goal.at.field-g-requires c).Else-n-variable)))
+field-g-requires c =
+    let read1 : next_field c.args.rec.now VARIABLE c.args.at ≡ got c.f-1.given.0.0 c.f-1.given.0.1.0 = c.field-f.ensures ∙ ap field_told c.f-1.given.1 in
+    omega (arith, next_is _ VARIABLE _ read1)
 
 pub returns-in_default-g : goal.returns-in_default-g
 unfolding pair_of
 returns-in_default-g c =
+    let read1 : next_field c.args.rec.now VARIABLE c.args.at ≡ got c.f-1.given.0.0 c.f-1.given.0.1.0 = c.field-f.ensures ∙ ap field_told c.f-1.given.1 in
     simp (
-      read1 (named (goal.at.returns-in_default-g c).Else-n-variable),
+      read1,
       le-ltb _ _ c.if-variable-low.false,
       lt-leb _ _ c.if-n-variable.false,
       c.field-g.ensures ∙ ap field_told c.enum_told-in_default-g-1.given.1,
@@ -58,29 +47,35 @@ overflow_cast-size c = record { fits = lt_of_lt_of_le (c.type_inv.sizes _).fits 
 pub returns-then-size-x : goal.returns-then-size-x
 unfolding pair_of
 returns-then-size-x c =
-    let t = tested (goal.at.returns-then-size-x c).In-Bits-g in
+    let read1 : next_field c.args.rec.now VARIABLE c.args.at ≡ got c.f-1.given.0.0 c.f-1.given.0.1.0 = c.field-f.ensures ∙ ap field_told c.f-1.given.1 in
+    let read2 : next_field c.args.rec.now VALUE c.f-1.given.0.1.0 ≡ got c.g-1.given.0.0 c.g-1.given.0.1.0 = c.field-g.ensures ∙ ap field_told c.g-1.given.1 in
     simp (
-      read1 (named t),
-      le-ltb _ _ t.before.if1.left,
-      lt-leb _ _ t.if2.left,
-      read2 (goal.at.returns-then-size-x c).In-Bits-g,
+      read1,
+      le-ltb _ _ c.if-variable-low.left,
+      lt-leb _ _ c.if-n-variable.left,
+      read2,
       le-leb _ _ c.if-size-x.true,
     )
 
 pub overflow_cast-result : goal.overflow_cast-result
-overflow_cast-result c = omega (arith, next_is _ VARIABLE _ (read1 (named (tested (goal.at.overflow_cast-result c).In-Bits-g))))
+overflow_cast-result c =
+    let read1 : next_field c.args.rec.now VARIABLE c.args.at ≡ got c.f-1.given.0.0 c.f-1.given.0.1.0 = c.field-f.ensures ∙ ap field_told c.f-1.given.1 in
+    omega (arith, next_is _ VARIABLE _ read1)
 
 pub overflow_cast-result-2 : goal.overflow_cast-result-2
-overflow_cast-result-2 c = omega (arith, next_is _ VALUE _ (read2 (goal.at.overflow_cast-result-2 c).In-Bits-g))
+overflow_cast-result-2 c =
+    let read2 : next_field c.args.rec.now VALUE c.f-1.given.0.1.0 ≡ got c.g-1.given.0.0 c.g-1.given.0.1.0 = c.field-g.ensures ∙ ap field_told c.g-1.given.1 in
+    omega (arith, next_is _ VALUE _ read2)
 
 pub returns : goal.returns
 unfolding pair_of
 returns c =
-    let t = tested (goal.at.returns c).In-Bits-g in
+    let read1 : next_field c.args.rec.now VARIABLE c.args.at ≡ got c.f-1.given.0.0 c.f-1.given.0.1.0 = c.field-f.ensures ∙ ap field_told c.f-1.given.1 in
+    let read2 : next_field c.args.rec.now VALUE c.f-1.given.0.1.0 ≡ got c.g-1.given.0.0 c.g-1.given.0.1.0 = c.field-g.ensures ∙ ap field_told c.g-1.given.1 in
     simp (
-      read1 (named t),
-      le-ltb _ _ t.before.if1.left,
-      lt-leb _ _ t.if2.left,
-      read2 (goal.at.returns c).In-Bits-g,
+      read1,
+      le-ltb _ _ c.if-variable-low.left,
+      lt-leb _ _ c.if-n-variable.left,
+      read2,
       lt-leb _ _ c.if-size-x.false,
     )

@@ -5,15 +5,6 @@ use Rattle.rows.specs.Row.{node_in, node_with, Tested}
 use Rattle.rows.specs.Row.Laws.{row_in}
 use Rattle.nodes.specs.Chain.Walk.{dominator_found}
 use Rattle.nodes.proofs.dominator.Goals as goal
-use Rattle.nodes.proofs.dominator.Goals.{After-test_at-tried, Start}
-
--- the new node
-abbrev fresh : Start → Node
-fresh s = node_with s.args.spot s.args.paid (take s.args.states s.args.prices.now) 0 0
-
--- what the test of it tells
-tested : (c : After-test_at-tried) → Tested c.args.states (node_in c.args.states c.args.table.now (c.args.recent - 1)) (fresh c) c.test_at-tried.result
-tested c = c.test_at-tried.ensures
 
 pub test_at-tried-requires : goal.test_at-tried-requires
 test_at-tried-requires c =
@@ -30,8 +21,10 @@ test_at-tried-requires c =
 
 pub returns-then-tried-states : goal.returns-then-tried-states
 returns-then-tried-states c =
+    let fresh : Node = node_with c.args.spot c.args.paid (take c.args.states c.args.prices.now) 0 0 in
+    let tested : Tested c.args.states (node_in c.args.states c.args.table.now (c.args.recent - 1)) fresh c.test_at-tried.result = c.test_at-tried.ensures in
     let a = c.args in
     let e : c.args.recent ≡ suc (c.args.recent - 1) = omega (arith, c.if-recent-gt0.true) in
     rw e
-    (dominator_found a.states a.table.now a.count (fresh (goal.at.returns-then-tried-states c).Start) (c.args.recent - 1) (omega (arith, c.if-recent-count.true, c.if-recent-gt0.true))
-    ((tested (goal.at.returns-then-tried-states c).After-test_at-tried).found c.if-tried-states.true))
+    (dominator_found a.states a.table.now a.count fresh (c.args.recent - 1) (omega (arith, c.if-recent-count.true, c.if-recent-gt0.true))
+    (tested.found c.if-tried-states.true))

@@ -9,47 +9,33 @@ use Rattle.parts.specs.Grammar.{Variables, variable_of, variable_turn, variables
 use Rattle.parts.specs.Places.{variable_place}
 use Rattle.parts.specs.Told.{variable_told}
 use Rattle.parts.proofs.read_variables.Goals as goal
-use Rattle.parts.proofs.read_variables.Goals.{After-read_variable-v, At-loop-i, In-Is, Start}
-
--- places: the loop's head and the start, seen from where a variable has been read
-abbrev head : After-read_variable-v → At-loop-i
-head c = c
-
-abbrev start : At-loop-i → Start
-start c = c
-
--- the variables so far
-abbrev so_far : At-loop-i → Variables
-so_far c = let l = c.loop-i in record { sizes = l.sizes; factors = l.factors; initial = l.initial }
-
--- what the variable read
-read : (c : In-Is) → let a = (start (head c)).args in
-    let g = c.v-in-Is-1.given.0 in
-    variable_of (next_field a.rec.now) a.leaves (head c).loop.k ≡ got (record { size = g.0; factor = g.1.0; initial = g.1.1.0 }) g.1.1.1.0
-read c = c.read_variable-v.ensures ∙ ap variable_told c.v-in-Is-1.given.1
 
 pub loop-i-init : goal.loop-i-init
 loop-i-init c = (omega arith, omega arith, elsewhere_none, elsewhere_none, elsewhere_none, rw sub-zero)
 
 pub returns-in-Refused : goal.returns-in-Refused
 returns-in-Refused c =
-    let l = (head (goal.at.returns-in-Refused c).After-read_variable-v).loop in
-    let a = (start (head (goal.at.returns-in-Refused c).After-read_variable-v)).args in
-    let none = c.read_variable-v.ensures ∙ ap variable_told c.v-1.given.1 in record { told = sym l.inv.5 ∙ turns_stop (variable_turn (next_field a.rec.now) a.leaves) a.n l.i (so_far (head (goal.at.returns-in-Refused c).After-read_variable-v)) l.k {c = c.v-1.given.0.0} (omega arith) (simp none); near = omega arith; elsewhere = (l.inv.2, l.inv.3, l.inv.4) }
+    let so_far : Variables = let l = c.loop-i in record { sizes = l.sizes; factors = l.factors; initial = l.initial } in
+    let l = c.loop-i in
+    let a = c.args in
+    let none = c.read_variable-v.ensures ∙ ap variable_told c.v-1.given.1 in record { told = sym l.inv.5 ∙ turns_stop (variable_turn (next_field a.rec.now) a.leaves) a.n l.i so_far l.k {c = c.v-1.given.0.0} (omega arith) (simp none); near = omega arith; elsewhere = (l.inv.2, l.inv.3, l.inv.4) }
 
 pub loop-i-preserved : goal.loop-i-preserved
 loop-i-preserved c =
-    let l = (head (goal.at.loop-i-preserved c).After-read_variable-v).loop in
-    let a = (start (head (goal.at.loop-i-preserved c).After-read_variable-v)).args in (
+    let so_far : Variables = let l = c.loop-i in record { sizes = l.sizes; factors = l.factors; initial = l.initial } in
+    let read : let a = c.args in let g = c.v-in-Is-1.given.0 in variable_of (next_field a.rec.now) a.leaves c.loop-i.k ≡ got (record { size = g.0; factor = g.1.0; initial = g.1.1.0 }) g.1.1.1.0 = c.read_variable-v.ensures ∙ ap variable_told c.v-in-Is-1.given.1 in
+    let l = c.loop-i in
+    let a = c.args in (
       omega arith,
-      omega (arith, variable_place _ _ _ (read (goal.at.loop-i-preserved c).In-Is)),
+      omega (arith, variable_place _ _ _ read),
       elsewhere_then l.inv.2 (elsewhere_set _ _ _ (omega arith) (omega arith)),
       elsewhere_then l.inv.3 (elsewhere_set _ _ _ (omega arith) (omega arith)),
       elsewhere_then l.inv.4 (elsewhere_set _ _ _ (omega arith) (omega arith)),
-      sym (turns_on (variable_turn (next_field a.rec.now) a.leaves) a.n l.i (so_far (head (goal.at.loop-i-preserved c).After-read_variable-v)) l.k (omega arith) (simp (read (goal.at.loop-i-preserved c).In-Is))) ∙ l.inv.5,
+      sym (turns_on (variable_turn (next_field a.rec.now) a.leaves) a.n l.i so_far l.k (omega arith) (simp read)) ∙ l.inv.5,
     )
 
 pub returns : goal.returns
 returns c =
+    let so_far : Variables = let l = c.loop-i in record { sizes = l.sizes; factors = l.factors; initial = l.initial } in
     let l = c.loop-i in
-    let a = (start (goal.at.returns c).At-loop-i).args in record { told = sym l.invariant.5 ∙ turns_end (variable_turn (next_field a.rec.now) a.leaves) a.n l.i (so_far (goal.at.returns c).At-loop-i) l.k c.loop-i-test.false; near = omega arith; elsewhere = (l.invariant.2, l.invariant.3, l.invariant.4) }
+    let a = c.args in record { told = sym l.invariant.5 ∙ turns_end (variable_turn (next_field a.rec.now) a.leaves) a.n l.i so_far l.k c.loop-i-test.false; near = omega arith; elsewhere = (l.invariant.2, l.invariant.3, l.invariant.4) }

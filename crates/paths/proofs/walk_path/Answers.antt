@@ -12,111 +12,104 @@ use Rattle.tables.specs.Fit.{start_in, tables_fit}
 use Rattle.price.specs.Path.{first_layer, walk}
 use Rattle.paths.specs.Paths.Laws.{AlongBy, front, walk_first, walk_end, along_more, along_stuck}
 use Rattle.paths.proofs.walk_path.Goals as goal
-use Rattle.paths.proofs.walk_path.Goals.{After-layer-1, Start}
-
--- the Board of the task
-abbrev board : Start → Board
-board s =
-    let a = s.args in
-    board_of a.task.leaves a.task.actions a.bases.now a.moves.now a.costs.now a.kinds.now a.task.factors a.task.conditions
-
--- the lengths of the task's lists
-lists : (s : Start) → let t = s.args.task in (length t.factors ≡ 32) × (length t.conditions ≡ 8192) × (length t.effects ≡ 8192)
-lists s = (search rules, search rules, search rules)
-
--- as many prices are lent as there can be
-long : (s : Start) → length s.args.layer.now ≡ 1024
-long s = ap length s.requires.1.1.1 ∙ length-replicate 1024 mark
-
--- it fits the task, and can be indexed
-fit : (s : Start) → Fits s.args.task (board s) × Sound (board s)
-fit s =
-    let a = s.args in
-    let h = s.requires.1.0 in
-    tables_fit a.task s.requires.0 a.bases.now a.moves.now a.costs.now a.kinds.now
-    h.is_bases h.is_moves h.is_costs h.is_kinds h.long_moves (lists s).0 (lists s).1
-
--- the first layer is the task's
-begins : (c : After-layer-1) → let t = c.args.task in
-    front t c.after-spot.result c.first_layer.new.new ≡ first_layer t
-begins c =
-    let t = c.args.task in
-    walk_first t (board c) (fit c).0 c.args.starts.now c.after-spot.result (drop (get_or c.args.bases.now t.leaves 0) c.args.layer.now) c.first_layer.new.new c.requires.1.0.is_starts.is
-    (c.after-spot.ensures ∙ ap (centre_after (factor t) (initial t)) c.blank.ensures ∙ initial_centre t c.requires.0)
-    c.first_layer.ensures
 
 pub slice_bounds-first_layer-end : goal.slice_bounds-first_layer-end
-slice_bounds-first_layer-end c = sym (lists (goal.at.slice_bounds-first_layer-end c).Start).1
+slice_bounds-first_layer-end c =
+    let lists : let t = c.args.task in (length t.factors ≡ 32) × (length t.conditions ≡ 8192) × (length t.effects ≡ 8192) = (search rules, search rules, search rules) in
+    sym lists.1
 
 pub first_layer-requires : goal.first_layer-requires
 first_layer-requires c =
+    let board : Board = let a = c.args in board_of a.task.leaves a.task.actions a.bases.now a.moves.now a.costs.now a.kinds.now a.task.factors a.task.conditions in
+    let lists : let t = c.args.task in (length t.factors ≡ 32) × (length t.conditions ≡ 8192) × (length t.effects ≡ 8192) = (search rules, search rules, search rules) in
+    let long : length c.args.layer.now ≡ 1024 = ap length c.requires.1.1.1 ∙ length-replicate 1024 mark in
+    let fit : Fits c.args.task board × Sound board = let a = c.args in let h = c.requires.1.0 in tables_fit a.task c.requires.0 a.bases.now a.moves.now a.costs.now a.kinds.now h.is_bases h.is_moves h.is_costs h.is_kinds h.long_moves lists.0 lists.1 in
     let t = c.args.task in
-    let w = fit (goal.at.first_layer-requires c).Start in (
+    let w = fit in (
       w.1,
-      omega (arith, w.1.few_all, long (goal.at.first_layer-requires c).Start),
+      omega (arith, w.1.few_all, long),
       omega (arith, c.requires.0.fields.few_leaves, c.requires.1.0.is_starts.long),
-      start_in t c.requires.0 (board (goal.at.first_layer-requires c).Start) w.0 c.args.starts.now c.requires.1.0.is_starts,
+      start_in t c.requires.0 board w.0 c.args.starts.now c.requires.1.0.is_starts,
       rw c.requires.1.1.1 (take_replicate _ 1024 mark w.1.few_all),
     )
 
 pub loop-k-init : goal.loop-k-init
 loop-k-init c =
+    let long : length c.args.layer.now ≡ 1024 = ap length c.requires.1.1.1 ∙ length-replicate 1024 mark in
     let kept : length c.first_layer.new.new ≡ length c.args.layer.now = c.first_layer.auto.new in
-    (omega arith, refl, kept ∙ long (goal.at.loop-k-init c).Start, λ t f q. refl)
+    (omega arith, refl, kept ∙ long, λ t f q. refl)
 
 pub slice_bounds-advance-end : goal.slice_bounds-advance-end
-slice_bounds-advance-end c = sym (lists (goal.at.slice_bounds-advance-end c).Start).1
+slice_bounds-advance-end c =
+    let lists : let t = c.args.task in (length t.factors ≡ 32) × (length t.conditions ≡ 8192) × (length t.effects ≡ 8192) = (search rules, search rules, search rules) in
+    sym lists.1
 
 pub slice_bounds-advance-end-in-loop-k : goal.slice_bounds-advance-end-in-loop-k
-slice_bounds-advance-end-in-loop-k c = sym (lists (goal.at.slice_bounds-advance-end-in-loop-k c).Start).2
+slice_bounds-advance-end-in-loop-k c =
+    let lists : let t = c.args.task in (length t.factors ≡ 32) × (length t.conditions ≡ 8192) × (length t.effects ≡ 8192) = (search rules, search rules, search rules) in
+    sym lists.2
 
 pub overflow_cast-path : goal.overflow_cast-path
 overflow_cast-path c = omega (arith, c.type_inv.path c.loop-k.k)
 
 pub advance-turn-requires : goal.advance-turn-requires
 advance-turn-requires c =
-    ((fit (goal.at.advance-turn-requires c).Start).1, c.requires.1.1.0 c.loop-k.k (omega arith), (lists (goal.at.advance-turn-requires c).Start).2, c.loop-k.invariant.2)
+    let board : Board = let a = c.args in board_of a.task.leaves a.task.actions a.bases.now a.moves.now a.costs.now a.kinds.now a.task.factors a.task.conditions in
+    let lists : let t = c.args.task in (length t.factors ≡ 32) × (length t.conditions ≡ 8192) × (length t.effects ≡ 8192) = (search rules, search rules, search rules) in
+    let fit : Fits c.args.task board × Sound board = let a = c.args in let h = c.requires.1.0 in tables_fit a.task c.requires.0 a.bases.now a.moves.now a.costs.now a.kinds.now h.is_bases h.is_moves h.is_costs h.is_kinds h.long_moves lists.0 lists.1 in
+    (fit.1, c.requires.1.1.0 c.loop-k.k (omega arith), lists.2, c.loop-k.invariant.2)
 
 pub shape_of-layer-then-not-turn : goal.shape_of-layer-then-not-turn
 shape_of-layer-then-not-turn c =
+    let long : length c.args.layer.now ≡ 1024 = ap length c.requires.1.1.1 ∙ length-replicate 1024 mark in
     let kept : length c.advance-turn.new.layer ≡ length c.loop-k.layer = c.advance-turn.auto.layer in
-    kept ∙ c.loop-k.invariant.2 ∙ sym (long (goal.at.shape_of-layer-then-not-turn c).Start)
+    kept ∙ c.loop-k.invariant.2 ∙ sym long
 
 pub returns-then-not-turn : goal.returns-then-not-turn
 returns-then-not-turn c =
+    let board : Board = let a = c.args in board_of a.task.leaves a.task.actions a.bases.now a.moves.now a.costs.now a.kinds.now a.task.factors a.task.conditions in
+    let lists : let t = c.args.task in (length t.factors ≡ 32) × (length t.conditions ≡ 8192) × (length t.effects ≡ 8192) = (search rules, search rules, search rules) in
+    let fit : Fits c.args.task board × Sound board = let a = c.args in let h = c.requires.1.0 in tables_fit a.task c.requires.0 a.bases.now a.moves.now a.costs.now a.kinds.now h.is_bases h.is_moves h.is_costs h.is_kinds h.long_moves lists.0 lists.1 in
+    let begins : let t = c.args.task in front t c.after-spot.result c.first_layer.new.new ≡ first_layer t = let t = c.args.task in walk_first t board fit.0 c.args.starts.now c.after-spot.result (drop (get_or c.args.bases.now t.leaves 0) c.args.layer.now) c.first_layer.new.new c.requires.1.0.is_starts.is (c.after-spot.ensures ∙ ap (centre_after (factor t) (initial t)) c.blank.ensures ∙ initial_centre t c.requires.0) c.first_layer.ensures in
     let t = c.args.task in
-    let w = fit (goal.at.returns-then-not-turn c).Start in
-    let e : c.advance-turn.result.ends ≡ false = not-true _ c.if-not-turn.true in
+    let w = fit in
+    let e : c.advance-turn.result.ends ≡ false = c.if-not-turn.true in
     rw e
-    (along_stuck (board (goal.at.returns-then-not-turn c).Start) t.effects c.args.path.now c.after-spot.result c.first_layer.new.new c.loop-k.spot c.loop-k.layer c.loop-k.k
+    (along_stuck board t.effects c.args.path.now c.after-spot.result c.first_layer.new.new c.loop-k.spot c.loop-k.layer c.loop-k.k
     c.advance-turn.result c.advance-turn.new.layer (omega (arith, c.loop-k-test.true, c.loop-k.invariant.1)) (c.requires.1.1.0 c.loop-k.k (omega (arith, c.loop-k-test.true, c.loop-k.invariant.1)))
     c.advance-turn.ensures c.loop-k.invariant.3 e t w.0 refl
-    ∙ ap (λ m. walk t m c.args.path.now) (begins (goal.at.returns-then-not-turn c).After-layer-1))
+    ∙ ap (λ m. walk t m c.args.path.now) begins)
 
 pub overflow_step-k : goal.overflow_step-k
-overflow_step-k c = omega (arith, c.loop-k-test.true, c.loop-k.invariant.1, c.well-formed.1.1.1.1.1.1.0.0)
+overflow_step-k c = omega (arith, c.loop-k-test.true, c.loop-k.invariant.1, c.well_formed.1.1.1.1.1.1.0.0)
 
 pub loop-k-preserved : goal.loop-k-preserved
 loop-k-preserved c =
+    let board : Board = let a = c.args in board_of a.task.leaves a.task.actions a.bases.now a.moves.now a.costs.now a.kinds.now a.task.factors a.task.conditions in
     let t = c.args.task in
     let kept : length c.advance-turn.new.layer ≡ length c.loop-k.layer = c.advance-turn.auto.layer in (
       omega (arith, c.loop-k-test.true, c.loop-k.invariant.1),
       c.loop-k.invariant.1,
       kept ∙ c.loop-k.invariant.2,
-      along_more (board (goal.at.loop-k-preserved c).Start) t.effects c.args.path.now c.after-spot.result c.first_layer.new.new c.loop-k.spot c.loop-k.layer c.loop-k.k
+      along_more board t.effects c.args.path.now c.after-spot.result c.first_layer.new.new c.loop-k.spot c.loop-k.layer c.loop-k.k
           c.advance-turn.result c.advance-turn.new.layer (omega (arith, c.loop-k-test.true, c.loop-k.invariant.1)) (c.requires.1.1.0 c.loop-k.k (omega (arith, c.loop-k-test.true, c.loop-k.invariant.1)))
-          c.advance-turn.ensures c.loop-k.invariant.3 (not-false _ c.if-not-turn.false),
+          c.advance-turn.ensures c.loop-k.invariant.3 c.if-not-turn.false,
     )
 
 pub shape_of-layer : goal.shape_of-layer
 shape_of-layer c =
+    let long : length c.args.layer.now ≡ 1024 = ap length c.requires.1.1.1 ∙ length-replicate 1024 mark in
     c.loop-k.invariant.2
-    ∙ sym (long (goal.at.shape_of-layer c).Start)
+    ∙ sym long
 
 pub returns : goal.returns
 returns c =
+    let board : Board = let a = c.args in board_of a.task.leaves a.task.actions a.bases.now a.moves.now a.costs.now a.kinds.now a.task.factors a.task.conditions in
+    let lists : let t = c.args.task in (length t.factors ≡ 32) × (length t.conditions ≡ 8192) × (length t.effects ≡ 8192) = (search rules, search rules, search rules) in
+    let fit : Fits c.args.task board × Sound board = let a = c.args in let h = c.requires.1.0 in tables_fit a.task c.requires.0 a.bases.now a.moves.now a.costs.now a.kinds.now h.is_bases h.is_moves h.is_costs h.is_kinds h.long_moves lists.0 lists.1 in
+    let begins : let t = c.args.task in front t c.after-spot.result c.first_layer.new.new ≡ first_layer t = let t = c.args.task in walk_first t board fit.0 c.args.starts.now c.after-spot.result (drop (get_or c.args.bases.now t.leaves 0) c.args.layer.now) c.first_layer.new.new c.requires.1.0.is_starts.is (c.after-spot.ensures ∙ ap (centre_after (factor t) (initial t)) c.blank.ensures ∙ initial_centre t c.requires.0) c.first_layer.ensures in
     let t = c.args.task in
     let p = c.args.path.now in
     sym (walk_end t (front t c.loop-k.spot c.loop-k.layer) p c.loop-k.k (omega arith))
-    ∙ c.loop-k.invariant.3 t (fit (goal.at.returns c).Start).0 refl
-    ∙ ap (λ m. walk t m p) (begins (goal.at.returns c).After-layer-1)
+    ∙ c.loop-k.invariant.3 t fit.0 refl
+    ∙ ap (λ m. walk t m p) begins

@@ -4,21 +4,6 @@ use Rattle.layer.specs.Lent.{board_of}
 use Rattle.plans.specs.Walk.{over_on, RowIn}
 use Rattle.plans.specs.Walk.Turns.{OverLeft, over_none, over_more}
 use Rattle.plans.proofs.go_over.Goals as goal
-use Rattle.plans.proofs.go_over.Goals.{In-loop-i, Start}
-
--- the Board that is lent
-abbrev board : Start → Board
-board s =
-    let a = s.args in
-    board_of a.leaves a.actions a.bases.now a.moves.now a.costs.now a.kinds.now a.factors a.conditions.now
-
--- where the function starts, seen from a turn of the loop
-abbrev start : In-loop-i → Start
-start c = c
-
--- there is a state for each leaf
-room : (c : In-loop-i) → c.loop-i.i < length c.loop-i.ends
-room c = omega (arith, (start c).requires.1.1.0, c.loop-i.invariant.1.kept)
 
 pub parent_of-parent-requires : goal.parent_of-parent-requires
 parent_of-parent-requires c = c.requires.1.0.0
@@ -30,29 +15,38 @@ pub loop-i-init : goal.loop-i-init
 loop-i-init c = (omega arith, over_none _ _)
 
 pub offset_bounds-ends-i : goal.offset_bounds-ends-i
-offset_bounds-ends-i c = omega (arith, room (goal.at.offset_bounds-ends-i c).In-loop-i)
+offset_bounds-ends-i c =
+    let room : c.loop-i.i < length c.loop-i.ends = omega (arith, c.requires.1.1.0, c.loop-i.invariant.1.kept) in
+    omega (arith, room)
 
 pub bounds-ends-i : goal.bounds-ends-i
-bounds-ends-i c = omega (arith, room (goal.at.bounds-ends-i c).In-loop-i)
+bounds-ends-i c =
+    let room : c.loop-i.i < length c.loop-i.ends = omega (arith, c.requires.1.1.0, c.loop-i.invariant.1.kept) in
+    omega (arith, room)
 
 pub leaf_over-requires : goal.leaf_over-requires
 leaf_over-requires c =
-    let s = start (goal.at.leaf_over-requires c).In-loop-i in
+    let board : Board = let a = c.args in board_of a.leaves a.actions a.bases.now a.moves.now a.costs.now a.kinds.now a.factors a.conditions.now in
     let l = c.loop-i in
     let i = c.loop-i-test.true in
-    let row = subst (λ (p : ℕ). RowIn (row_on (board s)) s.args.table.now p) (sym c.parent_of-parent.ensures) s.pre.1.0.1 in
-    let known : c.action_of-action.result < s.args.actions = omega (arith, s.pre.1.0.2, c.action_of-action.ensures) in record { sound = (s.pre.0, i, known, s.pre.1.0.0, row); parent_value = (c.parent_of-parent.ensures, c.action_of-action.ensures, omega (arith, s.pre.1.1.1 l.i i, l.invariant.1.waits l.i (omega arith))) }
+    let row = subst (λ (p : ℕ). RowIn (row_on board) c.args.table.now p) (sym c.parent_of-parent.ensures) c.requires.1.0.1 in
+    let known : c.action_of-action.result < c.args.actions = omega (arith, c.requires.1.0.2, c.action_of-action.ensures) in record { sound = (c.requires.0, i, known, c.requires.1.0.0, row); parent_value = (c.parent_of-parent.ensures, c.action_of-action.ensures, omega (arith, c.requires.1.1.1 l.i i, l.invariant.1.waits l.i (omega arith))) }
 
 pub offset_bounds-ends-i-in-loop-i : goal.offset_bounds-ends-i-in-loop-i
-offset_bounds-ends-i-in-loop-i c = omega (arith, room (goal.at.offset_bounds-ends-i-in-loop-i c).In-loop-i)
+offset_bounds-ends-i-in-loop-i c =
+    let room : c.loop-i.i < length c.loop-i.ends = omega (arith, c.requires.1.1.0, c.loop-i.invariant.1.kept) in
+    omega (arith, room)
 
 pub bounds-ends-i-in-loop-i : goal.bounds-ends-i-in-loop-i
-bounds-ends-i-in-loop-i c = omega (arith, room (goal.at.bounds-ends-i-in-loop-i c).In-loop-i)
+bounds-ends-i-in-loop-i c =
+    let room : c.loop-i.i < length c.loop-i.ends = omega (arith, c.requires.1.1.0, c.loop-i.invariant.1.kept) in
+    omega (arith, room)
 
 pub loop-i-preserved : goal.loop-i-preserved
 loop-i-preserved c =
+    let room : c.loop-i.i < length c.loop-i.ends = omega (arith, c.requires.1.1.0, c.loop-i.invariant.1.kept) in
     let l = c.loop-i in
-    (omega arith, over_more _ _ l.i l.ends (room (goal.at.loop-i-preserved c).In-loop-i) c.leaf_over.ensures l.invariant.1)
+    (omega arith, over_more _ _ l.i l.ends room c.leaf_over.ensures l.invariant.1)
 
 pub shape_of-ends : goal.shape_of-ends
 shape_of-ends c = c.loop-i.invariant.1.kept

@@ -6,69 +6,52 @@ use Rattle.plans.specs.Walk.{back_on, WalkableOn}
 use Rattle.plans.specs.Walk.Turns.{LayerLeft, layer_all, layer_less, layer_end}
 use Rattle.plans.specs.Fit.{back_few}
 use Rattle.plans.proofs.layer_back.Goals as goal
-use Rattle.plans.proofs.layer_back.Goals.{In-loop-i, Start}
-
--- the Board that is lent
-abbrev board : Start → Board
-board s =
-    let a = s.args in
-    board_of a.leaves a.actions a.bases.now a.moves.now a.costs.now a.kinds.now a.factors a.conditions.now
-
--- where the function starts, seen from a turn of the loop
-abbrev start : In-loop-i → Start
-start c = c
-
--- there is a state for each leaf
-room : (c : In-loop-i) → let l = c.loop-i in (l.i - 1 < length l.ends) × (l.i ≤ length l.ends) × (l.i ≤ 8)
-room c = omega (arith, (start c).requires.1.1.0, c.loop-i.invariant.0, c.loop-i.invariant.1, c.loop-i-test.true, (start c).requires.0.sound.few_leaves)
-
--- the leaf can be walked back from its state, by few actions
-walks : (c : In-loop-i) → let s = start c in let l = c.loop-i in
-    WalkableOn (board s) s.args.starts.now s.args.table.now (l.i - 1) s.args.node (get_or l.ends (l.i - 1) 0)
-walks c =
-    let s = start c in
-    let l = c.loop-i in
-    subst (λ (y : ℕ). WalkableOn (board s) s.args.starts.now s.args.table.now (l.i - 1) s.args.node y)
-    (sym (l.invariant.4.waits (l.i - 1) (omega (arith, c.loop-i-test.true)))) (s.pre.1.0 (l.i - 1) (omega (arith, l.invariant.0, c.loop-i-test.true)))
-
-few : (c : In-loop-i) → let s = start c in let l = c.loop-i in
-    length (back_on (board s) s.args.starts.now s.args.table.now (l.i - 1) s.args.node (get_or l.ends (l.i - 1) 0)).acts ≤ 256
-few c =
-    let s = start c in
-    back_few (board s) s.args.starts.now s.args.table.now (c.loop-i.i - 1) s.args.node _ (walks c)
 
 pub loop-i-init : goal.loop-i-init
 loop-i-init c = (omega arith, refl, refl, refl, layer_all _ _ _ _ _ _)
 
 pub offset_bounds-ends-i : goal.offset_bounds-ends-i
-offset_bounds-ends-i c = omega (arith, room (goal.at.offset_bounds-ends-i c).In-loop-i)
+offset_bounds-ends-i c =
+    let room : let l = c.loop-i in (l.i - 1 < length l.ends) × (l.i ≤ length l.ends) × (l.i ≤ 8) = omega (arith, c.requires.1.1.0, c.loop-i.invariant.0, c.loop-i.invariant.1, c.loop-i-test.true, c.requires.0.sound.few_leaves) in
+    omega (arith, room)
 
 pub bounds-ends-i : goal.bounds-ends-i
-bounds-ends-i c = omega (arith, room (goal.at.bounds-ends-i c).In-loop-i)
+bounds-ends-i c =
+    let room : let l = c.loop-i in (l.i - 1 < length l.ends) × (l.i ≤ length l.ends) × (l.i ≤ 8) = omega (arith, c.requires.1.1.0, c.loop-i.invariant.0, c.loop-i.invariant.1, c.loop-i-test.true, c.requires.0.sound.few_leaves) in
+    omega (arith, room)
 
 pub leaf_step-end-requires : goal.leaf_step-end-requires
 leaf_step-end-requires c =
-    let s = start (goal.at.leaf_step-end-requires c).In-loop-i in
+    let board : Board = let a = c.args in board_of a.leaves a.actions a.bases.now a.moves.now a.costs.now a.kinds.now a.factors a.conditions.now in
+    let walks : let l = c.loop-i in WalkableOn board c.args.starts.now c.args.table.now (l.i - 1) c.args.node (get_or l.ends (l.i - 1) 0) = let l = c.loop-i in subst (λ (y : ℕ). WalkableOn board c.args.starts.now c.args.table.now (l.i - 1) c.args.node y) (sym (l.invariant.4.waits (l.i - 1) (omega (arith, c.loop-i-test.true)))) (c.requires.1.0 (l.i - 1) (omega (arith, l.invariant.0, c.loop-i-test.true))) in
     let l = c.loop-i in
-    let place : l.p + 256 ≤ mark = omega (arith, s.pre.1.1.3, l.invariant.4.room, l.invariant.0, s.pre.0.sound.few_leaves, c.loop-i-test.true) in record { standing = (s.pre.0, omega (arith, l.invariant.0)); walkable_on = walks (goal.at.leaf_step-end-requires c).In-loop-i; i_in_bounds = (omega (arith, s.pre.1.1.1 (l.i - 1) (omega (arith, l.invariant.0, c.loop-i-test.true)), l.invariant.2), omega (arith, s.pre.1.1.2, l.invariant.3), place, s.pre.1.1.4) }
+    let place : l.p + 256 ≤ mark = omega (arith, c.requires.1.1.3, l.invariant.4.room, l.invariant.0, c.requires.0.sound.few_leaves, c.loop-i-test.true) in record { standing = (c.requires.0, omega (arith, l.invariant.0)); walkable_on = walks; i_in_bounds = (omega (arith, c.requires.1.1.1 (l.i - 1) (omega (arith, l.invariant.0, c.loop-i-test.true)), l.invariant.2), omega (arith, c.requires.1.1.2, l.invariant.3), place, c.requires.1.1.4) }
 
 pub offset_bounds-ends-i-in-loop-i : goal.offset_bounds-ends-i-in-loop-i
-offset_bounds-ends-i-in-loop-i c = omega (arith, room (goal.at.offset_bounds-ends-i-in-loop-i c).In-loop-i)
+offset_bounds-ends-i-in-loop-i c =
+    let room : let l = c.loop-i in (l.i - 1 < length l.ends) × (l.i ≤ length l.ends) × (l.i ≤ 8) = omega (arith, c.requires.1.1.0, c.loop-i.invariant.0, c.loop-i.invariant.1, c.loop-i-test.true, c.requires.0.sound.few_leaves) in
+    omega (arith, room)
 
 pub bounds-ends-i-in-loop-i : goal.bounds-ends-i-in-loop-i
-bounds-ends-i-in-loop-i c = omega (arith, room (goal.at.bounds-ends-i-in-loop-i c).In-loop-i)
+bounds-ends-i-in-loop-i c =
+    let room : let l = c.loop-i in (l.i - 1 < length l.ends) × (l.i ≤ length l.ends) × (l.i ≤ 8) = omega (arith, c.requires.1.1.0, c.loop-i.invariant.0, c.loop-i.invariant.1, c.loop-i-test.true, c.requires.0.sound.few_leaves) in
+    omega (arith, room)
 
 pub loop-i-smaller : goal.loop-i-smaller
 loop-i-smaller c = omega (arith, c.loop-i-test.true)
 
 pub loop-i-preserved : goal.loop-i-preserved
 loop-i-preserved c =
+    let board : Board = let a = c.args in board_of a.leaves a.actions a.bases.now a.moves.now a.costs.now a.kinds.now a.factors a.conditions.now in
+    let room : let l = c.loop-i in (l.i - 1 < length l.ends) × (l.i ≤ length l.ends) × (l.i ≤ 8) = omega (arith, c.requires.1.1.0, c.loop-i.invariant.0, c.loop-i.invariant.1, c.loop-i-test.true, c.requires.0.sound.few_leaves) in
+    let walks : let l = c.loop-i in WalkableOn board c.args.starts.now c.args.table.now (l.i - 1) c.args.node (get_or l.ends (l.i - 1) 0) = let l = c.loop-i in subst (λ (y : ℕ). WalkableOn board c.args.starts.now c.args.table.now (l.i - 1) c.args.node y) (sym (l.invariant.4.waits (l.i - 1) (omega (arith, c.loop-i-test.true)))) (c.requires.1.0 (l.i - 1) (omega (arith, l.invariant.0, c.loop-i-test.true))) in
+    let few : let l = c.loop-i in length (back_on board c.args.starts.now c.args.table.now (l.i - 1) c.args.node (get_or l.ends (l.i - 1) 0)).acts ≤ 256 = back_few board c.args.starts.now c.args.table.now (c.loop-i.i - 1) c.args.node _ walks in
     let l = c.loop-i in (
       omega (arith, l.invariant.0),
       simp length-set l.invariant.1,
       c.leaf_step-end.auto.tight ∙ l.invariant.2,
       c.leaf_step-end.auto.plan ∙ l.invariant.3,
-      layer_less _ _ _ _ _ _ l.i l.p l.ends l.plan _ _ c.loop-i-test.true (room (goal.at.loop-i-preserved c).In-loop-i).1 (few (goal.at.loop-i-preserved c).In-loop-i) c.leaf_step-end.ensures l.invariant.4,
+      layer_less _ _ _ _ _ _ l.i l.p l.ends l.plan _ _ c.loop-i-test.true room.1 few c.leaf_step-end.ensures l.invariant.4,
     )
 
 pub shape_of-ends : goal.shape_of-ends

@@ -29,8 +29,8 @@ room s =
       s.requires.1.2,
       sound.few_all,
       row_in (board s) sound s.args.action s.requires.0.2,
-      s.well-formed.1.1.1.1.1.1.1.1.0.1,
-      s.well-formed.1.1.1.0.0,
+      s.well_formed.1.1.1.1.1.1.1.1.0.1,
+      s.well_formed.1.1.1.0.0,
     )
 
 -- the leaf's prices in the parent's row, as they are lent

@@ -7,7 +7,7 @@ use Rattle.pricer.proofs.price_path.Goals as goal
 
 pub returns-then-not-w : goal.returns-then-not-w
 returns-then-not-w c =
-    end_stuck c.args.task c.args.out.now c.walk_task-w.result _ _ c.walk_task-w.ensures (not-true _ c.if-not-w.true)
+    end_stuck c.args.task c.args.out.now c.walk_task-w.result _ _ c.walk_task-w.ensures c.if-not-w.true
 
 pub copy_words-requires : goal.copy_words-requires
 copy_words-requires c =
@@ -17,5 +17,5 @@ copy_words-requires c =
 
 pub returns : goal.returns
 returns c =
-    end_prices c.args.task c.args.out.now c.walk_task-w.result c.walk_task-w.new.layer _ _ _ c.walk_task-w.ensures (not-false _ c.if-not-w.false)
+    end_prices c.args.task c.args.out.now c.walk_task-w.result c.walk_task-w.new.layer _ _ _ c.walk_task-w.ensures c.if-not-w.false
     (row_of c.args.task c.args.bases c.requires.1.0.1) c.copy_words.ensures

@@ -33,7 +33,7 @@ returns-then-out-states c =
 
 pub price_path-requires : goal.price_path-requires
 price_path-requires c =
-    let f = fitting (goal.at.price_path-requires c).After-path_fits-fits ∙ not-false _ c.if-not-fits.false in record { valid = c.requires; kinds = (c.action_kinds-kinds.ensures, c.leaf_bases-bases.ensures); by_index = (λ k l. (fits_centred c.args.task c.args.path.now f k l).0, omega (arith, row (goal.at.price_path-requires c).After-path_fits-fits, c.if-out-states.false)) }
+    let f = fitting (goal.at.price_path-requires c).After-path_fits-fits ∙ c.if-not-fits.false in record { valid = c.requires; kinds = (c.action_kinds-kinds.ensures, c.leaf_bases-bases.ensures); by_index = (λ k l. (fits_centred c.args.task c.args.path.now f k l).0, omega (arith, row (goal.at.price_path-requires c).After-path_fits-fits, c.if-out-states.false)) }
 
 pub returns : goal.returns
 returns c =

@@ -5,49 +5,34 @@ use Rattle.parts.specs.Grammar.{Lists, no_lists, lists_of}
 use Rattle.parts.specs.Told.{place_told, place_of}
 use Rattle.record.specs.Record.{body_of}
 use Rattle.record.proofs.read_body.Goals as goal
-use Rattle.record.proofs.read_body.Goals.{After-read_lists-p, Start}
-
--- places: the start, and after the lists
-abbrev start : After-read_lists-p → Start
-start c = c
-
--- the lists that were read
-abbrev lists : After-read_lists-p → Lists
-lists c =
-    let l = c.read_lists-p.new.1.1.1.1.1 in
-    let m = l.1.1.1.1 in
-    record {
-      variables = record { sizes = l.0; factors = l.1.0; initial = l.1.1.0 };
-      goal = l.1.1.1.0;
-      actions = record { handling = m.0; distance = m.1.0; conditions = m.1.1.0; effects = m.1.1.1.0 };
-    }
-
--- what they read as
-read : (c : After-read_lists-p) → let a = (start c).args in
-    lists_of (next_field a.rec.now) a.variables a.leaves a.actions no_lists a.at ≡ place_told (lists c) c.read_lists-p.result
-read c = c.read_lists-p.ensures.told
 
 pub verdict-v-requires : goal.verdict-v-requires
 verdict-v-requires c =
-    omega (arith, c.read_lists-p.ensures.near, ap place_of c.p-in-At-1.given.1, (start (goal.at.verdict-v-requires c).After-read_lists-p).requires, (start (goal.at.verdict-v-requires c).After-read_lists-p).ranges, c.read_lists-p.auto)
+    omega (arith, c.read_lists-p.ensures.near, ap place_of c.p-in-At-1.given.1, c.requires, c.ranges, c.read_lists-p.auto)
 
 pub returns-in-Refused : goal.returns-in-Refused
 unfolding body_of
 returns-in-Refused c =
-    simp (read (goal.at.returns-in-Refused c).After-read_lists-p ∙ ap (place_told (lists (goal.at.returns-in-Refused c).After-read_lists-p)) c.p-1.given.1) c.refuse.ensures
+    let lists : Lists = let l = c.read_lists-p.new.1.1.1.1.1 in let m = l.1.1.1.1 in record { variables = record { sizes = l.0; factors = l.1.0; initial = l.1.1.0 }; goal = l.1.1.1.0; actions = record { handling = m.0; distance = m.1.0; conditions = m.1.1.0; effects = m.1.1.1.0 } } in
+    let read : let a = c.args in lists_of (next_field a.rec.now) a.variables a.leaves a.actions no_lists a.at ≡ place_told lists c.read_lists-p.result = c.read_lists-p.ensures.told in
+    simp (read ∙ ap (place_told lists) c.p-1.given.1) c.refuse.ensures
 
 pub returns-in-Refused-v : goal.returns-in-Refused-v
 unfolding body_of
 returns-in-Refused-v c =
+    let lists : Lists = let l = c.read_lists-p.new.1.1.1.1.1 in let m = l.1.1.1.1 in record { variables = record { sizes = l.0; factors = l.1.0; initial = l.1.1.0 }; goal = l.1.1.1.0; actions = record { handling = m.0; distance = m.1.0; conditions = m.1.1.0; effects = m.1.1.1.0 } } in
+    let read : let a = c.args in lists_of (next_field a.rec.now) a.variables a.leaves a.actions no_lists a.at ≡ place_told lists c.read_lists-p.result = c.read_lists-p.ensures.told in
     simp (
-      read (goal.at.returns-in-Refused-v c).After-read_lists-p ∙ ap (place_told (lists (goal.at.returns-in-Refused-v c).After-read_lists-p)) c.p-in-At-1.given.1,
+      read ∙ ap (place_told lists) c.p-in-At-1.given.1,
       sym c.verdict-v.ensures ∙ c.v-1.given.1,
     ) c.refuse-in-Refused-v.ensures
 
 pub returns-in-Accepted : goal.returns-in-Accepted
 unfolding body_of
 returns-in-Accepted c =
+    let lists : Lists = let l = c.read_lists-p.new.1.1.1.1.1 in let m = l.1.1.1.1 in record { variables = record { sizes = l.0; factors = l.1.0; initial = l.1.1.0 }; goal = l.1.1.1.0; actions = record { handling = m.0; distance = m.1.0; conditions = m.1.1.0; effects = m.1.1.1.0 } } in
+    let read : let a = c.args in lists_of (next_field a.rec.now) a.variables a.leaves a.actions no_lists a.at ≡ place_told lists c.read_lists-p.result = c.read_lists-p.ensures.told in
     simp (
-      read (goal.at.returns-in-Accepted c).After-read_lists-p ∙ ap (place_told (lists (goal.at.returns-in-Accepted c).After-read_lists-p)) c.p-in-At-1.given.1,
+      read ∙ ap (place_told lists) c.p-in-At-1.given.1,
       sym c.verdict-v.ensures ∙ c.enum_told-1.given.1,
     )

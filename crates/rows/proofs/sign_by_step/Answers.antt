@@ -28,10 +28,10 @@ pub overflow_mul-sign : goal.overflow_mul-sign
 overflow_mul-sign c = omega (arith, (next (goal.at.overflow_mul-sign c).In-loop-k).1)
 
 pub overflow_mul-sign-in-loop-k : goal.overflow_mul-sign-in-loop-k
-overflow_mul-sign-in-loop-k c = omega (arith, c.well-formed, inside (goal.at.overflow_mul-sign-in-loop-k c).In-loop-k)
+overflow_mul-sign-in-loop-k c = omega (arith, c.well_formed, inside (goal.at.overflow_mul-sign-in-loop-k c).In-loop-k)
 
 pub offset_bounds-prices-k : goal.offset_bounds-prices-k
-offset_bounds-prices-k c = omega (arith, c.well-formed, inside (goal.at.offset_bounds-prices-k c).In-loop-k)
+offset_bounds-prices-k c = omega (arith, c.well_formed, inside (goal.at.offset_bounds-prices-k c).In-loop-k)
 
 pub bounds-prices-k : goal.bounds-prices-k
 bounds-prices-k c = inside (goal.at.bounds-prices-k c).In-loop-k

@@ -6,17 +6,6 @@ use Rattle.leaf.specs.Settle.Walks.{Ranged, Capped}
 use Rattle.leaf.specs.Settle.Sweeps.{total, Sweeping, sweeping_start, sweeping_end}
 use Rattle.leaf.specs.Lent.{cost_by, move_by}
 use Rattle.settle.proofs.settle.Goals as goal
-use Rattle.settle.proofs.settle.Goals.{After-first_sweep, Start}
-
--- where the function starts, from where its slices are known and from the first sweep; no price is above the mark; the actions stay in the leaf
-abbrev known : After-first_sweep → Start
-known t = t
-
-few : (t : Start) → Capped mark t.args.prices.now
-few t = at_most mark t.args.prices.now (λ i. omega (arith, t.type_inv.prices i))
-
-stays : (s : Start) → Ranged (length s.args.prices.now) s.args.count (move_by s.args.moves.now s.args.row s.args.at s.args.acts.now)
-stays s a x y h g t = omega (arith, s.requires.1.moves_in a x h g)
 
 pub returns-then-count-eq0 : goal.returns-then-count-eq0
 returns-then-count-eq0 c =
@@ -25,15 +14,16 @@ returns-then-count-eq0 c =
 
 pub returns-then-not-first_sweep : goal.returns-then-not-first_sweep
 returns-then-not-first_sweep c =
-    let k = known (goal.at.returns-then-not-first_sweep c).After-first_sweep in
-    let P = k.before.args.prices.now in
+    let few : Capped mark c.args.prices.now = at_most mark c.args.prices.now (λ i. omega (arith, c.type_inv.prices i)) in
+    let stays : Ranged (length c.args.prices.now) c.args.count (move_by c.args.moves.now c.args.row c.args.at c.args.acts.now) = λ a x y h g t. omega (arith, c.requires.1.moves_in a x h g) in
+    let P = c.args.prices.now in
     sweeping_end
     mark
     _
     _
     _
     _
-    (stays k.before)
+    stays
     0
     P
     P
@@ -41,10 +31,10 @@ returns-then-not-first_sweep c =
     _
     _
     refl
-    (few k)
-    (sweeping_start mark _ _ _ _ P _ refl (few k))
+    few
+    (sweeping_start mark _ _ _ _ P _ refl few)
     c.first_sweep.ensures
-    (not-true _ c.if-not-first_sweep.true)
+    c.if-not-first_sweep.true
 
 pub loop-dirty-init : goal.loop-dirty-init
 loop-dirty-init c = (refl, c.first_sweep.auto.dirty, λ P s. s)
@@ -55,9 +45,8 @@ slice_bounds-sweep-end c = omega (arith, c.loop-dirty.invariant.1)
 pub sweep-requires : goal.sweep-requires
 sweep-requires c =
     let l = c.loop-dirty in
-    let s = (known (goal.at.sweep-requires c).After-first_sweep).before in
     let long = l.invariant.0 ∙ c.first_sweep.auto.prices in
-    (omega (arith, l.invariant.1, s.pre.0), rw long s.pre.1)
+    (omega (arith, l.invariant.1, c.requires.0), rw long c.requires.1)
 
 pub loop-dirty-smaller : goal.loop-dirty-smaller
 loop-dirty-smaller c = c.sweep.ensures.falls c.loop-dirty-test.true
@@ -76,8 +65,9 @@ shape_of-prices c =
 
 pub returns : goal.returns
 returns c =
-    let k = known (goal.at.returns c).After-first_sweep in
-    let P = k.before.args.prices.now in
+    let few : Capped mark c.args.prices.now = at_most mark c.args.prices.now (λ i. omega (arith, c.type_inv.prices i)) in
+    let stays : Ranged (length c.args.prices.now) c.args.count (move_by c.args.moves.now c.args.row c.args.at c.args.acts.now) = λ a x y h g t. omega (arith, c.requires.1.moves_in a x h g) in
+    let P = c.args.prices.now in
     let long = c.first_sweep.auto.prices in
     sweeping_end
     mark
@@ -85,7 +75,7 @@ returns c =
     _
     _
     _
-    (stays k.before)
+    stays
     (length P)
     P
     _
@@ -93,7 +83,7 @@ returns c =
     _
     _
     refl
-    (few k)
-    ((rw long at c.loop-dirty.invariant.2) P (c.first_sweep.ensures.keeps P (sweeping_start mark _ _ _ _ P _ refl (few k))))
+    few
+    ((rw long at c.loop-dirty.invariant.2) P (c.first_sweep.ensures.keeps P (sweeping_start mark _ _ _ _ P _ refl few)))
     (rw (c.loop-dirty.invariant.0 ∙ long) at c.sweep.ensures)
     c.loop-dirty-test.false

@@ -26,7 +26,7 @@ unfolding still_entry
 returns-then-i-leaves c = rw (le-ltb _ _ c.if-i-leaves.true)
 
 pub overflow_add-from : goal.overflow_add-from
-overflow_add-from c = omega (arith, c.well-formed, room (goal.at.overflow_add-from c).Else-i-leaves)
+overflow_add-from c = omega (arith, c.well_formed, room (goal.at.overflow_add-from c).Else-i-leaves)
 
 pub overflow_sub-to : goal.overflow_sub-to
 overflow_sub-to c = omega (arith, room (goal.at.overflow_sub-to c).Else-i-leaves)

@@ -6,17 +6,6 @@ use Rattle.leaf.specs.Settle.Sweeps.{Fell, fell_none, fell_join}
 use Rattle.leaf.specs.Lent.{cost_by}
 use Rattle.sweeps.specs.Sweeps.{move_met}
 use Rattle.sweeps.proofs.relax_along.Goals as goal
-use Rattle.sweeps.proofs.relax_along.Goals.{In-loop-j, Start}
-
--- where the function starts
-abbrev start : In-loop-j → Start
-start t = t
-
--- the action's move can be read
-place : (t : In-loop-j) →
-    let a = (start t).args in
-    get_or a.acts.now t.loop-j.j 0 * a.row + (a.at + a.x) < length a.moves.now
-place t = (start t).requires.2.moves_long t.loop-j.j t.loop-j-test.true
 
 pub loop-j-init : goal.loop-j-init
 unfolding relax
@@ -26,31 +15,36 @@ pub overflow_cast-a : goal.overflow_cast-a
 overflow_cast-a c = omega (arith, c.type_inv.acts c.loop-j.j)
 
 pub overflow_mul-a : goal.overflow_mul-a
-overflow_mul-a c = omega (arith, place (goal.at.overflow_mul-a c).In-loop-j)
+overflow_mul-a c =
+    let place : let a = c.args in get_or a.acts.now c.loop-j.j 0 * a.row + (a.at + a.x) < length a.moves.now = c.requires.2.moves_long c.loop-j.j c.loop-j-test.true in
+    omega (arith, place)
 
 pub overflow_add-at : goal.overflow_add-at
-overflow_add-at c = omega (arith, place (goal.at.overflow_add-at c).In-loop-j)
+overflow_add-at c =
+    let place : let a = c.args in get_or a.acts.now c.loop-j.j 0 * a.row + (a.at + a.x) < length a.moves.now = c.requires.2.moves_long c.loop-j.j c.loop-j-test.true in
+    omega (arith, place)
 
 pub overflow_add-a : goal.overflow_add-a
-overflow_add-a c = omega (arith, place (goal.at.overflow_add-a c).In-loop-j)
+overflow_add-a c =
+    let place : let a = c.args in get_or a.acts.now c.loop-j.j 0 * a.row + (a.at + a.x) < length a.moves.now = c.requires.2.moves_long c.loop-j.j c.loop-j-test.true in
+    omega (arith, place)
 
 pub follow-one-requires : goal.follow-one-requires
 follow-one-requires c =
-    let s = start (goal.at.follow-one-requires c).In-loop-j in
+    let place : let a = c.args in get_or a.acts.now c.loop-j.j 0 * a.row + (a.at + a.x) < length a.moves.now = c.requires.2.moves_long c.loop-j.j c.loop-j-test.true in
     let l = c.loop-j in (
-      s.pre.2.costs_long l.j c.loop-j-test.true,
-      s.pre.2.mets_long l.j c.loop-j-test.true,
-      place (goal.at.follow-one-requires c).In-loop-j,
-      rw l.invariant.1 (s.pre.2.moves_in l.j c.loop-j-test.true),
-      omega (arith, l.invariant.1, l.invariant.2, s.pre.1),
+      c.requires.2.costs_long l.j c.loop-j-test.true,
+      c.requires.2.mets_long l.j c.loop-j-test.true,
+      place,
+      rw l.invariant.1 (c.requires.2.moves_in l.j c.loop-j-test.true),
+      omega (arith, l.invariant.1, l.invariant.2, c.requires.1),
     )
 
 pub loop-j-preserved : goal.loop-j-preserved
 loop-j-preserved c =
     let l = c.loop-j in
-    let s = start (goal.at.loop-j-preserved c).In-loop-j in
-    let a = s.args in
-    let own = at_any a.prices.now a.x 0 mark s.pre.0 in
+    let a = c.args in
+    let own = at_any a.prices.now a.x 0 mark c.requires.0 in
     let paid : min (get_or a.prices.now a.x 0 + cost_by a.costs.now a.acts.now l.j) mark
     ≡ min (get_or a.prices.now a.x mark + cost_by a.costs.now a.acts.now l.j) mark =
     rw own in

@@ -5,17 +5,6 @@ use Rattle.leaf.specs.Settle.Turns.{at_any}
 use Rattle.leaf.specs.Settle.Sweeps.{visit_far, visit_near}
 use Rattle.sweeps.specs.Sweeps.Same.{relax_same}
 use Rattle.sweeps.proofs.set_out.Goals as goal
-use Rattle.sweeps.proofs.set_out.Goals.{Else-prices-x-ge-MARK, Start}
-
--- where the function starts, from where the state's edges are looked up
-abbrev start : Else-prices-x-ge-MARK → Start
-start t = t
-
--- the state's edges lie within the table
-room : (t : Else-prices-x-ge-MARK) →
-    let a = (start t).args in
-    (get_or a.ends.now (a.at + a.x) 0 ≤ get_or a.ends.now (a.at + a.x + 1) 0) × (get_or a.ends.now (a.at + a.x + 1) 0 ≤ length a.edges.now)
-room t = (start t).requires.2.ends_in (start t).args.x (start t).requires.0
 
 pub returns-then-prices-x-ge-MARK : goal.returns-then-prices-x-ge-MARK
 returns-then-prices-x-ge-MARK c =
@@ -23,18 +12,23 @@ returns-then-prices-x-ge-MARK c =
     λ m cost to meant j k reach. visit_far mark _ _ _ _ j k _ _ _ _ reach (λ u h l. let q : u ≡ c.args.x = omega arith in rw q (omega (arith, c.if-prices-x-ge-MARK.true)))
 
 pub slice_bounds-relax_along-count : goal.slice_bounds-relax_along-count
-slice_bounds-relax_along-count c = (room (goal.at.slice_bounds-relax_along-count c).Else-prices-x-ge-MARK).0
+slice_bounds-relax_along-count c =
+    let room : let a = c.args in (get_or a.ends.now (a.at + a.x) 0 ≤ get_or a.ends.now (a.at + a.x + 1) 0) × (get_or a.ends.now (a.at + a.x + 1) 0 ≤ length a.edges.now) = c.requires.2.ends_in c.args.x c.requires.0 in
+    room.0
 
 pub slice_bounds-relax_along-start : goal.slice_bounds-relax_along-start
-slice_bounds-relax_along-start c = (room (goal.at.slice_bounds-relax_along-start c).Else-prices-x-ge-MARK).0
+slice_bounds-relax_along-start c =
+    let room : let a = c.args in (get_or a.ends.now (a.at + a.x) 0 ≤ get_or a.ends.now (a.at + a.x + 1) 0) × (get_or a.ends.now (a.at + a.x + 1) 0 ≤ length a.edges.now) = c.requires.2.ends_in c.args.x c.requires.0 in
+    room.0
 
 pub slice_bounds-relax_along-end : goal.slice_bounds-relax_along-end
-slice_bounds-relax_along-end c = (room (goal.at.slice_bounds-relax_along-end c).Else-prices-x-ge-MARK).1
+slice_bounds-relax_along-end c =
+    let room : let a = c.args in (get_or a.ends.now (a.at + a.x) 0 ≤ get_or a.ends.now (a.at + a.x + 1) 0) × (get_or a.ends.now (a.at + a.x + 1) 0 ≤ length a.edges.now) = c.requires.2.ends_in c.args.x c.requires.0 in
+    room.1
 
 pub relax_along-requires : goal.relax_along-requires
 relax_along-requires c =
-    let s = start (goal.at.relax_along-requires c).Else-prices-x-ge-MARK in
-    (s.pre.0, simp length-set s.pre.1, s.pre.2.along s.args.x s.pre.0)
+    (c.requires.0, simp length-set c.requires.1, c.requires.2.along c.args.x c.requires.0)
 
 pub shape_of-dirty : goal.shape_of-dirty
 shape_of-dirty c = c.relax_along.auto.dirty ∙ simp length-set
@@ -42,10 +36,9 @@ shape_of-dirty c = c.relax_along.auto.dirty ∙ simp length-set
 pub returns : goal.returns
 returns c =
     let e = c.relax_along.ensures in
-    let s = start (goal.at.returns c).Else-prices-x-ge-MARK in
-    let a = s.args in
+    let a = c.args in
     let x = a.x in
-    let h = s.pre.0 in
+    let h = c.requires.0 in
     let own = at_any a.prices.now x 0 mark h in
     λ m cost to meant j k reach. visit_near
     mark
@@ -64,7 +57,7 @@ returns c =
     _
     reach
     refl
-    (omega (arith, s.pre))
+    (omega (arith, c.requires))
     (omega (arith, c.if-prices-x-ge-MARK.false))
     (e.0 ∙ relax_same mark x _ a.prices.now m cost to _ _ _ (meant.out x h) (meant.back x h))
     e.1

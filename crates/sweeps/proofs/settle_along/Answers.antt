@@ -6,24 +6,13 @@ use Rattle.leaf.specs.Settle.Turns.{at_most}
 use Rattle.leaf.specs.Settle.Sweeps.{total, Sweeping, sweeping_start, sweeping_end}
 use Rattle.sweeps.specs.Sweeps.{Meant}
 use Rattle.sweeps.proofs.settle_along.Goals as goal
-use Rattle.sweeps.proofs.settle_along.Goals.{After-first_sweep, At-loop-dirty, Start}
-
--- where the prices are known; they are no more than the mark
-abbrev known : After-first_sweep → Start
-known t = t
-
-few : (k : Start) → Capped mark k.args.prices.now
-few k = at_most mark k.args.prices.now (λ i. omega (arith, k.type_inv.prices i))
-
--- there are as many prices as at the start
-turned : (t : At-loop-dirty) → length t.loop-dirty.prices ≡ length (known t).before.args.prices.now
-turned t = t.loop-dirty.invariant.0 ∙ t.first_sweep.auto.prices
 
 pub first_sweep-requires : goal.first_sweep-requires
 first_sweep-requires c = (c.requires.0, c.requires.1)
 
 pub returns-then-not-first_sweep : goal.returns-then-not-first_sweep
 returns-then-not-first_sweep c m cost to meant =
+    let few : Capped mark meant.args.prices.now = at_most mark meant.args.prices.now (λ i. omega (arith, meant.type_inv.prices i)) in
     let first = c.before.before.before.before in
     let k = known first in
     let P = k.before.args.prices.now in
@@ -39,14 +28,13 @@ slice_bounds-sweep-end c = omega (arith, c.loop-dirty.invariant.1)
 pub sweep-requires : goal.sweep-requires
 sweep-requires c =
     let l = c.loop-dirty in
-    let s = (known (goal.at.sweep-requires c).After-first_sweep).before in
     let long = l.invariant.0 ∙ c.first_sweep.auto.prices in
-    (rw (long, l.invariant.1) s.pre.0, rw long s.pre.1)
+    (rw (long, l.invariant.1) c.requires.0, rw long c.requires.1)
 
 pub loop-dirty-smaller : goal.loop-dirty-smaller
 loop-dirty-smaller c =
-    let s = (known (goal.at.loop-dirty-smaller c).After-first_sweep).before in
-    ((rw (turned (goal.at.loop-dirty-smaller c).At-loop-dirty) at c.sweep.ensures) _ _ _ s.pre.2.meant).falls c.loop-dirty-test.true
+    let turned : length c.loop-dirty.prices ≡ length c.args.prices.now = c.loop-dirty.invariant.0 ∙ c.first_sweep.auto.prices in
+    ((rw turned at c.sweep.ensures) _ _ _ c.requires.2.meant).falls c.loop-dirty-test.true
 
 pub loop-dirty-preserved : goal.loop-dirty-preserved
 loop-dirty-preserved c =
@@ -59,10 +47,13 @@ loop-dirty-preserved c =
 
 pub shape_of-prices : goal.shape_of-prices
 shape_of-prices c =
-    c.sweep.auto.prices ∙ turned (goal.at.shape_of-prices c).At-loop-dirty
+    let turned : length c.loop-dirty.prices ≡ length c.args.prices.now = c.loop-dirty.invariant.0 ∙ c.first_sweep.auto.prices in
+    c.sweep.auto.prices ∙ turned
 
 pub returns : goal.returns
 returns c m cost to meant =
+    let few : Capped mark meant.args.prices.now = at_most mark meant.args.prices.now (λ i. omega (arith, meant.type_inv.prices i)) in
+    let turned : length meant.loop-dirty.prices ≡ length meant.args.prices.now = meant.loop-dirty.invariant.0 ∙ meant.first_sweep.auto.prices in
     let called = c.before.before.before.before in
     let t = called.before.before.before in
     let first = t.before.before.before.before.before in

@@ -12,94 +12,79 @@ use Rattle.sweeps.specs.Sweeps.{Meant}
 use Rattle.sweeps.specs.Sweeps.Leaf.{leaf_ways, leaf_meant}
 use Rattle.sweeps.specs.Sweeps.Still.{some_none, leaf_part_lem, leaf_unmet, still_settled}
 use Rattle.sweeps.proofs.settle_leaf.Goals as goal
-use Rattle.sweeps.proofs.settle_leaf.Goals.{Start}
-
--- where the function starts, from where its slices are known; the Board that is lent; the enabled actions of the leaf
-abbrev entry : Start → Start
-entry t = t
-
-abbrev known : Start → Start
-known t = t
-
-abbrev board : Start → Board
-board s =
-    let a = s.args in
-    board_of a.leaves a.actions a.bases.now a.moves.now a.costs.now a.kinds.now a.factors a.conditions.now
-
-abbrev acts : Start → List ℕ
-acts s = enabled_on (board s) s.args.i s.args.centre s.args.actions
-
--- the enabled actions lead where the leaf's edges do
-meant : (s : Start) →
-    let a = s.args in
-    let b = board s in
-    Meant a.moves.now (row_on b) (base_on b a.i) a.costs.now a.mets.now a.edges.now a.ends.now (length a.prices.now)
-    (length (acts s)) (cost_by a.costs.now (acts s)) (move_by a.moves.now (row_on b) (base_on b a.i) (acts s))
-meant s =
-    let a = s.args in
-    rw s.requires.4 (leaf_meant (board s) s.requires.0 a.edges.now a.ends.now s.requires.2 a.i s.requires.3 a.centre a.mets.now s.requires.1)
-
--- the leaf's edges lie within the table
-part : (s : Start) →
-    let a = s.args in
-    let b = board s in
-    (base_on b (a.i + 1) < length a.ends.now) × (get_or a.ends.now (base_on b a.i) 0 ≤ get_or a.ends.now (base_on b (a.i + 1)) 0)
-    × (get_or a.ends.now (base_on b (a.i + 1)) 0 ≤ length a.edges.now)
-part s = leaf_part_lem (board s) s.requires.0 s.args.edges.now s.args.ends.now s.requires.2 s.args.i s.requires.3
-
--- the leaf's states begin and end among the few states that there are
-early : (s : Start) →
-    let b = board s in
-    (base_on b s.args.i ≤ base_on b (s.args.i + 1)) × (base_on b (s.args.i + 1) ≤ 1024)
-early s =
-    let sound = s.requires.0 in
-    (sound.bases_rise s.args.i s.requires.3, le_trans (base_in (board s) sound s.args.i s.requires.3) sound.few_all)
 
 pub offset_bounds-ends-at : goal.offset_bounds-ends-at
-offset_bounds-ends-at c = omega (arith, early (entry (goal.at.offset_bounds-ends-at c).Start))
+offset_bounds-ends-at c =
+    let board : Board = let a = c.args in board_of a.leaves a.actions a.bases.now a.moves.now a.costs.now a.kinds.now a.factors a.conditions.now in
+    let early : let b = board in (base_on b c.args.i ≤ base_on b (c.args.i + 1)) × (base_on b (c.args.i + 1) ≤ 1024) = let sound = c.requires.0 in (sound.bases_rise c.args.i c.requires.3, le_trans (base_in board sound c.args.i c.requires.3) sound.few_all) in
+    omega (arith, early)
 
 pub bounds-ends-at : goal.bounds-ends-at
-bounds-ends-at c = let s = entry (goal.at.bounds-ends-at c).Start in omega (arith, (part s).0, early s)
+bounds-ends-at c =
+    let board : Board = let a = c.args in board_of a.leaves a.actions a.bases.now a.moves.now a.costs.now a.kinds.now a.factors a.conditions.now in
+    let part : let a = c.args in let b = board in (base_on b (a.i + 1) < length a.ends.now) × (get_or a.ends.now (base_on b a.i) 0 ≤ get_or a.ends.now (base_on b (a.i + 1)) 0) × (get_or a.ends.now (base_on b (a.i + 1)) 0 ≤ length a.edges.now) = leaf_part_lem board c.requires.0 c.args.edges.now c.args.ends.now c.requires.2 c.args.i c.requires.3 in
+    let early : let b = board in (base_on b c.args.i ≤ base_on b (c.args.i + 1)) × (base_on b (c.args.i + 1) ≤ 1024) = let sound = c.requires.0 in (sound.bases_rise c.args.i c.requires.3, le_trans (base_in board sound c.args.i c.requires.3) sound.few_all) in
+    omega (arith, part.0, early)
 
 pub offset_bounds-ends-bases : goal.offset_bounds-ends-bases
-offset_bounds-ends-bases c = omega (arith, early (entry (goal.at.offset_bounds-ends-bases c).Start))
+offset_bounds-ends-bases c =
+    let board : Board = let a = c.args in board_of a.leaves a.actions a.bases.now a.moves.now a.costs.now a.kinds.now a.factors a.conditions.now in
+    let early : let b = board in (base_on b c.args.i ≤ base_on b (c.args.i + 1)) × (base_on b (c.args.i + 1) ≤ 1024) = let sound = c.requires.0 in (sound.bases_rise c.args.i c.requires.3, le_trans (base_in board sound c.args.i c.requires.3) sound.few_all) in
+    omega (arith, early)
 
 pub bounds-ends-bases : goal.bounds-ends-bases
-bounds-ends-bases c = (part (entry (known (goal.at.bounds-ends-bases c).Start))).0
+bounds-ends-bases c =
+    let board : Board = let a = c.args in board_of a.leaves a.actions a.bases.now a.moves.now a.costs.now a.kinds.now a.factors a.conditions.now in
+    let part : let a = c.args in let b = board in (base_on b (a.i + 1) < length a.ends.now) × (get_or a.ends.now (base_on b a.i) 0 ≤ get_or a.ends.now (base_on b (a.i + 1)) 0) × (get_or a.ends.now (base_on b (a.i + 1)) 0 ≤ length a.edges.now) = leaf_part_lem board c.requires.0 c.args.edges.now c.args.ends.now c.requires.2 c.args.i c.requires.3 in
+    part.0
 
 pub slice_bounds-some_met-count : goal.slice_bounds-some_met-count
-slice_bounds-some_met-count c = (part (entry (known (goal.at.slice_bounds-some_met-count c).Start))).1
+slice_bounds-some_met-count c =
+    let board : Board = let a = c.args in board_of a.leaves a.actions a.bases.now a.moves.now a.costs.now a.kinds.now a.factors a.conditions.now in
+    let part : let a = c.args in let b = board in (base_on b (a.i + 1) < length a.ends.now) × (get_or a.ends.now (base_on b a.i) 0 ≤ get_or a.ends.now (base_on b (a.i + 1)) 0) × (get_or a.ends.now (base_on b (a.i + 1)) 0 ≤ length a.edges.now) = leaf_part_lem board c.requires.0 c.args.edges.now c.args.ends.now c.requires.2 c.args.i c.requires.3 in
+    part.1
 
 pub slice_bounds-some_met-start : goal.slice_bounds-some_met-start
-slice_bounds-some_met-start c = (part (entry (known (goal.at.slice_bounds-some_met-start c).Start))).1
+slice_bounds-some_met-start c =
+    let board : Board = let a = c.args in board_of a.leaves a.actions a.bases.now a.moves.now a.costs.now a.kinds.now a.factors a.conditions.now in
+    let part : let a = c.args in let b = board in (base_on b (a.i + 1) < length a.ends.now) × (get_or a.ends.now (base_on b a.i) 0 ≤ get_or a.ends.now (base_on b (a.i + 1)) 0) × (get_or a.ends.now (base_on b (a.i + 1)) 0 ≤ length a.edges.now) = leaf_part_lem board c.requires.0 c.args.edges.now c.args.ends.now c.requires.2 c.args.i c.requires.3 in
+    part.1
 
 pub slice_bounds-some_met-end : goal.slice_bounds-some_met-end
-slice_bounds-some_met-end c = (part (entry (known (goal.at.slice_bounds-some_met-end c).Start))).2
+slice_bounds-some_met-end c =
+    let board : Board = let a = c.args in board_of a.leaves a.actions a.bases.now a.moves.now a.costs.now a.kinds.now a.factors a.conditions.now in
+    let part : let a = c.args in let b = board in (base_on b (a.i + 1) < length a.ends.now) × (get_or a.ends.now (base_on b a.i) 0 ≤ get_or a.ends.now (base_on b (a.i + 1)) 0) × (get_or a.ends.now (base_on b (a.i + 1)) 0 ≤ length a.edges.now) = leaf_part_lem board c.requires.0 c.args.edges.now c.args.ends.now c.requires.2 c.args.i c.requires.3 in
+    part.2
 
 pub some_met-requires : goal.some_met-requires
-some_met-requires c = omega (arith, (entry (known (goal.at.some_met-requires c).Start)).requires.1.long)
+some_met-requires c = omega (arith, c.requires.1.long)
 
 pub returns-then-not-some_met : goal.returns-then-not-some_met
 returns-then-not-some_met c =
-    let t = known (goal.at.returns-then-not-some_met c).Start in
-    let s = entry t in
-    let a = s.args in
+    let board : Board = let a = c.args in board_of a.leaves a.actions a.bases.now a.moves.now a.costs.now a.kinds.now a.factors a.conditions.now in
+    let acts : List ℕ = enabled_on board c.args.i c.args.centre c.args.actions in
+    let meant : let a = c.args in let b = board in Meant a.moves.now (row_on b) (base_on b a.i) a.costs.now a.mets.now a.edges.now a.ends.now (length a.prices.now) (length acts) (cost_by a.costs.now acts) (move_by a.moves.now (row_on b) (base_on b a.i) acts) = let a = c.args in rw c.requires.4 (leaf_meant board c.requires.0 a.edges.now a.ends.now c.requires.2 a.i c.requires.3 a.centre a.mets.now c.requires.1) in
+    let a = c.args in
     let P = a.prices.now in
     let none = told_false c.some_met.ensures c.if-not-some_met.true in
-    let unmet = leaf_unmet (board s) s.pre.0 a.edges.now a.ends.now s.pre.2 a.i s.pre.3 a.mets.now (some_none _ _ none) in
-    let still = still_settled mark _ _ _ _ _ _ _ _ _ _ _ P (meant s) (rw s.pre.4 unmet) refl
-    (at_most mark P (λ i. omega (arith, t.slice-known.given i))) in
-    (still ∙ leaf_settled (board s) a.i a.centre (acts s) _ refl refl P, (λ _. refl), sym none)
+    let unmet = leaf_unmet board c.requires.0 a.edges.now a.ends.now c.requires.2 a.i c.requires.3 a.mets.now (some_none _ _ none) in
+    let still = still_settled mark _ _ _ _ _ _ _ _ _ _ _ P meant (rw c.requires.4 unmet) refl
+    (at_most mark P (λ i. omega (arith, c.type_inv.prices i))) in
+    (still ∙ leaf_settled board a.i a.centre acts _ refl refl P, (λ _. refl), sym none)
 
 -- the edges can be followed
 pub settle_along-requires : goal.settle_along-requires
 settle_along-requires c =
-    let s = entry (known (goal.at.settle_along-requires c).Start) in
-    let a = s.args in
-    let ways = leaf_ways (board s) s.pre.0 a.edges.now a.ends.now s.pre.2 a.i s.pre.3 a.mets.now s.pre.1.long in
-    (omega (arith, s.pre.4, s.pre.0.few_states a.i s.pre.3), rw s.pre.4 ways, record { count = _; cost = _; to = _; meant = meant s })
+    let board : Board = let a = c.args in board_of a.leaves a.actions a.bases.now a.moves.now a.costs.now a.kinds.now a.factors a.conditions.now in
+    let acts : List ℕ = enabled_on board c.args.i c.args.centre c.args.actions in
+    let meant : let a = c.args in let b = board in Meant a.moves.now (row_on b) (base_on b a.i) a.costs.now a.mets.now a.edges.now a.ends.now (length a.prices.now) (length acts) (cost_by a.costs.now acts) (move_by a.moves.now (row_on b) (base_on b a.i) acts) = let a = c.args in rw c.requires.4 (leaf_meant board c.requires.0 a.edges.now a.ends.now c.requires.2 a.i c.requires.3 a.centre a.mets.now c.requires.1) in
+    let a = c.args in
+    let ways = leaf_ways (board c) c.requires.0 a.edges.now a.ends.now c.requires.2 a.i c.requires.3 a.mets.now c.requires.1.long in
+    (omega (arith, c.requires.4, c.requires.0.few_states a.i c.requires.3), rw c.requires.4 ways, record { count = _; cost = _; to = _; meant = meant c })
 
 pub returns : goal.returns
 returns c =
-    let s = entry (known (goal.at.returns c).Start) in
-    (c.settle_along.ensures _ _ _ (meant s) ∙ leaf_settled (board s) s.args.i s.args.centre (acts s) _ refl refl s.args.prices.now, (λ e. absurd (true≢false e)), sym (told_true c.some_met.ensures c.if-not-some_met.false))
+    let board : Board = let a = c.args in board_of a.leaves a.actions a.bases.now a.moves.now a.costs.now a.kinds.now a.factors a.conditions.now in
+    let acts : List ℕ = enabled_on board c.args.i c.args.centre c.args.actions in
+    let meant : let a = c.args in let b = board in Meant a.moves.now (row_on b) (base_on b a.i) a.costs.now a.mets.now a.edges.now a.ends.now (length a.prices.now) (length acts) (cost_by a.costs.now acts) (move_by a.moves.now (row_on b) (base_on b a.i) acts) = let a = c.args in rw c.requires.4 (leaf_meant board c.requires.0 a.edges.now a.ends.now c.requires.2 a.i c.requires.3 a.centre a.mets.now c.requires.1) in
+    (c.settle_along.ensures _ _ _ (meant c) ∙ leaf_settled (board c) c.args.i c.args.centre (acts c) _ refl refl c.args.prices.now, (λ e. absurd (true≢false e)), sym (told_true c.some_met.ensures c.if-not-some_met.false))

@@ -7,46 +7,6 @@ use Rattle.wayback.specs.Woven.{Backed}
 use Rattle.wayback.specs.Woven.Laws.{index_legible, tight_woven}
 use Rattle.wayback.specs.Ready.{back_none}
 use Rattle.wayback.proofs.leaf_back.Goals as goal
-use Rattle.wayback.proofs.leaf_back.Goals.{After-tight_edges, Start}
-
--- where the function starts, and the index
-abbrev start : After-tight_edges → Start
-start t = t
-
-abbrev index : After-tight_edges → List ℕ
-index t = t.index_of-index.result
-
--- the listed edges and their stops
-abbrev tight : After-tight_edges → List ℕ
-tight t = t.tight_edges.new.tight
-
-abbrev stops : After-tight_edges → List ℕ
-stops t = t.tight_edges.new.stops
-
-stops_long : (t : After-tight_edges) → length (start t).args.prices.now < length (stops t)
-stops_long t =
-    omega (arith, t.tight_edges.auto.stops, length-replicate {A = ℕ} 257 0, (start t).requires.0.0.few_states)
-
--- they can be walked along
-abbrev backed : (t : After-tight_edges) → let a = (start t).args in
-    Backed a.moves.now a.row a.at a.acts.now (index t) (tight t) (stops t) a.begins.now a.prices.now a.state
-backed t =
-    let s = start t in
-    let w = s.pre.0.0 in
-    let o = t.index_of-index.ensures in
-    record {
-      woven = tight_woven _ _ _ _ _ _ _ (index t) w.lent o.1 o.0 w.few_actions w.few_states s.args.edges.now s.args.ends.now s.pre.1.0 (tight t) (stops t) (stops_long t)
-          (omega (arith, t.tight_edges.ensures.0, t.tight_edges.auto.tight)) t.tight_edges.ensures.1 w.lent.acts_long;
-      same = w.same;
-      inside = w.inside;
-      deep = w.deep;
-    }
-
--- there is an action, and its first move stands behind where the leaf's moves begin
-begins : (t : After-tight_edges) → (start t).args.at ≤ length (start t).args.moves.now
-begins t =
-    let w = (start t).requires.0.0 in
-    omega (arith, w.lent.moves_long 0 0 (omega (arith, t.if-count-eq0.false)) (omega (arith, w.inside)))
 
 pub returns-then-count-eq0 : goal.returns-then-count-eq0
 returns-then-count-eq0 c =
@@ -68,20 +28,45 @@ tight_edges-requires c =
 
 pub slice_bounds-tight_back-end-3 : goal.slice_bounds-tight_back-end-3
 slice_bounds-tight_back-end-3 c =
-    let s = start (goal.at.slice_bounds-tight_back-end-3 c).After-tight_edges in
-    simp length-take (omega (arith, s.pre.0.0.few_states))
+    simp length-take (omega (arith, c.requires.0.0.few_states))
 
 pub tight_back-requires : goal.tight_back-requires
 tight_back-requires c =
-    let s = start (goal.at.tight_back-requires c).After-tight_edges in
-    let w = s.pre.0.0 in (
-      backed (goal.at.tight_back-requires c).After-tight_edges,
+    let index : List ℕ = c.index_of-index.result in
+    let tight : List ℕ = c.tight_edges.new.tight in
+    let stops : List ℕ = c.tight_edges.new.stops in
+    let stops_long : length c.args.prices.now < length stops = omega (arith, c.tight_edges.auto.stops, length-replicate {A = ℕ} 257 0, c.requires.0.0.few_states) in
+    let backed : let a = c.args in Backed a.moves.now a.row a.at a.acts.now index tight stops a.begins.now a.prices.now a.state = let w = c.requires.0.0 in
+    let o = c.index_of-index.ensures in
+    record {
+      woven = tight_woven _ _ _ _ _ _ _ index w.lent o.1 o.0 w.few_actions w.few_states c.args.edges.now c.args.ends.now c.requires.1.0 tight stops stops_long
+          (omega (arith, c.tight_edges.ensures.0, c.tight_edges.auto.tight)) c.tight_edges.ensures.1 w.lent.acts_long;
+      same = w.same;
+      inside = w.inside;
+      deep = w.deep;
+    } in
+    let begins : c.args.at ≤ length c.args.moves.now = let w = c.requires.0.0 in omega (arith, w.lent.moves_long 0 0 (omega (arith, c.if-count-eq0.false)) (omega (arith, w.inside))) in
+    let w = c.requires.0.0 in (
+      backed,
       simp length-take (omega (arith, w.few_states)),
-      begins (goal.at.tight_back-requires c).After-tight_edges,
-      s.pre.0.1,
-      s.pre.0.2,
+      begins,
+      c.requires.0.1,
+      c.requires.0.2,
     )
 
 pub returns : goal.returns
 returns c =
-    record { walked = c.tight_back.ensures (backed (goal.at.returns c).After-tight_edges); lengths = c.tight_edges.auto.tight }
+    let index : List ℕ = c.index_of-index.result in
+    let tight : List ℕ = c.tight_edges.new.tight in
+    let stops : List ℕ = c.tight_edges.new.stops in
+    let stops_long : length c.args.prices.now < length stops = omega (arith, c.tight_edges.auto.stops, length-replicate {A = ℕ} 257 0, c.requires.0.0.few_states) in
+    let backed : let a = c.args in Backed a.moves.now a.row a.at a.acts.now index tight stops a.begins.now a.prices.now a.state = let w = c.requires.0.0 in
+    let o = c.index_of-index.ensures in
+    record {
+      woven = tight_woven _ _ _ _ _ _ _ index w.lent o.1 o.0 w.few_actions w.few_states c.args.edges.now c.args.ends.now c.requires.1.0 tight stops stops_long
+          (omega (arith, c.tight_edges.ensures.0, c.tight_edges.auto.tight)) c.tight_edges.ensures.1 w.lent.acts_long;
+      same = w.same;
+      inside = w.inside;
+      deep = w.deep;
+    } in
+    record { walked = c.tight_back.ensures backed; lengths = c.tight_edges.auto.tight }

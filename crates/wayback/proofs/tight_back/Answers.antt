@@ -6,27 +6,6 @@ use Rattle.wayback.specs.Woven.Laws.{woven_ways, woven_meant, woven_leading}
 use Rattle.wayback.specs.Least.{Guided}
 use Rattle.wayback.specs.Ready.{backed_length, backed_few, backed_guided, backed_way}
 use Rattle.wayback.proofs.tight_back.Goals as goal
-use Rattle.wayback.proofs.tight_back.Goals.{After-depths_of, After-sources_of-sources, Start}
-
--- where the function starts, and what is lent there
-abbrev start : After-depths_of → Start
-start d = d
-
-abbrev Lent : After-depths_of → Type 0
-Lent d =
-    let a = (start d).args in
-    Backed a.moves.now a.row a.at a.acts.now a.index.now a.tight.now a.stops.now a.begins.now a.prices.now a.state
-
--- the depths
-abbrev depths : After-depths_of → List ℕ
-depths d = d.depths_of.new.depths
-
-made : (d : After-depths_of) (w : Lent d) → depths d ≡ depths_by w.woven.edges w.woven.count (start d).args.begins.now (start d).args.prices.now
-made d w = d.depths_of.ensures w.woven.count w.woven.edges (woven_meant _ _ _ _ _ _ _ _ w.woven)
-
--- what guides the walk
-abbrev guide : (o : After-sources_of-sources) → Lent o → Guided (start o).args.acts.now (depths o) o.sources_of-sources.result
-guide o w = let o = o in backed_guided _ _ _ _ _ _ _ _ _ _ w _ (made o w) _ o.sources_of-sources.ensures.1
 
 pub depths_of-requires : goal.depths_of-requires
 depths_of-requires c =
@@ -36,8 +15,11 @@ depths_of-requires c =
 
 pub sources_of-sources-requires : goal.sources_of-sources-requires
 sources_of-sources-requires c =
-    let w = (start (goal.at.sources_of-sources-requires c).After-depths_of).requires.0 in
-    let long = backed_length _ _ _ _ _ _ _ _ _ _ w _ (made (goal.at.sources_of-sources-requires c).After-depths_of w) in
+    let Lent : Type 0 = let a = c.args in Backed a.moves.now a.row a.at a.acts.now a.index.now a.tight.now a.stops.now a.begins.now a.prices.now a.state in
+    let depths : List ℕ = c.depths_of.new.depths in
+    let made : (w : Lent) → depths ≡ depths_by w.woven.edges w.woven.count c.args.begins.now c.args.prices.now = λ w. c.depths_of.ensures w.woven.count w.woven.edges (woven_meant _ _ _ _ _ _ _ _ w.woven) in
+    let w = c.requires.0 in
+    let long = backed_length _ _ _ _ _ _ _ _ _ _ w _ (made w) in
     rw long (
       w.woven.few_states,
       w.woven.stops_long,
@@ -47,19 +29,26 @@ sources_of-sources-requires c =
 
 pub walk-requires : goal.walk-requires
 walk-requires c =
-    let s = start (goal.at.walk-requires c).After-depths_of in
-    let w = s.pre.0 in
-    let long = backed_length _ _ _ _ _ _ _ _ _ _ w _ (made (goal.at.walk-requires c).After-depths_of w) in (
+    let Lent : Type 0 = let a = c.args in Backed a.moves.now a.row a.at a.acts.now a.index.now a.tight.now a.stops.now a.begins.now a.prices.now a.state in
+    let depths : List ℕ = c.depths_of.new.depths in
+    let made : (w : Lent) → depths ≡ depths_by w.woven.edges w.woven.count c.args.begins.now c.args.prices.now = λ w. c.depths_of.ensures w.woven.count w.woven.edges (woven_meant _ _ _ _ _ _ _ _ w.woven) in
+    let guide : Lent → Guided c.args.acts.now depths c.sources_of-sources.result = λ w. backed_guided _ _ _ _ _ _ _ _ _ _ w _ (made w) _ c.sources_of-sources.ensures.1 in
+    let w = c.requires.0 in
+    let long = backed_length _ _ _ _ _ _ _ _ _ _ w _ (made w) in (
       rw long w.inside,
-      guide (goal.at.walk-requires c).After-sources_of-sources w,
+      guide w,
       rw long (omega (arith, w.woven.few_states, c.sources_of-sources.ensures.0)),
-      backed_few _ _ _ _ _ _ _ _ _ _ w _ (made (goal.at.walk-requires c).After-depths_of w),
-      s.pre.3,
-      s.pre.4,
+      backed_few _ _ _ _ _ _ _ _ _ _ w _ (made w),
+      c.requires.3,
+      c.requires.4,
     )
 
 pub returns : goal.returns
 returns c w =
+    let Lent : Type 0 = let a = w.args in Backed a.moves.now a.row a.at a.acts.now a.index.now a.tight.now a.stops.now a.begins.now a.prices.now a.state in
+    let depths : List ℕ = w.depths_of.new.depths in
+    let made : (w : Lent) → depths ≡ depths_by w.woven.edges w.woven.count w.args.begins.now w.args.prices.now = λ w. w.depths_of.ensures w.woven.count w.woven.edges (woven_meant _ _ _ _ _ _ _ _ w.woven) in
+    let guide : Lent → Guided w.args.acts.now depths w.sources_of-sources.result = λ w. backed_guided _ _ _ _ _ _ _ _ _ _ w _ (made w) _ w.sources_of-sources.ensures.1 in
     let o = c.before.before.before.before.before.before in
     let d = o.before.before.before.before in
     rw (backed_way _ _ _ _ _ _ _ _ _ _ w _ (made d w)) at (c.before.before.walk.ensures (guide o w))
