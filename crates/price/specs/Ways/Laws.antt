@@ -66,9 +66,9 @@ module _ (t : Task) (l : ℕ) where
   pub way_cut : {c : Centre} {x z k : ℕ} (p q : List ℕ) → Way t l c x (p ++ q) z k → Cut c x p q z k
   unfolding centre_along
   way_cut {x} {k} [] q w = record { middle = x; front = 0; back = k; before = done; behind = w; total = omega arith }
-  way_cut (a ∷ p) q w =
+  way_cut {c = c} (a ∷ p) q w =
       let d = way_head w in
-      let e = way_cut p q d.behind in
+      let e = way_cut {c = next_centre t a c} p q d.behind in
       record {
         middle = e.middle;
         front = d.front + e.front;

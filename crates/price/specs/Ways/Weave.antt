@@ -91,13 +91,13 @@ module _ (t : Task) (ok : Valid t) where
       }
 
   -- a leaf's actions inside a layer
-  steps_walk : (s : State) (i : ℕ) {c : Centre} {x z : ℕ} {acts : List ℕ} → i < t.leaves → Inside t s → centre t s ≡ c → number t (suc i) s ≡ x
+  steps_walk : (i : ℕ) (s : State) {c : Centre} {x z : ℕ} {acts : List ℕ} → i < t.leaves → Inside t s → centre t s ≡ c → number t (suc i) s ≡ x
       → Steps t (suc i) c x acts z → Walked t s i acts z
   unfolding final
-  steps_walk s i l h g q none = record { quiet = quiet_none t s; here = q; others = λ j d. refl }
-  steps_walk s i l h g q (then {y} {acts} a e r) =
+  steps_walk i s l h g q none = record { quiet = quiet_none t s; here = q; others = λ j d. refl }
+  steps_walk i s l h g q (then {y} {acts} a e r) =
       let d = step_walks s i a y l h (rw (g, q) e) in
-      walked_join s i (a ∷ []) acts d (steps_walk (outcome t a s) i l (outcome_inside t ok a e.known h) (d.quiet.still ∙ g) d.here r)
+      walked_join s i (a ∷ []) acts d (steps_walk i (outcome t a s) l (outcome_inside t ok a e.known h) (d.quiet.still ∙ g) d.here r)
 
   -- the actions of all leaves inside a layer
   turns : (s : State) (g : ℕ → List ℕ) (z : ℕ → ℕ) → Inside t s → ((i : ℕ) → i < t.leaves → Steps t (suc i) (centre t s) (number t (suc i) s) (g i) (z i))
@@ -115,7 +115,7 @@ module _ (t : Task) (ok : Valid t) where
           }
         where
           e : Walked t (final t s (joined n g)) n (g n) (z n)
-          e = steps_walk (final t s (joined n g)) n m (final_inside t ok s (joined n g) h d.quiet.carries) d.quiet.still (d.high n (omega arith)) (w n m)
+          e = steps_walk n (final t s (joined n g)) m (final_inside t ok s (joined n g) h d.quiet.carries) d.quiet.still (d.high n (omega arith)) (w n m)
 
           low : (i : ℕ) → (i < n) ⊎ (i ≡ n) → number t (suc i) (final t (final t s (joined n g)) (g n)) ≡ z i
           low i (inl k) = e.others i (omega arith) ∙ d.low i k
