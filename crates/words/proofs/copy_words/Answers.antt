@@ -1,4 +1,4 @@
-use Rattle.std.proofs.Common.{◌≤◌, ◌-◌, ◌≡◌, ◌∙◌, ◌++◌, arith, length, take, drop, length-set, rules}
+use Rattle.std.proofs.Common.{◌≡◌, ◌∙◌, arith, length-set}
 use Rattle.words.specs.Words.{copy_more}
 use Rattle.words.proofs.copy_words.Goals as goal
 

@@ -1,6 +1,5 @@
 -- `words::copy_words` meets its contract: after i turns the first i words are copied. Assumes nothing.
-use Rattle.std.proofs.Common.{◌≤◌, ◌-◌, ◌≡◌, ◌∙◌, ◌++◌, arith, length, take, drop, length-set, rules}
-use Rattle.words.specs.Words.{copy_more}
+use Rattle.std.proofs.Common.{◌≤◌, ◌-◌, ◌≡◌, ◌++◌, length, take, drop}
 use Rattle.words.proofs.copy_words.Given as goal
 
 abbrev pub invariant-loop-i : goal.invariant-loop-i

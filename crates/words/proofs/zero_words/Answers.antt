@@ -1,4 +1,4 @@
-use Rattle.std.proofs.Common.{◌≤◌, ◌-◌, ◌≡◌, refl, ◌∙◌, ◌++◌, arith, length, drop, replicate, length-set, rules}
+use Rattle.std.proofs.Common.{◌≡◌, refl, ◌∙◌, arith, length-set}
 use borrow.Author.Fill.{fill_more}
 use Rattle.words.proofs.zero_words.Goals as goal
 

@@ -1,6 +1,5 @@
 -- `words::zero_words` meets its contract: after k turns the first k words are 0. Assumes nothing.
-use Rattle.std.proofs.Common.{◌≤◌, ◌-◌, ◌≡◌, refl, ◌∙◌, ◌++◌, arith, length, drop, replicate, length-set, rules}
-use borrow.Author.Fill.{fill_more}
+use Rattle.std.proofs.Common.{◌≤◌, ◌-◌, ◌≡◌, ◌++◌, length, drop, replicate}
 use Rattle.words.proofs.zero_words.Given as goal
 
 abbrev pub invariant-loop-k : goal.invariant-loop-k
