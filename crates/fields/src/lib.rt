@@ -115,7 +115,7 @@ fn ends_at(rec: &[u8], at: usize) -> bool
 }
 
 // A bit reader: the record it was given and the bit it has reached. Each function over one takes it apart and leaves the work to a
-// function on the slice and the number; these few are proved by hand, by a walk of their MIR.
+// function on the slice and the number.
 #[derive(Drop)]
 pub struct BitReader<'a> {
     pub bytes: &'a [u8],
@@ -152,7 +152,7 @@ pub fn ended<'a>(r: BitReader<'a>) -> bool
     ends_at(r.bytes, r.at)
 }
 
-// The field of a kind that a reader of the record finds at bit `at`. Its parameters are plain, so a caller's proof has no walk.
+// The field of a kind that a reader of the record finds at bit `at`. Its parameters are plain.
 pub fn field(rec: &[u8], at: usize, kind: usize) -> FieldRead
     requires { (at < 2 ^ 32) × (kind < 11) }
     ensures { next_field rec.now kind at ≡ field_told result }

@@ -95,8 +95,8 @@ pub fn read_variables(
 ) -> Place
     requires { (at < 2 ^ 30) × (n ≤ 32) × (length sizes.old ≡ 32) × (length factors.old ≡ 32) × (length initial.old ≡ 32) }
     ensures told { variables_from (next_field rec.now) leaves n 0
-        (record { sizes = sizes.entry.now; factors = factors.old; initial = initial.old }) at
-        ≡ place_told (record { sizes = sizes.exit.now; factors = factors.new; initial = initial.new }) result }
+        (record { sizes = sizes.old; factors = factors.old; initial = initial.old }) at
+        ≡ place_told (record { sizes = sizes.new; factors = factors.new; initial = initial.new }) result }
     ensures near { place_of result ≤ at + 12 * n }
     ensures elsewhere { Elsewhere 0 n sizes.old sizes.new × Elsewhere 0 n factors.old factors.new
         × Elsewhere 0 n initial.old initial.new }

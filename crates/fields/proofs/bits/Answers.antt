@@ -1,8 +1,6 @@
-use Rattle.std.proofs.Common.{◌-◌, ◌≤◌, ◌≡◌, ap, ◌∙◌, rules, arith, le_antisymm}
+use Rattle.std.proofs.Common.{ap, ◌∙◌, rules, arith, le_antisymm}
 use Rattle.fields.specs.Fields.{bit_of, field_of}
 use Rattle.fields.specs.Fields.Laws.{field_below, field_more}
-use Rattle.fields.proofs.bits.Reads as reads
-use Rattle.fields.proofs.bits.Lts as lts
 use Rattle.fields.proofs.bits.Goals as goal
 
 pub loop-i-init : goal.loop-i-init

@@ -1,5 +1,5 @@
 -- `fields::ends_at` meets its contract: the record has just the bytes that the bits before `at` need, and the bits behind it write 0. Assumes nothing.
-use Rattle.std.proofs.Common.{◌+◌, ◌/◌, arith, length, rules, eq-eqb, ne_eqb}
+use Rattle.std.proofs.Common.{◌+◌, ◌/◌, arith, length, eq-eqb, ne_eqb}
 use Rattle.fields.proofs.ends_at.Goals as goal
 
 pub returns-then-rec-bytes : goal.returns-then-rec-bytes

@@ -1,10 +1,8 @@
 -- `fields::field_at` meets its contract: the test is that the field's last bit is inside the record. Assumes nothing.
-use Rattle.std.proofs.Common.{ℕ, ◌+◌, sym, ap, ◌∙◌, rules, arith}
+use Rattle.std.proofs.Common.{ℕ, ◌+◌, sym, ap, ◌∙◌, arith}
 use Rattle.loops.specs.Parsed.{got}
 use Rattle.fields.specs.Fields.{width}
 use Rattle.fields.specs.Fields.Laws.{width_le, next_ends, next_got}
-use Rattle.fields.proofs.field_at.Reads as reads
-use Rattle.fields.proofs.field_at.Lts as lts
 use Rattle.fields.proofs.field_at.Goals as goal
 
 pub overflow_add-at : goal.overflow_add-at

@@ -1,8 +1,7 @@
 -- `steps::holds` meets its contract. The invariant: the pairs on the first v variables hold. Assumes nothing.
-use Rattle.std.proofs.Common.{◌≡◌, refl, sym, Bool, true, List, ℕ, ◌+◌, ◌-◌, ◌≤◌, arith, get_or, rules}
+use Rattle.std.proofs.Common.{◌≡◌, Bool, true, List, ℕ, ◌+◌, ◌-◌, ◌≤◌, get_or}
 use Rattle.loops.specs.Count.{all}
-use Rattle.loops.specs.Count.Laws.{all_more, all_not, told_true, told_false}
-use Rattle.task.specs.Meaning.{met, holds}
+use Rattle.task.specs.Meaning.{met}
 use Rattle.steps.proofs.holds.Given as goal
 
 -- the pair on variable v holds

@@ -1,7 +1,6 @@
-use Rattle.std.proofs.Common.{◌≡◌, refl, ap, ◌∙◌, List, ◌++◌, ℕ, ◌+◌, ◌-◌, ◌≤◌, arith, length, get_or, drop, length-set, get_or-append-add, get_or-drop, rules}
+use Rattle.std.proofs.Common.{◌≡◌, refl, ap, ◌∙◌, List, ◌++◌, ℕ, ◌+◌, arith, length, get_or, drop, length-set, get_or-append-add, get_or-drop}
 use Rattle.loops.specs.Count.{list}
 use Rattle.loops.specs.Count.Laws.{list_more, list_length}
-use Rattle.task.specs.Meaning.{put}
 use Rattle.steps.proofs.put.Invariants.{behind}
 use Rattle.steps.proofs.put.Goals as goal
 

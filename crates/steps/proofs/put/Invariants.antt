@@ -1,7 +1,6 @@
 -- `steps::put` meets its contract: after v turns the first v values are written. Assumes nothing.
-use Rattle.std.proofs.Common.{◌≡◌, refl, ap, ◌∙◌, List, ◌++◌, ℕ, ◌+◌, ◌-◌, ◌≤◌, arith, length, get_or, drop, length-set, get_or-append-add, get_or-drop, rules}
+use Rattle.std.proofs.Common.{◌≡◌, List, ◌++◌, ℕ, ◌+◌, ◌-◌, ◌≤◌, length, get_or, drop}
 use Rattle.loops.specs.Count.{list}
-use Rattle.loops.specs.Count.Laws.{list_more, list_length}
 use Rattle.task.specs.Meaning.{put}
 use Rattle.steps.proofs.put.Given as goal
 

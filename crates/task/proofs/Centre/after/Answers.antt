@@ -1,4 +1,4 @@
-use Rattle.std.proofs.Common.{◌≡◌, refl, ap, ◌∙◌, cond, ◌&&◌, List, ◌++◌, append-nil, ℕ, ◌+◌, ◌-◌, ◌≤◌, arith, eqb, length, get_or, drop, length-set, drop_of_length-le, get_or-append-add, get_or-drop, rules}
+use Rattle.std.proofs.Common.{◌≡◌, refl, ap, ◌∙◌, cond, ◌&&◌, List, ◌++◌, append-nil, ℕ, ◌+◌, arith, eqb, length, get_or, drop, length-set, drop_of_length-le, get_or-append-add, get_or-drop, rules}
 use Rattle.loops.specs.Count.{list}
 use Rattle.loops.specs.Count.Laws.{list_more, list_length}
 use Rattle.task.specs.Factors.{named}

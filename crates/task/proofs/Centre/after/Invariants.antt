@@ -1,9 +1,7 @@
 -- The loop's invariant: the first v values are those of the next centre state, the others are as they were. Assumes nothing.
-use Rattle.std.proofs.Common.{◌≡◌, refl, ap, ◌∙◌, cond, ◌&&◌, List, ◌++◌, append-nil, ℕ, ◌+◌, ◌-◌, ◌≤◌, arith, eqb, length, get_or, drop, length-set, drop_of_length-le, get_or-append-add, get_or-drop, rules}
+use Rattle.std.proofs.Common.{◌≡◌, cond, ◌&&◌, List, ◌++◌, ℕ, ◌-◌, ◌≤◌, eqb, length, get_or, drop}
 use Rattle.loops.specs.Count.{list}
-use Rattle.loops.specs.Count.Laws.{list_more, list_length}
 use Rattle.task.specs.Factors.{named}
-use Rattle.task.specs.Centre.{centre_after}
 use Rattle.task.proofs.Centre.after.Given as goal
 
 -- the next centre state's value of a variable
