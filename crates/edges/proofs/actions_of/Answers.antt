@@ -1,8 +1,9 @@
-use Rattle.std.proofs.Common.{◌≡◌, refl, ap, ◌∙◌, ⊎_elim, ◌-◌, ◌≤◌, le_antisymm, arith, length, length-set, eq-eqb, ne_eqb, rules}
+use Rattle.std.proofs.Common.{◌≡◌, refl, ap, ◌∙◌, ◌-◌, ◌≤◌, le_antisymm, arith, length, length-set, eq-eqb, ne_eqb, rules}
 use Rattle.layer.specs.Lent.{Front}
 use Rattle.edges.specs.Edges.{those, of_leaf}
 use Rattle.edges.specs.Edges.Those.{those_here, those_not, front_more}
 use Rattle.edges.proofs.actions_of.Goals as goal
+use Rattle.edges.proofs.actions_of.Goals.{then-kinds-a, else-kinds-a}
 
 pub loop-a-init : goal.loop-a-init
 unfolding those
@@ -16,18 +17,16 @@ loop-a-preserved c =
     let l = c.loop-a in
     let s = c.args in
     let p = of_leaf s.kinds.now s.i in
-    ⊎_elim
-    (λ w.
-    let e = those_here p l.a (eq-eqb _ _ w.0.taken) in (
-      omega arith,
-      omega (arith, w.2),
-      ap length w.1 ∙ simp length-set l.invariant.2,
-      rw (e, w.1, w.2) (front_more l.a (omega arith) l.invariant.3),
-    ))
-    (λ w.
-    let e = those_not p l.a (ne_eqb _ _ w.0.left) in
-    (omega arith, omega (arith, w.2), ap length w.1 ∙ l.invariant.2, rw (e, w.1, w.2) l.invariant.3))
-    c.if-kinds-a.branch
+    elim c.if-kinds-a.branch [
+      | then-kinds-a w ↦ let e = those_here p l.a (eq-eqb _ _ w.if-kinds-a.true) in (
+        omega arith,
+        omega (arith, w.count-is),
+        ap length w.acts-is ∙ simp length-set l.invariant.2,
+        rw (e, w.acts-is, w.count-is) (front_more l.a (omega arith) l.invariant.3),
+      )
+      | else-kinds-a w ↦ let e = those_not p l.a (ne_eqb _ _ w.if-kinds-a.false) in
+          (omega arith, omega (arith, w.count-is), ap length w.acts-is ∙ l.invariant.2, rw (e, w.acts-is, w.count-is) l.invariant.3)
+    ]
 
 pub shape_of-acts : goal.shape_of-acts
 shape_of-acts c = c.loop-a.invariant.2

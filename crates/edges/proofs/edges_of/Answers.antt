@@ -1,9 +1,9 @@
-use Rattle.std.proofs.Common.{◌≡◌, refl, ap, ◌∙◌, ⊎_elim, not, ◌+◌, ◌*◌, ◌-◌, ◌≤◌, ◌<◌, le_antisymm, arith, length, get_or, length-set, eq-eqb, ne_eqb, rules}
+use Rattle.std.proofs.Common.{◌≡◌, refl, ap, ◌∙◌, not, ◌+◌, ◌*◌, ◌-◌, ◌≤◌, ◌<◌, le_antisymm, arith, length, get_or, length-set, eq-eqb, ne_eqb, rules}
 use Rattle.layer.specs.Lent.{Front}
 use Rattle.edges.specs.Edges.{picked, moved_by}
 use Rattle.edges.specs.Edges.Those.{picked_here, picked_not, front_more}
 use Rattle.edges.proofs.edges_of.Goals as goal
-use Rattle.edges.proofs.edges_of.Goals.{In-loop-j}
+use Rattle.edges.proofs.edges_of.Goals.{In-loop-j, then-moves-a-ne0, else-moves-a-ne0}
 
 -- the action's move of the state lies within the table
 inside : (c : In-loop-j) → let a = c.args in
@@ -34,18 +34,16 @@ loop-j-preserved c =
     let l = c.loop-j in
     let s = c.args in
     let p = moved_by s.moves.now s.row s.s in
-    ⊎_elim
-    (λ w.
-    let e = picked_here p s.own.now l.j (ap not (ne_eqb _ _ w.0.taken)) in (
-      omega arith,
-      omega (arith, w.2),
-      ap length w.1 ∙ simp length-set l.invariant.2,
-      rw (e, w.1, w.2) (front_more (get_or s.own.now l.j 0) (omega arith) l.invariant.3),
-    ))
-    (λ w.
-    let e = picked_not p s.own.now l.j (ap not (eq-eqb _ _ w.0.left)) in
-    (omega arith, omega (arith, w.2), ap length w.1 ∙ l.invariant.2, rw (e, w.1, w.2) l.invariant.3))
-    c.if-moves-a-ne0.branch
+    elim c.if-moves-a-ne0.branch [
+      | then-moves-a-ne0 w ↦ let e = picked_here p s.own.now l.j (ap not (ne_eqb _ _ w.if-moves-a-ne0.true)) in (
+        omega arith,
+        omega (arith, w.count-is),
+        ap length w.acts-is ∙ simp length-set l.invariant.2,
+        rw (e, w.acts-is, w.count-is) (front_more (get_or s.own.now l.j 0) (omega arith) l.invariant.3),
+      )
+      | else-moves-a-ne0 w ↦ let e = picked_not p s.own.now l.j (ap not (eq-eqb _ _ w.if-moves-a-ne0.false)) in
+          (omega arith, omega (arith, w.count-is), ap length w.acts-is ∙ l.invariant.2, rw (e, w.acts-is, w.count-is) l.invariant.3)
+    ]
 
 pub shape_of-acts : goal.shape_of-acts
 shape_of-acts c = c.loop-j.invariant.2

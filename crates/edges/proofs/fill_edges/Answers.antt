@@ -17,8 +17,8 @@ fill_leaf-requires c =
 pub loop-i-preserved : goal.loop-i-preserved
 loop-i-preserved c =
     let l = c.loop-i in
-    let kept = c.fill_leaf.auto.1.1.1.1.1.1.1.1.1 in
-    (omega (arith, c.loop-i-test.true), kept.0 ∙ l.invariant.1, kept.1.0 ∙ l.invariant.2, c.fill_leaf.ensures)
+    let kept = c.fill_leaf.auto in
+    (omega (arith, c.loop-i-test.true), kept.edges ∙ l.invariant.1, kept.ends ∙ l.invariant.2, c.fill_leaf.ensures)
 
 pub shape_of-edges : goal.shape_of-edges
 shape_of-edges c = c.loop-i.invariant.1

@@ -9,10 +9,10 @@ overflow_add-ends c =
     let e = c.edges_of-count in
     let from = get_or c.args.ends.now c.args.s 0 in
     let n = length c.args.edges.now - from in
-    omega (arith, c.well_formed, c.requires.1, front_fits e.ensures e.auto.1.1.1.1.0, length-take n (drop from c.args.edges.now))
+    omega (arith, c.well_formed, c.requires.1, front_fits e.ensures e.auto.acts, length-take n (drop from c.args.edges.now))
 
 pub returns : goal.returns
 returns c =
     let e = c.edges_of-count in
     let room : get_or c.args.ends.now c.args.s 0 ≤ length c.args.edges.now = omega (arith, c.requires.1) in
-    (wrote_at _ _ _ _ _ room e.ensures e.auto.1.1.1.1.0, rw e.ensures.many)
+    (wrote_at _ _ _ _ _ room e.ensures e.auto.acts, rw e.ensures.many)

@@ -1,5 +1,4 @@
 use Rattle.std.proofs.Common.{◌≡◌, refl, sym, ◌∙◌, Bool, true, List, [], ℕ, ◌+◌, ◌-◌, ◌*◌, ◌≤◌, arith, length, rules}
-use borrow.Author.Tests.{not-true, not-false}
 use Rattle.loops.specs.Count.{all}
 use Rattle.loops.specs.Count.Laws.{all_more, all_not}
 use Rattle.layer.specs.Board.{Board, base_on, row_on, part_on, passes_on, applies_on}
@@ -14,7 +13,7 @@ is_met-requires c =
 
 pub returns-then-not-is_met : goal.returns-then-not-is_met
 unfolding applies_on
-returns-then-not-is_met c = rw (sym c.is_met.ensures ∙ not-true _ c.if-not-is_met.true)
+returns-then-not-is_met c = rw (sym c.is_met.ensures ∙ c.if-not-is_met.true)
 
 pub loop-i-init : goal.loop-i-init
 unfolding all
@@ -85,8 +84,8 @@ returns-then-not-passes c =
     let to : ℕ = base_on board (c.loop-i.i + 1) in
     let room : (from ≤ to) × (to ≤ 1024) × (to ≤ length c.args.old.now) = let i = c.loop-i.i in let end = base_in board c.requires.0 i c.loop-i-test.true in let rise = c.requires.0.bases_rise i c.loop-i-test.true in omega (arith, end, rise, c.requires.0.few_all, c.requires.2) in
     let tested : c.passes.result ≡ passed board c.args.action c.args.old.now c.loop-i.i = let a = c.args in c.passes.ensures ∙ leaf_passes board c.loop-i.i a.action _ (part_length a.old.now from to room.2) in
-    rw (sym c.is_met.ensures ∙ not-false _ c.if-not-is_met.false)
-    (sym (all_not _ _ c.loop-i.i c.loop-i-test.true (sym tested ∙ not-true _ c.if-not-passes.true)))
+    rw (sym c.is_met.ensures ∙ c.if-not-is_met.false)
+    (sym (all_not _ _ c.loop-i.i c.loop-i-test.true (sym tested ∙ c.if-not-passes.true)))
 
 pub loop-i-preserved : goal.loop-i-preserved
 unfolding passes_on
@@ -97,10 +96,10 @@ loop-i-preserved c =
     let room : (from ≤ to) × (to ≤ 1024) × (to ≤ length c.args.old.now) = let i = c.loop-i.i in let end = base_in board c.requires.0 i c.loop-i-test.true in let rise = c.requires.0.bases_rise i c.loop-i-test.true in omega (arith, end, rise, c.requires.0.few_all, c.requires.2) in
     let tested : c.passes.result ≡ passed board c.args.action c.args.old.now c.loop-i.i = let a = c.args in c.passes.ensures ∙ leaf_passes board c.loop-i.i a.action _ (part_length a.old.now from to room.2) in
     let l = c.loop-i in
-    (omega arith, all_more l.i _ l.invariant.1 (sym tested ∙ not-false _ c.if-not-passes.false))
+    (omega arith, all_more l.i _ l.invariant.1 (sym tested ∙ c.if-not-passes.false))
 
 pub returns : goal.returns
 unfolding applies_on passes_on
 returns c =
     let every : c.loop-i.i ≡ c.args.leaves = omega arith in
-    rw (sym c.is_met.ensures ∙ not-false _ c.if-not-is_met.false) (sym (rw every at c.loop-i.invariant.1))
+    rw (sym c.is_met.ensures ∙ c.if-not-is_met.false) (sym (rw every at c.loop-i.invariant.1))

@@ -1,8 +1,9 @@
-use Rattle.std.proofs.Common.{◌≡◌, refl, sym, ap, ◌∙◌, ⊎_elim, ◌++◌, ◌-◌, ◌≤◌, le_antisymm, arith, length, drop, length-append, length-set, rules}
+use Rattle.std.proofs.Common.{◌≡◌, refl, sym, ap, ◌∙◌, ◌++◌, ◌-◌, ◌≤◌, le_antisymm, arith, length, drop, length-append, length-set, rules}
 use Rattle.layer.specs.Board.{enabled_on}
 use Rattle.layer.specs.Board.Turns.{enabled_here, enabled_not, push_more}
 use Rattle.layer.specs.Lent.{tests_of}
 use Rattle.layer.proofs.enabled.Goals as goal
+use Rattle.layer.proofs.enabled.Goals.{then-is_enabled, else-is_enabled}
 
 pub loop-a-init : goal.loop-a-init
 unfolding enabled_on
@@ -13,19 +14,17 @@ loop-a-preserved c =
     let l = c.loop-a in
     let s = c.args in
     let b = tests_of s.kinds.now s.factors s.conditions.now in
-    ⊎_elim
-    (λ w.
-    let e = enabled_here b s.i s.centre l.a (sym c.is_enabled.ensures ∙ w.0.taken) in (
-      omega arith,
-      omega (arith, w.2),
-      ap length w.1 ∙ simp length-set l.invariant.2,
-      rw (e, w.2) (simp length-append (omega (arith, l.invariant.3))),
-      rw (e, w.1, w.2, l.invariant.4) (push_more (enabled_on b s.i s.centre l.a) s.acts.now l.count l.a l.invariant.3 (omega arith)),
-    ))
-    (λ w.
-    let e = enabled_not b s.i s.centre l.a (sym c.is_enabled.ensures ∙ w.0.left) in
-    (omega arith, omega (arith, w.2), ap length w.1 ∙ l.invariant.2, rw (e, w.2) l.invariant.3, rw (e, w.1, w.2) l.invariant.4))
-    c.if-is_enabled.branch
+    elim c.if-is_enabled.branch [
+      | then-is_enabled w ↦ let e = enabled_here b s.i s.centre l.a (sym c.is_enabled.ensures ∙ w.if-is_enabled.true) in (
+        omega arith,
+        omega (arith, w.count-is),
+        ap length w.acts-is ∙ simp length-set l.invariant.2,
+        rw (e, w.count-is) (simp length-append (omega (arith, l.invariant.3))),
+        rw (e, w.acts-is, w.count-is, l.invariant.4) (push_more (enabled_on b s.i s.centre l.a) s.acts.now l.count l.a l.invariant.3 (omega arith)),
+      )
+      | else-is_enabled w ↦ let e = enabled_not b s.i s.centre l.a (sym c.is_enabled.ensures ∙ w.if-is_enabled.false) in
+          (omega arith, omega (arith, w.count-is), ap length w.acts-is ∙ l.invariant.2, rw (e, w.count-is) l.invariant.3, rw (e, w.acts-is, w.count-is) l.invariant.4)
+    ]
 
 pub shape_of-acts : goal.shape_of-acts
 shape_of-acts c = c.loop-a.invariant.2

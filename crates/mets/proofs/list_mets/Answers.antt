@@ -9,7 +9,7 @@ returns c =
       listed = (
         slot.ensures.1,
         omega (arith, c.requires.0, slot.ensures.2.listed.few),
-        list_copied _ c.args.centre slot.new.1.1.1.1.1.1.0 _ c.store.new.into slot.result _ slot.ensures.2 refl c.store.ensures,
+        list_copied _ c.args.centre slot.new.known _ c.store.new.into slot.result _ slot.ensures.2 refl c.store.ensures,
         λ k l. c.store.ensures.outside k (inr (omega (arith, l))),
       );
       lengths = c.store.auto.into;

@@ -6,7 +6,7 @@ use Rattle.mets.proofs.slot_for.Goals as goal
 pub returns-then-is_known : goal.returns-then-is_known
 returns-then-is_known c =
     let slot = c.slot_of-at in
-    (omega (arith, slot.ensures), c.requires.4, known_told _ _ c.requires.4 c.requires.0 slot.result slot.ensures c.args.centre (c.is_Known.ensures c.if-is_known.true))
+    (omega (arith, slot.ensures), c.requires.4, known_told _ _ c.requires.4 c.requires.0 slot.result slot.ensures c.args.centre (c.is_known.ensures c.if-is_known.true))
 
 pub fill-requires : goal.fill-requires
 fill-requires c =
@@ -17,8 +17,8 @@ pub returns : goal.returns
 returns c =
     let slot = c.slot_of-at in
     let made = c.fill in
-    let S = made.new.1.1.1.1.1.1.0 in
-    let long = made.auto.1.1.1.1.1.1.0 in (
+    let S = made.new.slot in
+    let long = made.auto.slot in (
       omega (arith, slot.ensures),
       known_filled _ _ c.requires.4 c.requires.0 slot.result slot.ensures S long made.ensures.0,
       told_filled _ _ c.requires.4 c.requires.0 slot.result slot.ensures S long c.args.centre made.ensures.1,

@@ -14,7 +14,7 @@ returns-then-count-eq0 c =
 
 pub returns-then-not-first_sweep : goal.returns-then-not-first_sweep
 returns-then-not-first_sweep c =
-    let few : Capped mark c.args.prices.now = at_most mark c.args.prices.now (λ i. omega (arith, c.type_inv.prices i)) in
+    let few : Capped mark c.args.prices.now = at_most mark c.args.prices.now (λ i. search rules) in
     let stays : Ranged (length c.args.prices.now) c.args.count (move_by c.args.moves.now c.args.row c.args.at c.args.acts.now) = λ a x y h g t. omega (arith, c.requires.1.moves_in a x h g) in
     let P = c.args.prices.now in
     sweeping_end
@@ -65,7 +65,7 @@ shape_of-prices c =
 
 pub returns : goal.returns
 returns c =
-    let few : Capped mark c.args.prices.now = at_most mark c.args.prices.now (λ i. omega (arith, c.type_inv.prices i)) in
+    let few : Capped mark c.args.prices.now = at_most mark c.args.prices.now (λ i. search rules) in
     let stays : Ranged (length c.args.prices.now) c.args.count (move_by c.args.moves.now c.args.row c.args.at c.args.acts.now) = λ a x y h g t. omega (arith, c.requires.1.moves_in a x h g) in
     let P = c.args.prices.now in
     let long = c.first_sweep.auto.prices in

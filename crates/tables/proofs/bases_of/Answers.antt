@@ -13,13 +13,13 @@ pub overflow_add-sum : goal.overflow_add-sum
 overflow_add-sum c =
     let a = c.args in
     let l = c.loop-i in
-    let few = start_few a.variables (entries a.factors.now) (entries a.sizes.now) l.i (λ j m. c.requires.1 j (omega arith)) in
+    let few = start_few a.variables (entries a.factors.now) (entries a.sizes.now) l.i (λ j m. c.requires.by_index j (omega arith)) in
     omega arith
 
 pub loop-i-preserved : goal.loop-i-preserved
 loop-i-preserved c =
     let l = c.loop-i in
-    let sum = start_capped _ _ _ l.i _ _ (c.requires.1 l.i c.loop-i-test.true) l.invariant.2 c.states_capped.ensures in (
+    let sum = start_capped _ _ _ l.i _ _ (c.requires.by_index l.i c.loop-i-test.true) l.invariant.2 c.states_capped.ensures in (
       omega arith,
       simp length-set l.invariant.1,
       sum,

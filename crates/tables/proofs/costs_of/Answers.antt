@@ -6,7 +6,7 @@ use Rattle.tables.proofs.costs_of.Goals as goal
 
 pub overflow_add-costs : goal.overflow_add-costs
 overflow_add-costs c =
-    let fits = c.requires.1 c.loop-a.a c.loop-a-test.true in
+    let fits = c.requires.by_index c.loop-a.a c.loop-a-test.true in
     omega (arith, c.drive_time-time.ensures.named)
 
 pub loop-a-preserved : goal.loop-a-preserved

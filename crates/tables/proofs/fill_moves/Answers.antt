@@ -23,11 +23,11 @@ effects_long s = search rules
 pub fill_rows-requires : goal.fill_rows-requires
 unfolding start_of base states all_states
 fill_rows-requires c =
-    let ok = c.requires.0 in
-    let bases = c.requires.1.0 in record { variables_in_bounds = omega (arith, sizes_long (goal.at.fill_rows-requires c).Start, factors_long (goal.at.fill_rows-requires c).Start, bases.long, ok.fields.few_variables, ok.fields.few_leaves, ok.fields.few_actions); in_bounds = omega (arith, conditions_long (goal.at.fill_rows-requires c).Start, effects_long (goal.at.fill_rows-requires c).Start); leaves_in_bounds = c.requires.1.1; filled = λ i l. bases.is i (omega arith); by_index = small_is c.args.task ok }
+    let ok = c.requires.valid in
+    let bases = c.requires.bases in record { variables_in_bounds = omega (arith, sizes_long (goal.at.fill_rows-requires c).Start, factors_long (goal.at.fill_rows-requires c).Start, bases.long, ok.fields.few_variables, ok.fields.few_leaves, ok.fields.few_actions); in_bounds = omega (arith, conditions_long (goal.at.fill_rows-requires c).Start, effects_long (goal.at.fill_rows-requires c).Start); leaves_in_bounds = c.requires.task_in_bounds; filled = λ i l. bases.is i (omega arith); by_index = small_is c.args.task ok }
 
 pub returns : goal.returns
 unfolding start_of base states all_states to meets_in number values_of to_with
 returns c =
     let filled = c.fill_rows.ensures in
-    record { moves = λ i a x l la m. filled.0 a la i x l m; same = filled.1 }
+    record { moves = λ i a x l la m. filled.rows a la i x l m; same = filled.same }

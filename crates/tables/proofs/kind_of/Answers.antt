@@ -29,4 +29,4 @@ returns c =
     let l = c.loop-i in
     let outside = told c.touches_centre.ensures c.if-touches_centre.false in
     let none = star_none _ _ _ _ _ outside (rw (le_antisymm l.invariant.0 c.loop-i-test.false) at l.invariant.1) in
-    absurd (true≢false (sym c.requires.1.1 ∙ sym none))
+    absurd (true≢false (sym c.requires.effects_value ∙ sym none))

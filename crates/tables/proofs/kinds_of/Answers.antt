@@ -10,7 +10,7 @@ loop-a-init c = (omega arith, refl, λ k m. absurd (not-suc-le-zero m))
 
 pub kind_of-requires : goal.kind_of-requires
 kind_of-requires c =
-    record { variables_in_bounds = search rules; variables_in_bounds_2 = search rules; effects_value = c.requires.1.1 c.loop-a.a c.loop-a-test.true }
+    record { variables_in_bounds = search rules; variables_in_bounds_2 = search rules; effects_value = c.requires.by_index c.loop-a.a c.loop-a-test.true }
 
 pub loop-a-preserved : goal.loop-a-preserved
 loop-a-preserved c =

@@ -20,8 +20,8 @@ goal_long s = search rules
 pub fill_action-requires : goal.fill_action-requires
 unfolding start_of base states all_states
 fill_action-requires c =
-    let ok = c.requires.0 in
-    let bases = c.requires.1 in record { variables_in_bounds = omega (arith, sizes_long (goal.at.fill_action-requires c).Start, factors_long (goal.at.fill_action-requires c).Start, bases.long, ok.fields.few_variables, ok.fields.few_leaves); variables_in_bounds_2 = omega (arith, goal_long (goal.at.fill_action-requires c).Start, ok.fields.few_variables); leaves_in_bounds = omega (arith, ok.whole.few_all_states); filled = λ i l. bases.is i (omega arith); by_index = still_small c.args.task ok }
+    let ok = c.requires.valid in
+    let bases = c.requires.bases in record { variables_in_bounds = omega (arith, sizes_long (goal.at.fill_action-requires c).Start, factors_long (goal.at.fill_action-requires c).Start, bases.long, ok.fields.few_variables, ok.fields.few_leaves); variables_in_bounds_2 = omega (arith, goal_long (goal.at.fill_action-requires c).Start, ok.fields.few_variables); leaves_in_bounds = omega (arith, ok.whole.few_all_states); filled = λ i l. bases.is i (omega arith); by_index = still_small c.args.task ok }
 
 pub returns : goal.returns
 returns c = goals_are c.args.task _ (search rules) c.fill_action.ensures.row

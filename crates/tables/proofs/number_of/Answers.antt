@@ -1,9 +1,10 @@
-use Rattle.std.proofs.Common.{◌≡◌, refl, ◌∙◌, ⊎_elim, ◌-◌, ◌≤◌, le_antisymm, arith, rules}
+use Rattle.std.proofs.Common.{◌≡◌, refl, ◌∙◌, ◌-◌, ◌≤◌, le_antisymm, arith, rules}
 use Rattle.loops.specs.Count.Laws.{told}
 use Rattle.task.specs.Factors.{number_to}
 use Rattle.digits.specs.Digits.{entries}
 use Rattle.tables.specs.Tables.Laws.{number_on, number_by, number_fits}
 use Rattle.tables.proofs.number_of.Goals as goal
+use Rattle.tables.proofs.number_of.Goals.{then-is_factor, else-is_factor}
 
 pub loop-v-init : goal.loop-v-init
 unfolding number_to
@@ -18,7 +19,7 @@ overflow_mul-number c =
     let a = c.args in
     let e = told c.is_factor.ensures c.if-is_factor.true in
     let fits =
-    number_fits (entries a.factors.now) (entries a.sizes.now) a.factor (entries a.values.now) l.v a.variables c.loop-v-test.true c.requires.1.0 c.requires.1.1 e l.invariant.1 in
+    number_fits (entries a.factors.now) (entries a.sizes.now) a.factor (entries a.values.now) l.v a.variables c.loop-v-test.true c.requires.by_index c.requires.variables_bound e l.invariant.1 in
     omega arith
 
 pub overflow_cast-number-then-is_factor : goal.overflow_cast-number-then-is_factor
@@ -30,17 +31,17 @@ overflow_add-number c =
     let a = c.args in
     let e = told c.is_factor.ensures c.if-is_factor.true in
     let fits =
-    number_fits (entries a.factors.now) (entries a.sizes.now) a.factor (entries a.values.now) l.v a.variables c.loop-v-test.true c.requires.1.0 c.requires.1.1 e l.invariant.1 in
+    number_fits (entries a.factors.now) (entries a.sizes.now) a.factor (entries a.values.now) l.v a.variables c.loop-v-test.true c.requires.by_index c.requires.variables_bound e l.invariant.1 in
     omega arith
 
 pub loop-v-preserved : goal.loop-v-preserved
 loop-v-preserved c =
     let l = c.loop-v in (
       omega arith,
-      ⊎_elim
-          (λ w. w.3 ∙ number_on _ _ _ _ l.v (told c.is_factor.ensures w.0.taken) l.invariant.1)
-          (λ w. w.1 ∙ l.invariant.1 ∙ number_by _ _ _ _ _ (told c.is_factor.ensures w.0.left))
-          c.if-is_factor.branch,
+      elim c.if-is_factor.branch [
+        | then-is_factor w ↦ w.number-is ∙ number_on _ _ _ _ l.v (told c.is_factor.ensures w.if-is_factor.true) l.invariant.1
+        | else-is_factor w ↦ w.number-is ∙ l.invariant.1 ∙ number_by _ _ _ _ _ (told c.is_factor.ensures w.if-is_factor.false)
+      ],
     )
 
 pub returns : goal.returns
