@@ -1,6 +1,5 @@
 -- `keys::goal_cost` meets its contract: the centre meets the goal, or it does not. Assumes nothing.
-use Rattle.std.proofs.Common.{◌∙◌, rules}
-use Rattle.loops.specs.Count.Laws.{told_true, told_false}
+use Rattle.std.proofs.Common.{sym, ◌∙◌}
 use Rattle.keys.specs.Scan.{goal_cost_by}
 use Rattle.keys.specs.Scan.Laws.{goal_met}
 use Rattle.keys.proofs.goal_cost.Goals as goal
@@ -9,10 +8,10 @@ pub returns-then-not-is_met : goal.returns-then-not-is_met
 unfolding goal_cost_by
 returns-then-not-is_met c =
     let a = c.args in
-    rw (told_false (c.is_met.ensures ∙ goal_met a.factors a.goal a.spot) c.if-not-is_met.true)
+    rw (sym (c.is_met.ensures ∙ goal_met a.factors a.goal a.spot) ∙ c.if-not-is_met.true)
 
 pub returns : goal.returns
 unfolding goal_cost_by
 returns c =
     let a = c.args in
-    rw (told_true (c.is_met.ensures ∙ goal_met a.factors a.goal a.spot) c.if-not-is_met.false) c.goal_sum.ensures
+    rw (sym (c.is_met.ensures ∙ goal_met a.factors a.goal a.spot) ∙ c.if-not-is_met.false) c.goal_sum.ensures

@@ -1,9 +1,7 @@
-use Rattle.std.proofs.Common.{◌≡◌, sym, ◌∙◌, List, ℕ, ◌+◌, ◌-◌, ◌≤◌, min, arith, length, rules}
+use Rattle.std.proofs.Common.{◌≡◌, sym, ◌∙◌, ◌+◌, arith, length}
 use Rattle.loops.specs.Count as count
-use Rattle.leaf.specs.Price.{mark}
 use Rattle.layer.specs.Board.Turns.{part_length}
-use Rattle.search.specs.Node.{least_of}
-use Rattle.keys.specs.Scan.{part_by, goals_by, goal_sum_by}
+use Rattle.keys.specs.Scan.{goal_sum_by}
 use Rattle.keys.specs.Scan.Laws.{Inside, cut_in, capped_more, capped_full}
 use Rattle.keys.proofs.goal_sum.Invariants.{sum_to}
 use Rattle.keys.proofs.goal_sum.Goals as goal

@@ -1,12 +1,10 @@
 -- `keys::goal_sum` meets its contract. The invariant: the centre cost and the least price of a goal state of each leaf so far, at most the
 -- mark. Assumes nothing.
-use Rattle.std.proofs.Common.{◌≡◌, sym, ◌∙◌, List, ℕ, ◌+◌, ◌-◌, ◌≤◌, min, arith, length, rules}
+use Rattle.std.proofs.Common.{◌≡◌, List, ℕ, ◌+◌, ◌-◌, ◌≤◌, min}
 use Rattle.loops.specs.Count as count
 use Rattle.leaf.specs.Price.{mark}
-use Rattle.layer.specs.Board.Turns.{part_length}
 use Rattle.search.specs.Node.{least_of}
-use Rattle.keys.specs.Scan.{part_by, goals_by, goal_sum_by}
-use Rattle.keys.specs.Scan.Laws.{Inside, cut_in, capped_more, capped_full}
+use Rattle.keys.specs.Scan.{part_by, goals_by}
 use Rattle.keys.proofs.goal_sum.Given as goal
 
 -- the sum over the first i leaves

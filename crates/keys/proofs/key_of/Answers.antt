@@ -1,8 +1,6 @@
-use Rattle.std.proofs.Common.{◌≡◌, ◌∙◌, ◌+◌, ◌-◌, ◌≤◌, min, arith, length, rules}
+use Rattle.std.proofs.Common.{◌≡◌, ◌∙◌, arith, length}
 use Rattle.loops.specs.Count.{sum}
-use Rattle.leaf.specs.Price.{mark}
-use Rattle.search.specs.Node.{least_of}
-use Rattle.keys.specs.Scan.{part_by, key_by}
+use Rattle.keys.specs.Scan.{key_by}
 use Rattle.keys.specs.Scan.Laws.{Inside, cut_in, capped_more}
 use Rattle.keys.proofs.key_of.Goals as goal
 use Rattle.keys.proofs.key_of.Goals.{In-loop-i}

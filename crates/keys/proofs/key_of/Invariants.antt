@@ -1,10 +1,9 @@
 -- `keys::key_of` meets its contract. The invariant: the centre cost and the least price of each leaf so far, at most the mark. Assumes nothing.
-use Rattle.std.proofs.Common.{◌≡◌, ◌∙◌, ◌+◌, ◌-◌, ◌≤◌, min, arith, length, rules}
+use Rattle.std.proofs.Common.{◌≡◌, ◌+◌, ◌-◌, ◌≤◌, min}
 use Rattle.loops.specs.Count.{sum}
 use Rattle.leaf.specs.Price.{mark}
 use Rattle.search.specs.Node.{least_of}
-use Rattle.keys.specs.Scan.{part_by, key_by}
-use Rattle.keys.specs.Scan.Laws.{Inside, cut_in, capped_more}
+use Rattle.keys.specs.Scan.{part_by}
 use Rattle.keys.proofs.key_of.Given as goal
 
 abbrev pub invariant-loop-i : goal.invariant-loop-i

@@ -1,6 +1,5 @@
-use Rattle.std.proofs.Common.{◌≡◌, refl, sym, ◌∙◌, ◌-◌, ◌≤◌, arith, length, take, rules}
+use Rattle.std.proofs.Common.{◌≡◌, refl, sym, ◌∙◌, arith, length}
 use lib.Seq.{take-length}
-use Rattle.search.specs.Node.{least_of}
 use Rattle.keys.specs.Scan.Laws.{least_more}
 use Rattle.keys.proofs.least.Goals as goal
 

@@ -1,8 +1,6 @@
 -- `keys::least` meets its contract. The invariant: `low` is the least of the prices so far. Assumes nothing.
-use Rattle.std.proofs.Common.{◌≡◌, refl, sym, ◌∙◌, ◌-◌, ◌≤◌, arith, length, take, rules}
-use lib.Seq.{take-length}
+use Rattle.std.proofs.Common.{◌≡◌, ◌-◌, ◌≤◌, length, take}
 use Rattle.search.specs.Node.{least_of}
-use Rattle.keys.specs.Scan.Laws.{least_more}
 use Rattle.keys.proofs.least.Given as goal
 
 abbrev pub invariant-loop-k : goal.invariant-loop-k

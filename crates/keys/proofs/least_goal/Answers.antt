@@ -1,10 +1,11 @@
-use Rattle.std.proofs.Common.{◌≡◌, refl, ◌∙◌, ⊎_elim, ◌-◌, ◌≤◌, arith, length, rules}
+use Rattle.std.proofs.Common.{◌≡◌, refl, ◌∙◌, arith, length}
 use Rattle.loops.specs.Count.{list}
 use Rattle.search.specs.Node.{least_of}
 use Rattle.search.specs.Node.Laws.{least_of_cap}
 use Rattle.keys.specs.Scan.{goals_by}
 use Rattle.keys.specs.Scan.Laws.{goal_by, least_list_more, goal_here, goal_not}
 use Rattle.keys.proofs.least_goal.Goals as goal
+use Rattle.keys.proofs.least_goal.Goals.{then-goals-k-ne0+then-prices-k, then-goals-k-ne0+else-prices-k, else-goals-k-ne0}
 
 pub loop-k-init : goal.loop-k-init
 unfolding least_of list
@@ -17,14 +18,13 @@ loop-k-preserved c =
     let f = goal_by a.goals.now a.prices.now in
     let more = least_list_more f l.k in
     let here = goal_here a.goals.now a.prices.now l.k (omega arith) in
-    ⊎_elim
-    (λ w. (refl, omega arith, omega (arith, more, here w.0.taken, l.invariant.2)))
-    (⊎_elim
-    (λ w. (refl, omega arith, omega (arith, more, here w.0.taken, l.invariant.2)))
-    (λ w.
-    let none = goal_not a.goals.now a.prices.now l.k w.0.left in
-    (refl, omega arith, omega (arith, more, none, l.invariant.2, least_of_cap (list l.k f)))))
-    c.if-goals-k-ne0.branch
+    elim c.if-goals-k-ne0.branch [
+      | then-goals-k-ne0+then-prices-k w ↦ (refl, omega arith, omega (arith, more, here w.if-goals-k-ne0.true, l.invariant.2))
+      | then-goals-k-ne0+else-prices-k w ↦ (refl, omega arith, omega (arith, more, here w.if-goals-k-ne0.true, l.invariant.2))
+      | else-goals-k-ne0 w ↦
+          let none = goal_not a.goals.now a.prices.now l.k w.if-goals-k-ne0.false in
+          (refl, omega arith, omega (arith, more, none, l.invariant.2, least_of_cap (list l.k f)))
+    ]
 
 pub returns : goal.returns
 unfolding goals_by

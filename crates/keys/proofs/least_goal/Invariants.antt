@@ -1,10 +1,8 @@
 -- `keys::least_goal` meets its contract. The invariant: `low` is the least price of the goal states so far. Assumes nothing.
-use Rattle.std.proofs.Common.{◌≡◌, refl, ◌∙◌, ⊎_elim, ◌-◌, ◌≤◌, arith, length, rules}
+use Rattle.std.proofs.Common.{◌≡◌, ◌-◌, ◌≤◌, length}
 use Rattle.loops.specs.Count.{list}
 use Rattle.search.specs.Node.{least_of}
-use Rattle.search.specs.Node.Laws.{least_of_cap}
-use Rattle.keys.specs.Scan.{goals_by}
-use Rattle.keys.specs.Scan.Laws.{goal_by, least_list_more, goal_here, goal_not}
+use Rattle.keys.specs.Scan.Laws.{goal_by}
 use Rattle.keys.proofs.least_goal.Given as goal
 
 abbrev pub invariant-loop-k : goal.invariant-loop-k

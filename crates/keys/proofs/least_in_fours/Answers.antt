@@ -1,4 +1,4 @@
-use Rattle.std.proofs.Common.{◌≡◌, refl, sym, ◌∙◌, ◌+◌, ◌-◌, ◌*◌, ◌≤◌, arith, length, take, rules}
+use Rattle.std.proofs.Common.{◌≡◌, refl, sym, ◌∙◌, ◌+◌, ◌*◌, ◌≤◌, arith, length}
 use Rattle.search.specs.Node.{least_of}
 use Rattle.keys.specs.Scan.Laws.{least_four_more}
 use Rattle.keys.proofs.least_in_fours.Goals as goal

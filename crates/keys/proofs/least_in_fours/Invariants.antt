@@ -1,7 +1,6 @@
 -- `keys::least_in_fours` meets its contract. The invariant: `low` is the least of the prices so far. Assumes nothing.
-use Rattle.std.proofs.Common.{◌≡◌, refl, sym, ◌∙◌, ◌+◌, ◌-◌, ◌*◌, ◌≤◌, arith, length, take, rules}
+use Rattle.std.proofs.Common.{◌≡◌, ◌-◌, ◌*◌, ◌≤◌, take}
 use Rattle.search.specs.Node.{least_of}
-use Rattle.keys.specs.Scan.Laws.{least_four_more}
 use Rattle.keys.proofs.least_in_fours.Given as goal
 
 abbrev pub invariant-loop-j : goal.invariant-loop-j

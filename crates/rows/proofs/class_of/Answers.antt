@@ -1,5 +1,4 @@
 -- `rows::class_of` meets its contract: the four packs make the class. Assumes nothing.
-use Rattle.std.proofs.Common.{rules}
 use Rattle.rows.specs.Sign.{mix_of, class_of}
 use Rattle.rows.proofs.class_of.Goals as goal
 

@@ -1,4 +1,4 @@
-use Rattle.std.proofs.Common.{◌≡◌, refl, ◌++◌, append-nil, ◌-◌, ◌≤◌, arith, drop, replicate, rules}
+use Rattle.std.proofs.Common.{◌≡◌, refl, append-nil, arith, replicate}
 use Rattle.loops.specs.Count.{list}
 use Rattle.loops.specs.Count.Laws.{list_more}
 use Rattle.rows.specs.Row.{byte_in, spot_of}

@@ -1,8 +1,7 @@
 -- `rows::read_spot` meets its contract. The invariant: the values so far are the bytes of the row's packs. Assumes nothing.
-use Rattle.std.proofs.Common.{◌≡◌, refl, ◌++◌, append-nil, ◌-◌, ◌≤◌, arith, drop, replicate, rules}
+use Rattle.std.proofs.Common.{◌≡◌, ◌++◌, ◌-◌, ◌≤◌, drop, replicate}
 use Rattle.loops.specs.Count.{list}
-use Rattle.loops.specs.Count.Laws.{list_more}
-use Rattle.rows.specs.Row.{byte_in, spot_of}
+use Rattle.rows.specs.Row.{byte_in}
 use Rattle.rows.proofs.read_spot.Given as goal
 
 abbrev pub invariant-loop-v : goal.invariant-loop-v

@@ -1,4 +1,4 @@
-use Rattle.std.proofs.Common.{◌≡◌, ◌+◌, ◌-◌, ◌*◌, ◌^◌, ◌≤◌, ◌<◌, arith, ltb, length, get_or, rules}
+use Rattle.std.proofs.Common.{◌≡◌, ◌+◌, ◌-◌, ◌*◌, ◌^◌, ◌<◌, arith, ltb, length, get_or}
 use mir.Val.{bool_byte}
 use Rattle.leaf.specs.Price.{mark}
 use Rattle.rows.specs.Sign.Few.{step_in, From, from_lt, from_none, from_down, from_all}

@@ -1,5 +1,5 @@
 -- `rows::sign_of` meets its contract: few prices, more of which 64 are looked at, and others. Assumes nothing.
-use Rattle.std.proofs.Common.{sym, ◌∙◌, rules}
+use Rattle.std.proofs.Common.{sym, ◌∙◌}
 use Rattle.rows.specs.Sign.Few.{sign_few, sign_even}
 use Rattle.rows.proofs.sign_of.Goals as goal
 

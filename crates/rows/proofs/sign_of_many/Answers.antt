@@ -1,10 +1,10 @@
-use Rattle.std.proofs.Common.{◌≡◌, refl, sym, ◌∙◌, ⊎_elim, ◌+◌, ◌*◌, ◌/◌, ◌-◌, ◌≤◌, ◌<◌, div-le_self, arith, length, rules}
+use Rattle.std.proofs.Common.{◌≡◌, refl, sym, ◌∙◌, ◌+◌, ◌*◌, ◌/◌, ◌≤◌, ◌<◌, div-le_self, arith, length}
 use Rattle.leaf.specs.Price.{mark}
 use Rattle.leaf.specs.Settle.Turns.{at_any}
-use Rattle.rows.specs.Sign.{stride_of, sign_to, sign_of}
+use Rattle.rows.specs.Sign.{sign_to, sign_of}
 use Rattle.rows.specs.Sign.Laws.{one_bit, stride_many, look_in, sign_here, sign_kept}
 use Rattle.rows.proofs.sign_of_many.Goals as goal
-use Rattle.rows.proofs.sign_of_many.Goals.{In-loop-k}
+use Rattle.rows.proofs.sign_of_many.Goals.{In-loop-k, then-prices-k-lt-MARK, else-prices-k-lt-MARK}
 
 -- the state that is looked at is one of all
 inside : (c : In-loop-k) → let n = length c.args.prices.now in
@@ -38,14 +38,14 @@ loop-k-preserved c =
     let step = length P / 64 in
     let here = at_any P (l.k * step) mark 0 (inside (goal.at.loop-k-preserved c).In-loop-k).0 in
     let more : l.k + 1 ≤ length P / step = omega (arith, c.loop-k-test.true) in
-    ⊎_elim
-    (λ w.
-    let more-sign = sign_here step P l.k (omega (arith, here, w.0.taken)) in
-    (l.invariant.0, refl, omega arith, w.1 ∙ cc (one_bit l.k, l.invariant.3, more-sign)))
-    (λ w.
-    let kept = sign_kept step P l.k (omega (arith, here, w.0.left)) in
-    (l.invariant.0, refl, omega arith, w.1 ∙ l.invariant.3 ∙ sym kept))
-    c.if-prices-k-lt-MARK.branch
+    elim c.if-prices-k-lt-MARK.branch [
+      | then-prices-k-lt-MARK w ↦
+          let more-sign = sign_here step P l.k (omega (arith, here, w.if-prices-k-lt-MARK.true)) in
+          (l.invariant.0, refl, omega arith, w.sign-is ∙ cc (one_bit l.k, l.invariant.3, more-sign))
+      | else-prices-k-lt-MARK w ↦
+          let kept = sign_kept step P l.k (omega (arith, here, w.if-prices-k-lt-MARK.false)) in
+          (l.invariant.0, refl, omega arith, w.sign-is ∙ l.invariant.3 ∙ sym kept)
+    ]
 
 pub returns : goal.returns
 unfolding sign_of

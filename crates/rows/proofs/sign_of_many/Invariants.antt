@@ -1,9 +1,6 @@
 -- `rows::sign_of_many` meets its contract. The invariant: `sign` is the signature of the states looked at so far. Assumes nothing.
-use Rattle.std.proofs.Common.{◌≡◌, refl, sym, ◌∙◌, ⊎_elim, ◌+◌, ◌*◌, ◌/◌, ◌-◌, ◌≤◌, ◌<◌, div-le_self, arith, length, rules}
-use Rattle.leaf.specs.Price.{mark}
-use Rattle.leaf.specs.Settle.Turns.{at_any}
-use Rattle.rows.specs.Sign.{stride_of, sign_to, sign_of}
-use Rattle.rows.specs.Sign.Laws.{one_bit, stride_many, look_in, sign_here, sign_kept}
+use Rattle.std.proofs.Common.{◌≡◌, ◌/◌, ◌-◌, ◌≤◌, length}
+use Rattle.rows.specs.Sign.{stride_of, sign_to}
 use Rattle.rows.proofs.sign_of_many.Given as goal
 
 abbrev pub invariant-loop-k : goal.invariant-loop-k

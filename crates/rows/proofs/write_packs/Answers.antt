@@ -1,5 +1,5 @@
 -- `rows::write_packs` meets its contract: four words are stored. Assumes nothing.
-use Rattle.std.proofs.Common.{arith, length-set, rules}
+use Rattle.std.proofs.Common.{arith, length-set}
 use Rattle.rows.specs.Four.{four_to}
 use Rattle.rows.proofs.write_packs.Goals as goal
 

@@ -40,7 +40,7 @@ shape_of-row c =
     let a = c.args in
     let L = with_numbers c.write_packs.new.row a.paid a.parent a.action a.sign in
     let called = c.copy_words in
-    same_len_mid 40 (length L - 40) L called.new.1.0 called.auto.1.0 ∙ simp length-set (long ∙ sym c.requires.0)
+    same_len_mid 40 (length L - 40) L called.new.into called.auto.into ∙ simp length-set (long ∙ sym c.requires.0)
 
 pub returns : goal.returns
 returns c =

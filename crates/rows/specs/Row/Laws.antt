@@ -16,7 +16,7 @@ use Rattle.leaf.specs.Price.{mark}
 use Rattle.leaf.specs.Settle.Turns.{at_any}
 use Rattle.search.specs.Node.{Node, dominates}
 use Rattle.rows.specs.Four.{four_to, four_length, four_first, four_second, four_third, four_fourth, four_before}
-use Rattle.rows.specs.Row.{byte_in, spot_of, node_of, rowIn, node_in, nodes_in, node_with, pack_of, Packed, NotAbove, Above, Tested}
+use Rattle.rows.specs.Row.{byte_in, spot_of, node_of, row_in, node_in, nodes_in, node_with, pack_of, Packed, NotAbove, Above, Tested}
 use Rattle.rows.specs.Row.Packs.{pack_byte}
 
 -- ---- one row
@@ -219,37 +219,37 @@ pub row_in_lem : (S n u : ℕ) (T : List ℕ) → u < n → n * (40 + S) ≤ len
 row_in_lem S n u T h l = omega (arith, suc-mul u (40 + S), mul-le-mul_right (40 + S) h)
 
 -- a row that is lent as a part of the table
-pub row_lent : (S u : ℕ) (T : List ℕ) → take (u * (40 + S) + (40 + S) - u * (40 + S)) (drop (u * (40 + S)) T) ≡ rowIn S T u
+pub row_lent : (S u : ℕ) (T : List ℕ) → take (u * (40 + S) + (40 + S) - u * (40 + S)) (drop (u * (40 + S)) T) ≡ row_in S T u
 row_lent S u T = let e : u * (40 + S) + (40 + S) - u * (40 + S) ≡ 40 + S = omega arith in rw e
 
 -- a word of a row, as one of the table
-pub row_word : (S u : ℕ) (T : List ℕ) (k : ℕ) → k < 40 + S → get_or (rowIn S T u) k 0 ≡ get_or T (u * (40 + S) + k) 0
+pub row_word : (S u : ℕ) (T : List ℕ) (k : ℕ) → k < 40 + S → get_or (row_in S T u) k 0 ≡ get_or T (u * (40 + S) + k) 0
 row_word S u T k h = get_or-take (40 + S) (drop (u * (40 + S)) T) k 0 h ∙ get_or-drop (u * (40 + S)) T k 0
 
 -- a row has 40 + S words
-pub row_length : (S u : ℕ) (T : List ℕ) → u * (40 + S) + (40 + S) ≤ length T → length (rowIn S T u) ≡ 40 + S
+pub row_length : (S u : ℕ) (T : List ℕ) → u * (40 + S) + (40 + S) ≤ length T → length (row_in S T u) ≡ 40 + S
 row_length S u T h = length-take-le (40 + S) (drop (u * (40 + S)) T) (rw length-drop (omega arith))
 
 -- a node of a table has S prices
 pub prices_length : (S u : ℕ) (T : List ℕ) → u * (40 + S) + (40 + S) ≤ length T → length (node_in S T u).prices ≡ S
 unfolding node_of
-prices_length S u T h = length-take-le S (drop 40 (rowIn S T u)) (simp length-drop (omega (arith, row_length S u T h)))
+prices_length S u T h = length-take-le S (drop 40 (row_in S T u)) (simp length-drop (omega (arith, row_length S u T h)))
 
 -- what stands behind a row does not count
-row_front : (S u : ℕ) (T X : List ℕ) → u * (40 + S) + (40 + S) ≤ length T → rowIn S (T ++ X) u ≡ rowIn S T u
+row_front : (S u : ℕ) (T X : List ℕ) → u * (40 + S) + (40 + S) ≤ length T → row_in S (T ++ X) u ≡ row_in S T u
 row_front S u T X h =
     ap (take (40 + S)) (drop-append-le (u * (40 + S)) T X (omega arith))
     ∙ take-append-le (40 + S) (drop (u * (40 + S)) T) X (rw length-drop (omega arith))
 
 -- what is written behind the first v rows leaves them as they were
-pub row_kept : (S u v : ℕ) (T X : List ℕ) → u < v → v * (40 + S) ≤ length T → rowIn S (take (v * (40 + S)) T ++ X) u ≡ rowIn S T u
+pub row_kept : (S u v : ℕ) (T X : List ℕ) → u < v → v * (40 + S) ≤ length T → row_in S (take (v * (40 + S)) T ++ X) u ≡ row_in S T u
 row_kept S u v T X h l =
     let a = v * (40 + S) in
     let fits = row_in_lem S v u (take a T) h (omega (arith, length-take-le a T l)) in
     row_front S u (take a T) X fits ∙ sym (row_front S u (take a T) (drop a T) fits) ∙ rw take-append-drop
 
 -- the row that is written behind them
-pub row_written : (S v : ℕ) (T R X : List ℕ) → v * (40 + S) ≤ length T → length R ≡ 40 + S → rowIn S (take (v * (40 + S)) T ++ (R ++ X)) v ≡ R
+pub row_written : (S v : ℕ) (T R X : List ℕ) → v * (40 + S) ≤ length T → length R ≡ 40 + S → row_in S (take (v * (40 + S)) T ++ (R ++ X)) v ≡ R
 row_written S v T R X l e =
     let a = v * (40 + S) in
     ap (take (40 + S)) (drop_at (take a T) (R ++ X) a (length-take-le a T l)) ∙ take_at R X (40 + S) e
