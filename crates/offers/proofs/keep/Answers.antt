@@ -20,31 +20,31 @@ cost s = let a = s.args in goal_cost_by a.leaves a.bases.now a.goals.now a.facto
 
 pub slice_bounds-sign_behind-end : goal.slice_bounds-sign_behind-end
 slice_bounds-sign_behind-end c =
-    sym (length-take-le (S (goal.at.slice_bounds-sign_behind-end c).Start) c.args.prices.now c.requires.0.0.fits)
+    sym (length-take-le (S (goal.at.slice_bounds-sign_behind-end c).Start) c.args.prices.now c.requires.cut.0.fits)
 
 pub link-requires : goal.link-requires
 link-requires c =
-    (c.requires.1.0.3, c.requires.1.0.1, omega (arith, c.requires.1.1.1, class_lt c.args.spot))
+    (c.requires.leaves_bound.3, c.requires.leaves_bound.1, omega (arith, c.requires.sign_value.1, class_lt c.args.spot))
 
 pub overflow_add-result : goal.overflow_add-result
-overflow_add-result c = omega (arith, c.requires.1.0.1)
+overflow_add-result c = omega (arith, c.requires.leaves_bound.1)
 
 pub overflow_add-result-then-cost-run : goal.overflow_add-result-then-cost-run
-overflow_add-result-then-cost-run c = omega (arith, c.requires.1.0.1)
+overflow_add-result-then-cost-run c = omega (arith, c.requires.leaves_bound.1)
 
 pub returns-then-cost-run : goal.returns-then-cost-run
 returns-then-cost-run c =
     kept_best (S (goal.at.returns-then-cost-run c).Start) c.args.table.now c.args.scan.now c.args.run (node (goal.at.returns-then-cost-run c).Start) c.args.key (cost (goal.at.returns-then-cost-run c).Start) c.write_row.new.row _
-    (omega arith) (omega arith) c.write_row.ensures.0 c.write_row.ensures.1 c.requires.1.0.1 c.link.new.scan c.sign_behind-own.result c.args.class
-    c.write_row.ensures.2 c.sign_behind-own.ensures c.requires.1.1.1 c.link.ensures
+    (omega arith) (omega arith) c.write_row.ensures.0 c.write_row.ensures.1 c.requires.leaves_bound.1 c.link.new.scan c.sign_behind-own.result c.args.class
+    c.write_row.ensures.2 c.sign_behind-own.ensures c.requires.sign_value.1 c.link.ensures
     c.goal_cost-cost.result c.goal_cost-cost.ensures c.if-cost-run.true
 
 pub overflow_add-result-2 : goal.overflow_add-result-2
-overflow_add-result-2 c = omega (arith, c.requires.1.0.1)
+overflow_add-result-2 c = omega (arith, c.requires.leaves_bound.1)
 
 pub returns : goal.returns
 returns c =
     kept_other (S (goal.at.returns c).Start) c.args.table.now c.args.scan.now c.args.run (node (goal.at.returns c).Start) c.args.key (cost (goal.at.returns c).Start) c.write_row.new.row _
-    (omega arith) (omega arith) c.write_row.ensures.0 c.write_row.ensures.1 c.requires.1.0.1 c.link.new.scan c.sign_behind-own.result c.args.class
-    c.write_row.ensures.2 c.sign_behind-own.ensures c.requires.1.1.1 c.link.ensures
+    (omega arith) (omega arith) c.write_row.ensures.0 c.write_row.ensures.1 c.requires.leaves_bound.1 c.link.new.scan c.sign_behind-own.result c.args.class
+    c.write_row.ensures.2 c.sign_behind-own.ensures c.requires.sign_value.1 c.link.ensures
     c.goal_cost-cost.result c.goal_cost-cost.ensures c.if-cost-run.false

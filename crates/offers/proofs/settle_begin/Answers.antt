@@ -14,14 +14,14 @@ board s =
 
 pub slot_for-slot-requires : goal.slot_for-slot-requires
 slot_for-slot-requires c =
-    (c.requires.0.few_actions, c.requires.0.conditions_long, firsts_asks (board (goal.at.slot_for-slot-requires c).Start) _ c.requires.1.0, c.requires.1.3, known_asks (board (goal.at.slot_for-slot-requires c).Start) _ c.requires.1.2)
+    (c.requires.sound.few_actions, c.requires.sound.conditions_long, firsts_asks (board (goal.at.slot_for-slot-requires c).Start) _ c.requires.firsts.0, c.requires.firsts.3, known_asks (board (goal.at.slot_for-slot-requires c).Start) _ c.requires.firsts.2)
 
 pub settle_edges-requires : goal.settle_edges-requires
 settle_edges-requires c =
     let r = c.slot_for-slot in
     let told = asks_told (board (goal.at.settle_edges-requires c).Start) c.args.spot _ r.ensures.2 in
-    let room : r.result + 576 ≤ length r.new.1.1.1.1.1.1.0 = omega (arith, r.ensures.0, r.ensures.1.long) in
-    (c.requires.0, told_mets (board (goal.at.settle_edges-requires c).Start) c.args.spot _ r.result c.requires.0.few_actions room told, c.requires.1.1, c.requires.1.4)
+    let room : r.result + 576 ≤ length r.new.known = omega (arith, r.ensures.0, r.ensures.1.long) in
+    (c.requires.sound, told_mets (board (goal.at.settle_edges-requires c).Start) c.args.spot _ r.result c.requires.sound.few_actions room told, c.requires.firsts.1, c.requires.firsts.4)
 
 pub returns : goal.returns
 returns c =
