@@ -26,14 +26,14 @@ loop-k-preserved c =
     let edge : ℕ → ℕ = λ b. edge_at a.moves.now a.row a.at a.costs.now a.index.now a.prices.now b a.x in
     let is = c.edge_to.ensures in
     elim c.if-edge_to-ne0.branch [
-      then-edge_to-ne0 w ↦ (
+      | then-edge_to-ne0 w ↦ (
         refl,
         omega (arith, c.loop-k-test.true),
         ap length w.tight-is ∙ simp length-set l.invariant.2,
         rw (w.tight-is, w.end-is) (picked_here edge a.acts.now a.from a.tight.now l.k l.end l.tight l.invariant.3 (omega (arith, is, w.if-edge_to-ne0.true))
             (omega (arith, l.invariant.0, l.invariant.2, l.invariant.3.few, c.loop-k-test.true, c.requires.2))),
       )
-    | else-edge_to-ne0 w ↦ (
+      | else-edge_to-ne0 w ↦ (
         refl,
         omega (arith, c.loop-k-test.true),
         ap length w.tight-is ∙ l.invariant.2,
