@@ -6,15 +6,13 @@ use Rattle.wayback.proofs.depths_of.Goals as goal
 
 pub settle_along-requires : goal.settle_along-requires
 settle_along-requires c =
-    let long : length c.first_depths.new.depths ≡ length c.args.prices.now = c.first_depths.auto.depths ∙ c.requires.0.1 in
+    let long : length c.first_depths.new.depths ≡ length c.args.prices.now = c.first_depths.auto.depths ∙ c.requires.begins_len.1 in
     let rest : let a = c.args in take (length a.moves.now - a.at) (drop a.at a.moves.now) ≡ drop a.at a.moves.now = let a = c.args in ap (λ (k : ℕ). take k (drop a.at a.moves.now)) (sym (length-drop a.at a.moves.now)) ∙ take-length (drop a.at a.moves.now) in
-    (omega (arith, long, c.requires.0.2), rw (long, rest) c.requires.1.0, rw (long, rest) c.requires.1.1)
+    (omega (arith, long, c.requires.begins_len.2), rw (long, rest) c.requires.ways.0, rw (long, rest) c.requires.ways.1)
 
 pub returns : goal.returns
 unfolding depths_by
 returns c m to meant =
-    let long : length meant.first_depths.new.depths ≡ length meant.args.prices.now = meant.first_depths.auto.depths ∙ meant.requires.0.1 in
-    let rest : let a = meant.args in take (length a.moves.now - a.at) (drop a.at a.moves.now) ≡ drop a.at a.moves.now = let a = meant.args in ap (λ (k : ℕ). take k (drop a.at a.moves.now)) (sym (length-drop a.at a.moves.now)) ∙ take-length (drop a.at a.moves.now) in
-    let f = c.before.before.before.before.before.before.before.before in
-    let s = start f in
-    c.before.before.settle-along.ensures m (λ j. 1) to (rw (long f, rest s) meant) ∙ rw f.first-depths.ensures refl
+    let long : length c.first_depths.new.depths ≡ length c.args.prices.now = c.first_depths.auto.depths ∙ c.requires.begins_len.1 in
+    let rest : let a = c.args in take (length a.moves.now - a.at) (drop a.at a.moves.now) ≡ drop a.at a.moves.now = let a = c.args in ap (λ (k : ℕ). take k (drop a.at a.moves.now)) (sym (length-drop a.at a.moves.now)) ∙ take-length (drop a.at a.moves.now) in
+    c.settle_along.ensures m (λ j. 1) to (rw (long, rest) meant) ∙ rw c.first_depths.ensures refl

@@ -27,7 +27,7 @@ bounds-stops-x c =
 pub offset_bounds-stops-x-in-loop-x : goal.offset_bounds-stops-x-in-loop-x
 offset_bounds-stops-x-in-loop-x c =
     let here : let a = c.args in let x = c.loop-x.x in (x + 1 < length a.stops.now) × (get_or a.stops.now x 0 ≤ get_or a.stops.now (x + 1) 0) × (get_or a.stops.now (x + 1) 0 ≤ length a.tight.now) × Leading a.moves.now a.row a.at a.index.now (edges_at a.tight.now a.stops.now x) x (length a.depths.now) = let l = c.loop-x in let h : l.x < length c.args.depths.now = omega (arith, l.invariant.0, c.loop-x-test.true) in let r = c.requires.2 l.x h in (omega (arith, c.requires.1), r.0, r.1, r.2) in
-    omega (arith, here.0, c.good)
+    omega (arith, here.0, c.well_formed)
 
 pub bounds-stops-x-in-loop-x : goal.bounds-stops-x-in-loop-x
 bounds-stops-x-in-loop-x c =

@@ -48,25 +48,25 @@ pub overflow_mul-a : goal.overflow_mul-a
 overflow_mul-a c =
     let act : ℕ = get_or c.args.acts.now c.loop-k.k 0 in
     let can : let a = c.args in (act < length a.index.now) × (0 < get_or a.index.now act 0) × (act * a.row + (a.at + a.x) < length a.moves.now) × (get_or a.moves.now (act * a.row + (a.at + a.x)) 0 ≤ length a.depths.now) = c.requires.3 c.loop-k.k (omega (arith, c.loop-k-test.true, c.loop-k.invariant.0)) in
-    omega (arith, can.2, c.good)
+    omega (arith, can.2, c.well_formed)
 
 pub overflow_add-at : goal.overflow_add-at
 overflow_add-at c =
     let act : ℕ = get_or c.args.acts.now c.loop-k.k 0 in
     let can : let a = c.args in (act < length a.index.now) × (0 < get_or a.index.now act 0) × (act * a.row + (a.at + a.x) < length a.moves.now) × (get_or a.moves.now (act * a.row + (a.at + a.x)) 0 ≤ length a.depths.now) = c.requires.3 c.loop-k.k (omega (arith, c.loop-k-test.true, c.loop-k.invariant.0)) in
-    omega (arith, can.2, c.good)
+    omega (arith, can.2, c.well_formed)
 
 pub overflow_add-a : goal.overflow_add-a
 overflow_add-a c =
     let act : ℕ = get_or c.args.acts.now c.loop-k.k 0 in
     let can : let a = c.args in (act < length a.index.now) × (0 < get_or a.index.now act 0) × (act * a.row + (a.at + a.x) < length a.moves.now) × (get_or a.moves.now (act * a.row + (a.at + a.x)) 0 ≤ length a.depths.now) = c.requires.3 c.loop-k.k (omega (arith, c.loop-k-test.true, c.loop-k.invariant.0)) in
-    omega (arith, can.2, c.good)
+    omega (arith, can.2, c.well_formed)
 
 pub offset_bounds-moves-a : goal.offset_bounds-moves-a
 offset_bounds-moves-a c =
     let act : ℕ = get_or c.args.acts.now c.loop-k.k 0 in
     let can : let a = c.args in (act < length a.index.now) × (0 < get_or a.index.now act 0) × (act * a.row + (a.at + a.x) < length a.moves.now) × (get_or a.moves.now (act * a.row + (a.at + a.x)) 0 ≤ length a.depths.now) = c.requires.3 c.loop-k.k (omega (arith, c.loop-k-test.true, c.loop-k.invariant.0)) in
-    omega (arith, can.2, c.good)
+    omega (arith, can.2, c.well_formed)
 
 pub bounds-moves-a : goal.bounds-moves-a
 bounds-moves-a c =

@@ -45,10 +45,8 @@ walk-requires c =
 
 pub returns : goal.returns
 returns c w =
-    let Lent : Type 0 = let a = w.args in Backed a.moves.now a.row a.at a.acts.now a.index.now a.tight.now a.stops.now a.begins.now a.prices.now a.state in
-    let depths : List ℕ = w.depths_of.new.depths in
-    let made : (w : Lent) → depths ≡ depths_by w.woven.edges w.woven.count w.args.begins.now w.args.prices.now = λ w. w.depths_of.ensures w.woven.count w.woven.edges (woven_meant _ _ _ _ _ _ _ _ w.woven) in
-    let guide : Lent → Guided w.args.acts.now depths w.sources_of-sources.result = λ w. backed_guided _ _ _ _ _ _ _ _ _ _ w _ (made w) _ w.sources_of-sources.ensures.1 in
-    let o = c.before.before.before.before.before.before in
-    let d = o.before.before.before.before in
-    rw (backed_way _ _ _ _ _ _ _ _ _ _ w _ (made d w)) at (c.before.before.walk.ensures (guide o w))
+    let Lent : Type 0 = let a = c.args in Backed a.moves.now a.row a.at a.acts.now a.index.now a.tight.now a.stops.now a.begins.now a.prices.now a.state in
+    let depths : List ℕ = c.depths_of.new.depths in
+    let made : (w : Lent) → depths ≡ depths_by w.woven.edges w.woven.count c.args.begins.now c.args.prices.now = λ w. c.depths_of.ensures w.woven.count w.woven.edges (woven_meant _ _ _ _ _ _ _ _ w.woven) in
+    let guide : Lent → Guided c.args.acts.now depths c.sources_of-sources.result = λ w. backed_guided _ _ _ _ _ _ _ _ _ _ w _ (made w) _ c.sources_of-sources.ensures.1 in
+    rw (backed_way _ _ _ _ _ _ _ _ _ _ w _ (made w)) at (c.walk.ensures (guide w))

@@ -26,17 +26,17 @@ bounds-ends-at c =
 pub overflow_add-to : goal.overflow_add-to
 overflow_add-to c =
     let here : let a = c.args in let E = a.ends.now in let s = a.at + c.loop-x.x in (s + 1 < length E) × (get_or E s 0 ≤ get_or E (s + 1) 0) × (get_or E (s + 1) 0 ≤ length a.edges.now) × (get_or E (s + 1) 0 ≤ get_or E a.at 0 + length a.tight.now) = let l = c.loop-x in let w = c.requires.4 in let h : l.x < length c.args.prices.now = omega (arith, l.invariant.0, c.loop-x-test.true) in let next : c.args.at + (l.x + 1) ≡ c.args.at + l.x + 1 = omega arith in let up = rw next at (w.ends_up (l.x + 1) (omega arith)) in (omega (arith, w.ends_long), w.ends_rise l.x h, omega (arith, w.ends_in), omega (arith, w.ends_room)) in
-    omega (arith, here, c.good)
+    omega (arith, here, c.well_formed)
 
 pub overflow_add-to-in-loop-x : goal.overflow_add-to-in-loop-x
 overflow_add-to-in-loop-x c =
     let here : let a = c.args in let E = a.ends.now in let s = a.at + c.loop-x.x in (s + 1 < length E) × (get_or E s 0 ≤ get_or E (s + 1) 0) × (get_or E (s + 1) 0 ≤ length a.edges.now) × (get_or E (s + 1) 0 ≤ get_or E a.at 0 + length a.tight.now) = let l = c.loop-x in let w = c.requires.4 in let h : l.x < length c.args.prices.now = omega (arith, l.invariant.0, c.loop-x-test.true) in let next : c.args.at + (l.x + 1) ≡ c.args.at + l.x + 1 = omega arith in let up = rw next at (w.ends_up (l.x + 1) (omega arith)) in (omega (arith, w.ends_long), w.ends_rise l.x h, omega (arith, w.ends_in), omega (arith, w.ends_room)) in
-    omega (arith, here, c.good)
+    omega (arith, here, c.well_formed)
 
 pub offset_bounds-ends-at-in-loop-x : goal.offset_bounds-ends-at-in-loop-x
 offset_bounds-ends-at-in-loop-x c =
     let here : let a = c.args in let E = a.ends.now in let s = a.at + c.loop-x.x in (s + 1 < length E) × (get_or E s 0 ≤ get_or E (s + 1) 0) × (get_or E (s + 1) 0 ≤ length a.edges.now) × (get_or E (s + 1) 0 ≤ get_or E a.at 0 + length a.tight.now) = let l = c.loop-x in let w = c.requires.4 in let h : l.x < length c.args.prices.now = omega (arith, l.invariant.0, c.loop-x-test.true) in let next : c.args.at + (l.x + 1) ≡ c.args.at + l.x + 1 = omega arith in let up = rw next at (w.ends_up (l.x + 1) (omega arith)) in (omega (arith, w.ends_long), w.ends_rise l.x h, omega (arith, w.ends_in), omega (arith, w.ends_room)) in
-    omega (arith, here, c.good)
+    omega (arith, here, c.well_formed)
 
 pub bounds-ends-at-in-loop-x : goal.bounds-ends-at-in-loop-x
 bounds-ends-at-in-loop-x c =

@@ -1,7 +1,8 @@
-use Rattle.std.proofs.Common.{◌≡◌, refl, sym, ap, ◌∙◌, ⊎_elim, ℕ, ◌-◌, ◌≤◌, arith, length, length-set, rules}
+use Rattle.std.proofs.Common.{◌≡◌, refl, sym, ap, ◌∙◌, ℕ, ◌-◌, ◌≤◌, arith, length, length-set, rules}
 use Rattle.wayback.specs.Woven.{edge_at, Picked}
 use Rattle.wayback.specs.Woven.Laws.{picked_none, picked_not, picked_here}
 use Rattle.wayback.proofs.tight_state.Goals as goal
+use Rattle.wayback.proofs.tight_state.Goals.{then-edge_to-ne0, else-edge_to-ne0}
 
 pub loop-k-init : goal.loop-k-init
 loop-k-init c = (refl, omega arith, refl, picked_none _ _ _ _)
@@ -24,21 +25,21 @@ loop-k-preserved c =
     let a = c.args in
     let edge : ℕ → ℕ = λ b. edge_at a.moves.now a.row a.at a.costs.now a.index.now a.prices.now b a.x in
     let is = c.edge_to.ensures in
-    ⊎_elim
-    (λ w. (
-      refl,
-      omega (arith, c.loop-k-test.true),
-      ap length w.1 ∙ simp length-set l.invariant.2,
-      rw (w.1, w.2) (picked_here edge a.acts.now a.from a.tight.now l.k l.end l.tight l.invariant.3 (omega (arith, is, w.0.taken))
-          (omega (arith, l.invariant.0, l.invariant.2, l.invariant.3.few, c.loop-k-test.true, c.requires.2))),
-    ))
-    (λ w. (
-      refl,
-      omega (arith, c.loop-k-test.true),
-      ap length w.1 ∙ l.invariant.2,
-      rw (w.1, w.2) (picked_not edge a.acts.now a.from a.tight.now l.k l.end l.tight l.invariant.3 (sym is ∙ w.0.left)),
-    ))
-    c.if-edge_to-ne0.branch
+    elim c.if-edge_to-ne0.branch [
+      | then-edge_to-ne0 w ↦ (
+        refl,
+        omega (arith, c.loop-k-test.true),
+        ap length w.tight-is ∙ simp length-set l.invariant.2,
+        rw (w.tight-is, w.end-is) (picked_here edge a.acts.now a.from a.tight.now l.k l.end l.tight l.invariant.3 (omega (arith, is, w.if-edge_to-ne0.true))
+            (omega (arith, l.invariant.0, l.invariant.2, l.invariant.3.few, c.loop-k-test.true, c.requires.2))),
+      )
+      | else-edge_to-ne0 w ↦ (
+        refl,
+        omega (arith, c.loop-k-test.true),
+        ap length w.tight-is ∙ l.invariant.2,
+        rw (w.tight-is, w.end-is) (picked_not edge a.acts.now a.from a.tight.now l.k l.end l.tight l.invariant.3 (sym is ∙ w.if-edge_to-ne0.false)),
+      )
+    ]
 
 pub shape_of-tight : goal.shape_of-tight
 shape_of-tight c = c.loop-k.invariant.2

@@ -71,5 +71,5 @@ shape_of-plan c = c.loop-k.invariant.4
 
 pub returns : goal.returns
 returns c g =
-    let l = c.before.loop in
-    left_end _ _ _ _ _ _ _ _ _ l.k l.y l.p l.plan (omega (arith, c.loop-test.false)) (l.invariant.5 g)
+    let l = c.loop-k in
+    left_end _ _ _ _ _ _ _ _ _ l.k l.y l.p l.plan (omega (arith, c.loop-k-test.false)) (l.invariant.5 g)
