@@ -1,4 +1,4 @@
-use Rattle.std.proofs.Common.{◌≡◌, refl, ◌∙◌, ◌++◌, append-nil, ◌-◌, ◌≤◌, arith, length, drop, replicate, length-set, rules}
+use Rattle.std.proofs.Common.{◌≡◌, refl, ◌∙◌, append-nil, arith, length, length-set}
 use lib.Seq.{drop-length}
 use borrow.Author.Fill.{fill_more}
 use Rattle.leaf.specs.Price.{mark}

@@ -1,7 +1,5 @@
 -- `leaf::fill` meets its contract. The invariant: the prices so far are the mark, and those behind are as they were. Assumes nothing.
-use Rattle.std.proofs.Common.{◌≡◌, refl, ◌∙◌, ◌++◌, append-nil, ◌-◌, ◌≤◌, arith, length, drop, replicate, length-set, rules}
-use lib.Seq.{drop-length}
-use borrow.Author.Fill.{fill_more}
+use Rattle.std.proofs.Common.{◌≡◌, ◌++◌, ◌-◌, ◌≤◌, length, drop, replicate}
 use Rattle.leaf.specs.Price.{mark}
 use Rattle.leaf.proofs.fill.Given as goal
 

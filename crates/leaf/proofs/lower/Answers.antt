@@ -1,5 +1,5 @@
 -- `leaf::lower` meets its contract. Each return is a case of the definition: no state, a price that is lower, a price that is not. Assumes nothing.
-use Rattle.std.proofs.Common.{sym, arith, rules}
+use Rattle.std.proofs.Common.{sym, arith}
 use Rattle.leaf.specs.Settle.Turns.{lower_none, lower_here, lower_kept}
 use Rattle.leaf.proofs.lower.Goals as goal
 

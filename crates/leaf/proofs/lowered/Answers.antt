@@ -1,5 +1,5 @@
 -- `leaf::lowered` meets its contract. Each return is a case of the definition: no state, a price that is not lower, a price that is. Assumes nothing.
-use Rattle.std.proofs.Common.{sym, arith, rules, leb-false}
+use Rattle.std.proofs.Common.{sym, arith, leb-false}
 use Rattle.leaf.specs.Price.{mark}
 use Rattle.leaf.specs.Settle.Turns.{lower_none, lower_here, lower_kept}
 use Rattle.leaf.specs.Settle.Sweeps.{fell_none, fell_one}

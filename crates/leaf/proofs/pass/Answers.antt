@@ -1,4 +1,4 @@
-use Rattle.std.proofs.Common.{◌≡◌, refl, sym, ap, ◌∙◌, ◌+◌, ◌-◌, ◌≤◌, le_antisymm, arith, length, get_or, rules}
+use Rattle.std.proofs.Common.{◌≡◌, refl, sym, ap, ◌∙◌, ◌+◌, le_antisymm, arith, length}
 use lib.ListN.{length-replicate}
 use Rattle.leaf.specs.Price.{mark}
 use Rattle.leaf.specs.Pass.{pass}

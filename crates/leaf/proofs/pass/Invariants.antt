@@ -1,9 +1,7 @@
 -- `leaf::pass` meets its contract. The invariant: the states so far have passed; before the first all are unreachable, as they were lent. Assumes nothing.
-use Rattle.std.proofs.Common.{◌≡◌, refl, sym, ap, ◌∙◌, ◌+◌, ◌-◌, ◌≤◌, le_antisymm, arith, length, get_or, rules}
-use lib.ListN.{length-replicate}
+use Rattle.std.proofs.Common.{◌≡◌, ◌+◌, ◌-◌, ◌≤◌, length, get_or}
 use Rattle.leaf.specs.Price.{mark}
 use Rattle.leaf.specs.Pass.{pass}
-use Rattle.leaf.specs.Pass.Turns.{pass_more}
 use Rattle.leaf.proofs.pass.Given as goal
 
 abbrev pub invariant-loop-x : goal.invariant-loop-x

@@ -1,4 +1,4 @@
-use Rattle.std.proofs.Common.{◌≡◌, refl, sym, ◌∙◌, Bool, false, not, ◌&&◌, List, ℕ, ◌+◌, ◌-◌, ◌≤◌, le_antisymm, arith, ltb, eqb, length, get_or, rules}
+use Rattle.std.proofs.Common.{◌≡◌, refl, sym, ◌∙◌, le_antisymm, arith}
 use Rattle.loops.specs.Count.{any}
 use Rattle.loops.specs.Count.Laws.{any_in, any_more}
 use Rattle.leaf.specs.Price.{mark}

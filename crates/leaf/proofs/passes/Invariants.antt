@@ -1,9 +1,7 @@
 -- `leaf::passes` meets its contract. The invariant: no state so far passes. Assumes nothing.
-use Rattle.std.proofs.Common.{◌≡◌, refl, sym, ◌∙◌, Bool, false, not, ◌&&◌, List, ℕ, ◌+◌, ◌-◌, ◌≤◌, le_antisymm, arith, ltb, eqb, length, get_or, rules}
+use Rattle.std.proofs.Common.{◌≡◌, Bool, false, not, ◌&&◌, List, ℕ, ◌+◌, ◌-◌, ◌≤◌, ltb, eqb, length, get_or}
 use Rattle.loops.specs.Count.{any}
-use Rattle.loops.specs.Count.Laws.{any_in, any_more}
 use Rattle.leaf.specs.Price.{mark}
-use Rattle.leaf.specs.Settle.Turns.{at_any}
 use Rattle.leaf.proofs.passes.Given as goal
 
 -- state x passes

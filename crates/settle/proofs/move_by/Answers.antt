@@ -1,5 +1,5 @@
 -- `settle::move_by` meets its contract. An entry of a list fits a wider number. Assumes nothing.
-use Rattle.std.proofs.Common.{◌+◌, ◌*◌, arith, get_or, rules}
+use Rattle.std.proofs.Common.{◌+◌, ◌*◌, arith, get_or}
 use Rattle.settle.proofs.move_by.Goals as goal
 
 pub overflow_cast-a : goal.overflow_cast-a

@@ -1,9 +1,9 @@
-use Rattle.std.proofs.Common.{◌≡◌, refl, ◌∙◌, ℕ, ◌+◌, ◌-◌, ◌≤◌, min, le_antisymm, arith, length, get_or, rules}
+use Rattle.std.proofs.Common.{◌≡◌, refl, ◌∙◌, ◌+◌, min, le_antisymm, arith, get_or}
 use Rattle.leaf.specs.Price.{mark}
 use Rattle.leaf.specs.Settle.{relax}
 use Rattle.leaf.specs.Settle.Turns.{at_any, relax_more}
-use Rattle.leaf.specs.Settle.Sweeps.{Fell, fell_none, fell_join}
-use Rattle.leaf.specs.Lent.{cost_by, move_by}
+use Rattle.leaf.specs.Settle.Sweeps.{fell_none, fell_join}
+use Rattle.leaf.specs.Lent.{cost_by}
 use Rattle.settle.proofs.relax_from.Goals as goal
 
 pub loop-j-init : goal.loop-j-init

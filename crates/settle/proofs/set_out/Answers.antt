@@ -1,5 +1,5 @@
 -- `settle::set_out` meets its contract. The state is not reached, or its actions lower prices. Assumes nothing.
-use Rattle.std.proofs.Common.{◌≡◌, refl, ◌∙◌, arith, length-set, rules}
+use Rattle.std.proofs.Common.{◌≡◌, refl, ◌∙◌, arith, length-set}
 use Rattle.leaf.specs.Price.{mark}
 use Rattle.leaf.specs.Settle.Turns.{at_any}
 use Rattle.leaf.specs.Settle.Sweeps.{visit_far, visit_near}

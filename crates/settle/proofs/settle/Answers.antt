@@ -1,10 +1,9 @@
-use Rattle.std.proofs.Common.{◌≡◌, refl, sym, ◌∙◌, List, ℕ, arith, length, rules}
-use borrow.Author.Tests.{not-true}
+use Rattle.std.proofs.Common.{refl, sym, ◌∙◌, arith, length, rules}
 use Rattle.leaf.specs.Price.{mark}
 use Rattle.leaf.specs.Settle.Turns.{at_most, settled_none}
 use Rattle.leaf.specs.Settle.Walks.{Ranged, Capped}
-use Rattle.leaf.specs.Settle.Sweeps.{total, Sweeping, sweeping_start, sweeping_end}
-use Rattle.leaf.specs.Lent.{cost_by, move_by}
+use Rattle.leaf.specs.Settle.Sweeps.{sweeping_start, sweeping_end}
+use Rattle.leaf.specs.Lent.{move_by}
 use Rattle.settle.proofs.settle.Goals as goal
 
 pub returns-then-count-eq0 : goal.returns-then-count-eq0

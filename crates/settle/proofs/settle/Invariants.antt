@@ -1,11 +1,8 @@
 -- `settle::settle` meets its contract. After the first sweep no price is above its start price, each is what a walk costs, and no action leads from a
 -- clean state to one at less than its price; the invariant: that stays so. The sum of the prices falls with each turn. Assumes nothing.
-use Rattle.std.proofs.Common.{◌≡◌, refl, sym, ◌∙◌, List, ℕ, arith, length, rules}
-use borrow.Author.Tests.{not-true}
+use Rattle.std.proofs.Common.{◌≡◌, List, ℕ, length}
 use Rattle.leaf.specs.Price.{mark}
-use Rattle.leaf.specs.Settle.Turns.{at_most, settled_none}
-use Rattle.leaf.specs.Settle.Walks.{Ranged, Capped}
-use Rattle.leaf.specs.Settle.Sweeps.{total, Sweeping, sweeping_start, sweeping_end}
+use Rattle.leaf.specs.Settle.Sweeps.{total, Sweeping}
 use Rattle.leaf.specs.Lent.{cost_by, move_by}
 use Rattle.settle.proofs.settle.Given as goal
 

@@ -1,7 +1,7 @@
 -- `settle::sweep` meets its contract. The invariant: the states below x were visited. Assumes nothing.
-use Rattle.std.proofs.Common.{◌≡◌, refl, ◌∙◌, ◌+◌, ◌-◌, ◌≤◌, le_antisymm, arith, length, rules}
+use Rattle.std.proofs.Common.{◌≡◌, ◌-◌, ◌≤◌, length}
 use Rattle.leaf.specs.Price.{mark}
-use Rattle.leaf.specs.Settle.Sweeps.{Swept, swept_none, swept_join}
+use Rattle.leaf.specs.Settle.Sweeps.{Swept}
 use Rattle.leaf.specs.Lent.{cost_by, move_by}
 use Rattle.settle.proofs.sweep.Given as goal
 
