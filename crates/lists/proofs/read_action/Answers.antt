@@ -39,7 +39,7 @@ unfolding action_of
 returns-in-At c =
     let a = c.args in
     let entry : Actions =
-        record { handling = a.handling.now; distance = a.distance.now; conditions = a.conditions.now; effects = a.effects.now } in
+    record { handling = a.handling.now; distance = a.distance.now; conditions = a.conditions.now; effects = a.effects.now } in
     let put = put_action a.i entry c.in-Are.h c.in-Are.d c.read_list-p.new.pairs in
     record {
       told = simp (c.in-Are.ensures, c.in-At.ensures.told, c.read_effects.ensures.told) (told_then put c.read_effects.new.pairs c.read_effects.result);

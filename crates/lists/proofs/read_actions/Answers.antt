@@ -33,8 +33,7 @@ loop-i-preserved c =
     let a = c.args in
     let so_far : Actions = record { handling = l.handling; distance = l.distance; conditions = l.conditions; effects = l.effects } in
     let f = action_of (next_field a.rec.now) a.sizes.now a.n in
-    let e = c.read_action-p.ensures.elsewhere in
-    (
+    let e = c.read_action-p.ensures.elsewhere in (
       omega arith,
       omega (arith, c.in-At.ensures.near),
       elsewhere_then l.invariant.2 (elsewhere_wider (omega arith) (omega arith) e.0),

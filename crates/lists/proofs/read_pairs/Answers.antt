@@ -17,7 +17,7 @@ returns-in-Refused c =
     let a = c.args in
     let f = pair_turn (next_field a.rec.now) a.sizes.now a.n a.base in
     let e =
-        sym l.invariant.3 ∙ turns_stop f a.count l.i (record { low = l.low; into = l.pairs }) l.k {r = c.in-Refused.why} (omega arith) (simp c.in-Refused.ensures) in
+    sym l.invariant.3 ∙ turns_stop f a.count l.i (record { low = l.low; into = l.pairs }) l.k {r = c.in-Refused.why} (omega arith) (simp c.in-Refused.ensures) in
     record { told = simp e; near = omega arith; elsewhere = l.invariant.2 }
 
 pub overflow_add-pairs : goal.overflow_add-pairs
@@ -32,14 +32,13 @@ overflow_add-low c = omega (arith, pair_place _ _ _ _ _ c.in-Is.ensures)
 pub loop-i-preserved : goal.loop-i-preserved
 loop-i-preserved c =
     let l = c.loop-i in
-    let a = c.args in
-    (
+    let a = c.args in (
       omega arith,
       omega (arith, pair_place _ _ _ _ _ c.in-Is.ensures),
       elsewhere_then l.invariant.2 (elsewhere_set _ _ _ (omega arith) (omega (arith, pair_place _ _ _ _ _ c.in-Is.ensures))),
       sym (turns_on (pair_turn (next_field a.rec.now) a.sizes.now a.n a.base) a.count l.i (record { low = l.low; into = l.pairs }) l.k
-      (omega arith) (simp c.in-Is.ensures))
-      ∙ l.invariant.3,
+          (omega arith) (simp c.in-Is.ensures))
+          ∙ l.invariant.3,
     )
 
 pub returns : goal.returns

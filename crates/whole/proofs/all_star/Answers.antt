@@ -1,9 +1,7 @@
-use Rattle.std.proofs.Common.{◌≡◌, refl, sym, Bool, true, List, ℕ, ◌+◌, ◌-◌, ◌*◌, ◌≤◌, le_antisymm, arith, get_or, rules}
+use Rattle.std.proofs.Common.{refl, sym, le_antisymm, arith}
 use Rattle.loops.specs.Count.{all}
 use Rattle.loops.specs.Count.Laws.{all_not, all_more, told}
-use Rattle.task.specs.Factors.{star_pairs}
 use Rattle.whole.specs.Whole.{all_star}
-use Rattle.whole.proofs.all_star.Invariants.{fitting}
 use Rattle.whole.proofs.all_star.Goals as goal
 
 pub loop-a-init : goal.loop-a-init

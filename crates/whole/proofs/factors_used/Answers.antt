@@ -1,5 +1,5 @@
-use Rattle.std.proofs.Common.{◌≡◌, refl, sym, true, ◌+◌, ◌-◌, ◌≤◌, le_antisymm, arith, eqb, get_or, rules}
-use Rattle.loops.specs.Count.{all, any}
+use Rattle.std.proofs.Common.{refl, sym, le_antisymm, arith}
+use Rattle.loops.specs.Count.{all}
 use Rattle.loops.specs.Count.Laws.{all_not, all_more, told}
 use Rattle.whole.specs.Whole.{factors_used}
 use Rattle.whole.proofs.factors_used.Goals as goal

@@ -1,5 +1,4 @@
 -- `whole::leaf_pairs` meets its contract: effects that leave the leaf decide, or else the conditions. Assumes nothing.
-use Rattle.std.proofs.Common.{rules}
 use Rattle.loops.specs.Count.Laws.{told}
 use Rattle.task.specs.Factors.{leaf_pairs}
 use Rattle.whole.proofs.leaf_pairs.Goals as goal

@@ -1,7 +1,7 @@
-use Rattle.std.proofs.Common.{◌≡◌, refl, sym, true, not, ◌||◌, ◌+◌, ◌-◌, ◌≤◌, le_antisymm, arith, eqb, get_or, rules}
+use Rattle.std.proofs.Common.{refl, sym, le_antisymm, arith}
 use Rattle.loops.specs.Count.{all}
 use Rattle.loops.specs.Count.Laws.{all_not, all_more, told}
-use Rattle.task.specs.Factors.{named, within}
+use Rattle.task.specs.Factors.{within}
 use Rattle.whole.proofs.names_within.Goals as goal
 
 pub loop-v-init : goal.loop-v-init

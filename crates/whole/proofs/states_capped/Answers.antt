@@ -1,4 +1,4 @@
-use Rattle.std.proofs.Common.{◌≡◌, refl, ◌∙◌, ◌-◌, ◌≤◌, min, le_antisymm, arith, get_or, rules}
+use Rattle.std.proofs.Common.{refl, ◌∙◌, le_antisymm, arith}
 use Rattle.loops.specs.Count.Laws.{told}
 use Rattle.task.specs.Factors.{states_to}
 use Rattle.whole.specs.Whole.Laws.{capped_in, capped_out}
@@ -11,11 +11,10 @@ loop-v-init c = (omega arith, refl)
 
 pub loop-v-preserved : goal.loop-v-preserved
 loop-v-preserved c =
-    let l = c.loop-v in
-    (
+    let l = c.loop-v in (
       omega arith,
       elim c.if-is_factor.branch [
-        then-is_factor w ↦ w.p-is ∙ w.times_capped-p.ensures
+        | then-is_factor w ↦ w.p-is ∙ w.times_capped-p.ensures
             ∙ rw l.invariant.1 (capped_in _ _ _ _ (told c.is_factor.ensures w.if-is_factor.true))
         | else-is_factor w ↦ w.p-is ∙ l.invariant.1 ∙ capped_out _ _ _ _ (told c.is_factor.ensures w.if-is_factor.false)
       ],

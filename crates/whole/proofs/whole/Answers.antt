@@ -1,5 +1,5 @@
 -- `whole::whole` meets its contract: at each return the tests so far and the one that fails decide the verdict. Assumes nothing.
-use Rattle.std.proofs.Common.{sym, rules}
+use Rattle.std.proofs.Common.{sym}
 use Rattle.loops.specs.Count.Laws.{told}
 use Rattle.whole.specs.Whole.Laws.{whole_empty, whole_many, whole_other, whole_passed}
 use Rattle.whole.proofs.whole.Goals as goal
