@@ -7,14 +7,19 @@ use Rattle.record.proofs.read_lists.Goals as goal
 
 pub returns-in_default : goal.returns-in_default
 unfolding lists_of
-returns-in_default c = let h = c.in_default in ?
+returns-in_default c =
+    record { told = simp (c.in_default.ensures.told, c.in_default.is); near = omega (arith, ap place_of c.in_default.is) }
 
 pub read_list-g-requires : goal.read_list-g-requires
 read_list-g-requires c = omega (arith, c.in-At.ensures.near, c.requires)
 
 pub returns-in_default-g : goal.returns-in_default-g
 unfolding lists_of
-returns-in_default-g c = let h = c.in_default-g in ?
+returns-in_default-g c =
+    record {
+      told = simp (c.in-At.ensures.told, c.in_default-g.ensures.told, c.in_default-g.is);
+      near = omega (arith, ap place_of c.in_default-g.is);
+    }
 
 pub read_actions-requires : goal.read_actions-requires
 read_actions-requires c = omega (arith, c.in-At.ensures.near, c.in-At-g.ensures.near, c.requires)
