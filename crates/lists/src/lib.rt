@@ -169,8 +169,8 @@ pub fn read_action(
     requires { (at < 2 ^ 28) × (n ≤ length sizes.now) × (n ≤ 32) × (i < 256) × (length handling.old ≡ 256)
         × (length distance.old ≡ 256) × (length conditions.old ≡ 8192) × (length effects.old ≡ 8192) }
     ensures told { action_of (next_field rec.now) sizes.now n i
-        (record { handling = handling.entry.now; distance = distance.old; conditions = conditions.old; effects = effects.old }) at
-        ≡ place_told (record { handling = handling.exit.now; distance = distance.new; conditions = conditions.new; effects = effects.new }) result }
+        (record { handling = handling.old; distance = distance.old; conditions = conditions.old; effects = effects.old }) at
+        ≡ place_told (record { handling = handling.new; distance = distance.new; conditions = conditions.new; effects = effects.new }) result }
     ensures near { place_of result ≤ at + 1168 }
     ensures elsewhere { Elsewhere i 1 handling.old handling.new × Elsewhere i 1 distance.old distance.new
         × Elsewhere (i * 32) n conditions.old conditions.new × Elsewhere (i * 32) n effects.old effects.new }
@@ -204,8 +204,8 @@ pub fn read_actions(
     requires { (at < 2 ^ 27) × (n ≤ length sizes.now) × (n ≤ 32) × (count ≤ 255) × (length handling.old ≡ 256)
         × (length distance.old ≡ 256) × (length conditions.old ≡ 8192) × (length effects.old ≡ 8192) }
     ensures told { actions_from (next_field rec.now) sizes.now n count 0
-        (record { handling = handling.entry.now; distance = distance.old; conditions = conditions.old; effects = effects.old }) at
-        ≡ place_told (record { handling = handling.exit.now; distance = distance.new; conditions = conditions.new; effects = effects.new }) result }
+        (record { handling = handling.old; distance = distance.old; conditions = conditions.old; effects = effects.old }) at
+        ≡ place_told (record { handling = handling.new; distance = distance.new; conditions = conditions.new; effects = effects.new }) result }
     ensures near { place_of result ≤ at + 1168 * count }
     ensures elsewhere { Elsewhere 0 count handling.old handling.new
         × Elsewhere 0 count distance.old distance.new

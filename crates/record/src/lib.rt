@@ -91,20 +91,20 @@ fn read_lists(
         × (length conditions.old ≡ 8192) × (length effects.old ≡ 8192) }
     ensures told { lists_of (next_field rec.now) variables leaves actions
         (record {
-          variables = record { sizes = sizes.entry.now; factors = factors.old; initial = initial.old };
+          variables = record { sizes = sizes.old; factors = factors.old; initial = initial.old };
           goal = goal.old;
           actions = record {
-            handling = handling.entry.now;
+            handling = handling.old;
             distance = distance.old;
             conditions = conditions.old;
             effects = effects.old;
           };
         }) at
         ≡ place_told (record {
-          variables = record { sizes = sizes.exit.now; factors = factors.new; initial = initial.new };
+          variables = record { sizes = sizes.new; factors = factors.new; initial = initial.new };
           goal = goal.new;
           actions = record {
-            handling = handling.exit.now;
+            handling = handling.new;
             distance = distance.new;
             conditions = conditions.new;
             effects = effects.new;

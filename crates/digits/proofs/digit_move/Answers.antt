@@ -1,6 +1,6 @@
 -- `digits::digit_move` meets its contract: each return computes, with the tests that led there, and the number is small. Assumes nothing.
-use Rattle.std.proofs.Common.{◌≡◌, ◌+◌, ◌-◌, ◌*◌, ◌<◌, arith, rules, eq-eqb, ne_eqb}
-use Rattle.loops.specs.Count.Laws.{told_true, told_false}
+use Rattle.std.proofs.Common.{◌≡◌, ◌+◌, ◌-◌, ◌*◌, ◌<◌, arith, eq-eqb, ne_eqb}
+use Rattle.loops.specs.Count.Laws.{told}
 use Rattle.digits.specs.Moves.{value_after, digit_move}
 use Rattle.digits.specs.Moves.Laws.{digit_fits}
 use Rattle.digits.proofs.digit_move.Goals as goal
@@ -16,7 +16,7 @@ returns-then-k-eq0 c = rw (eq-eqb c.args.k 0 c.if-k-eq0.true)
 
 pub returns-then-not-holds : goal.returns-then-not-holds
 unfolding digit_move
-returns-then-not-holds c = rw (ne_eqb c.args.k 0 c.if-k-eq0.false, told_false c.holds.ensures c.if-not-holds.true)
+returns-then-not-holds c = rw (ne_eqb c.args.k 0 c.if-k-eq0.false, told c.holds.ensures c.if-not-holds.true)
 
 pub overflow_mul-result : goal.overflow_mul-result
 overflow_mul-result c = omega (arith, fits (goal.at.overflow_mul-result c).Start c.if-k-eq0.false)
@@ -35,6 +35,6 @@ unfolding digit_move
 returns c =
     rw (
       ne_eqb c.args.k 0 c.if-k-eq0.false,
-      told_true c.holds.ensures c.if-not-holds.false,
+      told c.holds.ensures c.if-not-holds.false,
       c.value_after.ensures,
     )

@@ -1,9 +1,7 @@
 -- `digits::fill_action` meets its contract. The invariant: the leaves so far have what the action makes of their states, each behind the other,
 -- and all other entries of the list are as they were. Assumes nothing.
-use Rattle.std.proofs.Common.{◌≡◌, refl, ◌∙◌, suc, ◌+◌, ◌-◌, ◌≤◌, le_antisymm, not-suc-le-zero, add-one, arith, length, get_or, rules}
-use Rattle.task.specs.Factors.{states_to}
+use Rattle.std.proofs.Common.{◌≡◌, ◌+◌, ◌-◌, ◌≤◌, length}
 use Rattle.digits.specs.Digits.{entries, entries_from, Same, Row, start_of}
-use Rattle.digits.specs.Digits.Laws.{start_before, row_more, row_same}
 use Rattle.digits.proofs.fill_action.Given as goal
 
 abbrev pub invariant-loop-i : goal.invariant-loop-i

@@ -1,7 +1,7 @@
-use Rattle.std.proofs.Common.{◌≡◌, refl, ◌∙◌, ◌+◌, ◌-◌, ◌≤◌, ◌<◌, le_antisymm, arith, length, length-set, rules}
+use Rattle.std.proofs.Common.{refl, ◌∙◌, ◌+◌, ◌<◌, le_antisymm, arith, length, length-set}
 use Rattle.task.specs.Factors.{states_to}
 use Rattle.digits.specs.Moves.Laws.{some_states}
-use Rattle.digits.specs.Digits.{entries, entries_from, Same, Partly}
+use Rattle.digits.specs.Digits.{entries, entries_from}
 use Rattle.digits.specs.Digits.Laws.{same_set, partly_none}
 use Rattle.digits.proofs.fill_leaf.Goals as goal
 use Rattle.digits.proofs.fill_leaf.Goals.{Start}
@@ -11,8 +11,8 @@ first : (s : Start) →
     let a = s.args in
     (a.from < a.from + states_to (entries a.factors.now) (entries a.sizes.now) a.leaf a.variables) × (a.from < length a.moves.now)
 first s =
-    let one = some_states (entries s.args.factors.now) (entries s.args.sizes.now) (entries_from s.args.at s.args.conditions.now) _ s.args.leaf s.args.variables s.requires.1.1.1 in
-    (omega arith, omega (arith, s.requires.1.1.0))
+    let one = some_states (entries s.args.factors.now) (entries s.args.sizes.now) (entries_from s.args.at s.args.conditions.now) _ s.args.leaf s.args.variables s.requires.small in
+    (omega arith, omega (arith, s.requires.variables_in_bounds_3))
 
 pub offset_bounds-moves-from : goal.offset_bounds-moves-from
 offset_bounds-moves-from c = omega (arith, first (goal.at.offset_bounds-moves-from c).Start)
@@ -28,16 +28,16 @@ pub fill_variable-states-requires : goal.fill_variable-states-requires
 fill_variable-states-requires c =
     let l = c.loop-v in
     let long = simp length-set at l.invariant.1 in
-    record { variables_in_bounds = (c.requires.0.0, c.requires.0.1, c.loop-v-test.true); variables_in_bounds_2 = c.requires.1.0; variables_in_bounds_3 = omega (arith, c.requires.1.1.0); small = c.requires.1.1.1; partly = l.invariant.3 }
+    record { variables_in_bounds = (c.requires.variables_in_bounds.0, c.requires.variables_in_bounds.1, c.loop-v-test.true); variables_in_bounds_2 = c.requires.variables_in_bounds_2; variables_in_bounds_3 = omega (arith, c.requires.variables_in_bounds_3); small = c.requires.small; partly = l.invariant.3 }
 
 pub loop-v-preserved : goal.loop-v-preserved
 loop-v-preserved c =
     let l = c.loop-v in
     let did = c.fill_variable-states in (
       omega arith,
-      did.auto.1.1.1.1.1.1.1.1.1.1.0 ∙ l.invariant.1,
-      λ k o. did.ensures.1 k o ∙ l.invariant.2 k o,
-      did.ensures.0,
+      did.auto.moves ∙ l.invariant.1,
+      λ k o. did.ensures.same k o ∙ l.invariant.2 k o,
+      did.ensures.partly_2,
     )
 
 pub shape_of-moves : goal.shape_of-moves

@@ -1,10 +1,8 @@
 -- `digits::fill_leaf` meets its contract. The invariant: what the action makes of each state by the variables so far stands in the entries from `from` on,
 -- and all others of the list are as they were. Assumes nothing.
-use Rattle.std.proofs.Common.{◌≡◌, refl, ◌∙◌, ◌+◌, ◌-◌, ◌≤◌, ◌<◌, le_antisymm, arith, length, length-set, rules}
+use Rattle.std.proofs.Common.{◌≡◌, ◌+◌, ◌-◌, ◌≤◌, length}
 use Rattle.task.specs.Factors.{states_to}
-use Rattle.digits.specs.Moves.Laws.{some_states}
 use Rattle.digits.specs.Digits.{entries, entries_from, Same, Partly}
-use Rattle.digits.specs.Digits.Laws.{same_set, partly_none}
 use Rattle.digits.proofs.fill_leaf.Given as goal
 
 abbrev pub invariant-loop-v : goal.invariant-loop-v

@@ -1,8 +1,7 @@
 -- `digits::fill_rows` meets its contract. The invariant: the actions so far have their rows, the next row begins at `from`, and all other
 -- entries of the list are as they were. Assumes nothing.
-use Rattle.std.proofs.Common.{◌≡◌, refl, sym, ◌∙◌, ℕ, ◌-◌, ◌*◌, ◌≤◌, le_antisymm, not-suc-le-zero, zero-mul, arith, length, rules}
+use Rattle.std.proofs.Common.{◌≡◌, ◌-◌, ◌*◌, ◌≤◌, length}
 use Rattle.digits.specs.Digits.{entries, entries_from, Same, Rows, start_of}
-use Rattle.digits.specs.Digits.Laws.{row_inside, row_next, rows_more, rows_same}
 use Rattle.digits.proofs.fill_rows.Given as goal
 
 abbrev pub invariant-loop-a : goal.invariant-loop-a

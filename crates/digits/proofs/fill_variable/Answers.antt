@@ -1,6 +1,6 @@
 -- `digits::fill_variable` meets its contract: at a variable of the leaf each state has a digit more, and any other changes nothing. Assumes nothing.
-use Rattle.std.proofs.Common.{◌≡◌, refl, true, ℕ, ◌+◌, ◌*◌, ◌≤◌, ◌<◌, arith, eqb, get_or, rules}
-use Rattle.loops.specs.Count.Laws.{told_true, told_false}
+use Rattle.std.proofs.Common.{◌≡◌, refl, true, ℕ, ◌+◌, ◌*◌, ◌≤◌, ◌<◌, arith, eqb, get_or}
+use Rattle.loops.specs.Count.Laws.{told}
 use Rattle.task.specs.Factors.{states_to}
 use Rattle.digits.specs.Digits.{entries}
 use Rattle.digits.specs.Digits.Laws.{outside, partly_leaf, partly_other, partly_room}
@@ -13,29 +13,29 @@ room : (s : Start) →
     eqb (get_or a.factors.now a.v 0) a.leaf ≡ true
     → (a.states * get_or a.sizes.now a.v 0 ≤ states_to (entries a.factors.now) (entries a.sizes.now) a.leaf a.variables)
     × ((k : ℕ) → k < a.states → get_or a.moves.now (a.from + k) 0 ≤ a.states)
-room s e = partly_room _ _ _ _ _ _ s.args.variables s.args.v s.args.states _ s.requires.1.1.1.0 s.requires.0.2 e s.requires.1.1.1.1
+room s e = partly_room _ _ _ _ _ _ s.args.variables s.args.v s.args.states _ s.requires.small s.requires.variables_in_bounds.2 e s.requires.partly
 
 pub returns-then-not-is_factor : goal.returns-then-not-is_factor
 returns-then-not-is_factor c =
-    record { partly_2 = partly_other _ _ _ _ _ _ c.args.v _ _ (told_false c.is_factor.ensures c.if-not-is_factor.true) c.requires.1.1.1.1; same = λ k o. refl }
+    record { partly_2 = partly_other _ _ _ _ _ _ c.args.v _ _ (told c.is_factor.ensures c.if-not-is_factor.true) c.requires.partly; same = λ k o. refl }
 
 pub overflow_cast-size : goal.overflow_cast-size
 overflow_cast-size c = omega (arith, c.type_inv.sizes c.args.v)
 
 pub grow-requires : goal.grow-requires
 grow-requires c =
-    let own = room (goal.at.grow-requires c).Start (told_true c.is_factor.ensures c.if-not-is_factor.false) in
-    let small = c.requires.1.1.1.0 in
-    record { size_bound = (omega (arith, small.few), small.sized c.args.v c.requires.0.2, small.inside c.args.v c.requires.0.2, omega (arith, c.requires.1.1.0)); by_index = own.1 }
+    let own = room (goal.at.grow-requires c).Start (told c.is_factor.ensures c.if-not-is_factor.false) in
+    let small = c.requires.small in
+    record { size_bound = (omega (arith, small.few), small.sized c.args.v c.requires.variables_in_bounds.2, small.inside c.args.v c.requires.variables_in_bounds.2, omega (arith, c.requires.variables_in_bounds_3)); by_index = own.1 }
 
 pub overflow_mul-result : goal.overflow_mul-result
 overflow_mul-result c =
-    let own = room (goal.at.overflow_mul-result c).Start (told_true c.is_factor.ensures c.if-not-is_factor.false) in
-    omega (arith, c.requires.1.1.1.0.few)
+    let own = room (goal.at.overflow_mul-result c).Start (told c.is_factor.ensures c.if-not-is_factor.false) in
+    omega (arith, c.requires.small.few)
 
 pub returns : goal.returns
 returns c =
     let a = c.args in
-    let e = told_true c.is_factor.ensures c.if-not-is_factor.false in
+    let e = told c.is_factor.ensures c.if-not-is_factor.false in
     let own = room (goal.at.returns c).Start e in
-    let did = c.grow.ensures in record { partly_2 = partly_leaf _ _ _ _ _ _ a.v _ _ _ e (c.requires.1.1.1.0.sized a.v c.requires.0.2) c.requires.1.1.1.1 did.0; same = λ k o. did.1 k (outside (omega arith) (omega arith) o) }
+    let did = c.grow.ensures in record { partly_2 = partly_leaf _ _ _ _ _ _ a.v _ _ _ e (c.requires.small.sized a.v c.requires.variables_in_bounds.2) c.requires.partly did.spread; same = λ k o. did.same k (outside (omega arith) (omega arith) o) }

@@ -1,5 +1,4 @@
-use Rattle.std.proofs.Common.{◌≡◌, refl, ◌∙◌, ◌+◌, ◌-◌, ◌*◌, ◌≤◌, mul-le-mul_right, arith, length, get_or, rules}
-use Rattle.digits.specs.Digits.{Same, Growing}
+use Rattle.std.proofs.Common.{◌≡◌, refl, ◌∙◌, ◌+◌, ◌-◌, ◌*◌, ◌≤◌, mul-le-mul_right, arith, get_or}
 use Rattle.digits.specs.Digits.Laws.{digit_room, outside, growing_none, growing_more}
 use Rattle.digits.proofs.grow.Goals as goal
 use Rattle.digits.proofs.grow.Goals.{In-loop-x}
@@ -10,7 +9,7 @@ room : (c : In-loop-x) →
     let u = c.loop-x.x - 1 in
     (u ≤ u * s.size) × (u * s.size + s.size ≤ s.states * s.size) × (s.states ≤ s.states * s.size)
 room c =
-    digit_room (c.loop-x.x - 1) c.args.states c.args.size (omega arith) c.requires.0.1
+    digit_room (c.loop-x.x - 1) c.args.states c.args.size (omega arith) c.requires.size_bound.1
 
 pub loop-x-init : goal.loop-x-init
 loop-x-init c = (omega arith, refl, λ k o. refl, growing_none _ _ _ _ _ _)
@@ -34,8 +33,8 @@ pub spread-requires : goal.spread-requires
 spread-requires c =
     let l = c.loop-x in
     let u = l.x - 1 in
-    let few : get_or l.moves (c.args.from + u) 0 ≤ c.args.states = rw (l.invariant.3.waits u (omega arith)) (c.requires.1 u (omega arith)) in
-    (omega (arith, mul-le-mul_right c.args.size few), c.requires.0.2, omega (arith, room (goal.at.spread-requires c).In-loop-x))
+    let few : get_or l.moves (c.args.from + u) 0 ≤ c.args.states = rw (l.invariant.3.waits u (omega arith)) (c.requires.by_index u (omega arith)) in
+    (omega (arith, mul-le-mul_right c.args.size few), c.requires.size_bound.2, omega (arith, room (goal.at.spread-requires c).In-loop-x))
 
 pub loop-x-preserved : goal.loop-x-preserved
 loop-x-preserved c =
@@ -47,8 +46,8 @@ loop-x-preserved c =
     let own = room (goal.at.loop-x-preserved c).In-loop-x in (
       omega arith,
       c.spread.auto.moves ∙ l.invariant.1,
-      λ k o. did.1 k (outside (omega arith) (omega arith) o) ∙ l.invariant.2 k o,
-      growing_more a.from a.states a.size a.condition a.effect a.moves.now u l.x l.moves next (omega arith) c.requires.0.1 l.invariant.3 did.0 did.1,
+      λ k o. did.same k (outside (omega arith) (omega arith) o) ∙ l.invariant.2 k o,
+      growing_more a.from a.states a.size a.condition a.effect a.moves.now u l.x l.moves next (omega arith) c.requires.size_bound.1 l.invariant.3 did.placed did.same,
     )
 
 pub returns : goal.returns

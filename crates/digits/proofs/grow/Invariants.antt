@@ -1,7 +1,6 @@
 -- `digits::grow` meets its contract. The invariant: the states from x on have a digit more, and those below x wait in their places. Assumes nothing.
-use Rattle.std.proofs.Common.{◌≡◌, refl, ◌∙◌, ◌+◌, ◌-◌, ◌*◌, ◌≤◌, mul-le-mul_right, arith, length, get_or, rules}
+use Rattle.std.proofs.Common.{◌≡◌, ◌+◌, ◌*◌, ◌≤◌, length}
 use Rattle.digits.specs.Digits.{Same, Growing}
-use Rattle.digits.specs.Digits.Laws.{digit_room, outside, growing_none, growing_more}
 use Rattle.digits.proofs.grow.Given as goal
 
 abbrev pub invariant-loop-x : goal.invariant-loop-x

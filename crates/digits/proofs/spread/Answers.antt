@@ -1,6 +1,4 @@
-use Rattle.std.proofs.Common.{◌≡◌, ◌+◌, ◌-◌, ◌≤◌, le_antisymm, arith, length, length-set, rules}
-use Rattle.digits.specs.Moves.{digit_move}
-use Rattle.digits.specs.Digits.{Placed, Same}
+use Rattle.std.proofs.Common.{◌+◌, le_antisymm, arith, length-set}
 use Rattle.digits.specs.Digits.Laws.{placed_more, same_set}
 use Rattle.digits.proofs.spread.Goals as goal
 

@@ -1,9 +1,8 @@
 -- `digits::spread` meets its contract. The invariant: the first entries from `from` on are what the action makes of the state with each value so
 -- far, and all others of the list are as they were. Assumes nothing.
-use Rattle.std.proofs.Common.{◌≡◌, ◌+◌, ◌-◌, ◌≤◌, le_antisymm, arith, length, length-set, rules}
+use Rattle.std.proofs.Common.{◌≡◌, ◌+◌, ◌-◌, ◌≤◌, length}
 use Rattle.digits.specs.Moves.{digit_move}
 use Rattle.digits.specs.Digits.{Placed, Same}
-use Rattle.digits.specs.Digits.Laws.{placed_more, same_set}
 use Rattle.digits.proofs.spread.Given as goal
 
 abbrev pub invariant-loop-digit : goal.invariant-loop-digit

@@ -121,6 +121,7 @@ value_in z x d h k = go k _ refl
 
 -- the number with a digit more is small
 pub digit_fits : (k z q d : ℕ) → 1 ≤ k → k * z ≤ 256 → d < z → PairIn z q → (k - 1) * z + value_after q d < 256
+digit_fits zero z q d h few l i = absurd (omega arith)
 digit_fits (suc k) z q d h few l i = let e : suc k - 1 ≡ k = omega arith in rw e (omega (arith, suc-mul k z, value_in z q d l i))
 
 module _ (fac siz : ℕ → ℕ) (con eff : Partial) (l n : ℕ) (small : Small n fac siz eff l) where

@@ -1,16 +1,11 @@
 -- `lists::read_pairs` meets its contract. The loop's invariant: what is left to read, from here, gives what the whole list gives, and outside the list's
 -- entries the slice is as it was. Assumes nothing.
-use Rattle.std.proofs.Common.{ℕ, ◌+◌, ◌-◌, ◌*◌, ◌≤◌, ◌≡◌, sym, ap, ◌∙◌, List, rules, arith}
-use native.Mathlib.Nat.{sub-zero}
-use Rattle.loops.specs.Parsed.{turns, got}
-use Rattle.loops.specs.Parsed.Laws.{turns_end, turns_on, turns_stop}
+use Rattle.std.proofs.Common.{ℕ, ◌+◌, ◌-◌, ◌*◌, ◌≤◌, ◌≡◌, List}
+use Rattle.loops.specs.Parsed.{turns}
 use Rattle.fields.specs.Fields.{next_field}
 use Rattle.fields.specs.Answers.{Reading}
 use Rattle.parts.specs.Elsewhere.{Elsewhere}
-use Rattle.parts.specs.Elsewhere.Laws.{elsewhere_none, elsewhere_set, elsewhere_then}
-use Rattle.parts.specs.Grammar.{Pairs, pair_of, pair_turn, pairs_from}
-use Rattle.parts.specs.Places.{pair_place}
-use Rattle.lists.specs.Told.{pair_told}
+use Rattle.parts.specs.Grammar.{Pairs, pair_turn}
 use Rattle.lists.proofs.read_pairs.Given as goal
 
 -- n turns more, the next of them the i-th

@@ -17,7 +17,7 @@ returns-in-Refused c =
     let so_far : Variables = record { sizes = l.sizes; factors = l.factors; initial = l.initial' } in
     record {
       told = sym l.invariant.5
-          ∙ turns_stop (variable_turn (next_field a.rec.now) a.leaves) a.n l.i so_far l.k (omega arith) (simp c.in-Refused.ensures);
+          ∙ turns_stop (variable_turn (next_field a.rec.now) a.leaves) a.n l.i so_far l.k {r = c.in-Refused.why} (omega arith) (simp c.in-Refused.ensures);
       near = omega arith;
       elsewhere = (l.invariant.2, l.invariant.3, l.invariant.4);
     }

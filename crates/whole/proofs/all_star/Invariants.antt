@@ -1,9 +1,7 @@
 -- `whole::all_star` meets its contract. The invariant: each action so far is a centre action or a leaf action. Assumes nothing.
-use Rattle.std.proofs.Common.{◌≡◌, refl, sym, Bool, true, List, ℕ, ◌+◌, ◌-◌, ◌*◌, ◌≤◌, le_antisymm, arith, get_or, rules}
+use Rattle.std.proofs.Common.{◌≡◌, Bool, true, List, ℕ, ◌+◌, ◌-◌, ◌*◌, ◌≤◌, get_or}
 use Rattle.loops.specs.Count.{all}
-use Rattle.loops.specs.Count.Laws.{all_not, all_more, told_true, told_false}
 use Rattle.task.specs.Factors.{star_pairs}
-use Rattle.whole.specs.Whole.{all_star}
 use Rattle.whole.proofs.all_star.Given as goal
 
 -- action a is a centre action or a leaf action

@@ -1,5 +1,5 @@
 -- `whole::entry_within` meets its contract: at each return the tests on the way decide the equation. Assumes nothing.
-use Rattle.std.proofs.Common.{rules, eq-eqb, ne_eqb}
+use Rattle.std.proofs.Common.{eq-eqb, ne_eqb}
 use Rattle.whole.proofs.entry_within.Goals as goal
 
 pub returns-then-x-eq-FREE : goal.returns-then-x-eq-FREE

@@ -1,4 +1,4 @@
-use Rattle.std.proofs.Common.{◌≡◌, refl, sym, false, ◌-◌, ◌≤◌, le_antisymm, arith, eqb, get_or, rules}
+use Rattle.std.proofs.Common.{refl, sym, le_antisymm, arith}
 use Rattle.loops.specs.Count.{any}
 use Rattle.loops.specs.Count.Laws.{any_in, any_more, told}
 use Rattle.whole.proofs.factor_used.Goals as goal

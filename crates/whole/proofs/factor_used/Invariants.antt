@@ -1,7 +1,6 @@
 -- `whole::factor_used` meets its contract. The invariant: no variable so far belongs to the factor. Assumes nothing.
-use Rattle.std.proofs.Common.{◌≡◌, refl, sym, false, ◌-◌, ◌≤◌, le_antisymm, arith, eqb, get_or, rules}
+use Rattle.std.proofs.Common.{◌≡◌, false, ◌-◌, ◌≤◌, eqb, get_or}
 use Rattle.loops.specs.Count.{any}
-use Rattle.loops.specs.Count.Laws.{any_in, any_more, told}
 use Rattle.whole.proofs.factor_used.Given as goal
 
 abbrev pub invariant-loop-v : goal.invariant-loop-v

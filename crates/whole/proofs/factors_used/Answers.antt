@@ -1,6 +1,6 @@
-use Rattle.std.proofs.Common.{◌≡◌, refl, sym, true, ◌+◌, ◌-◌, ◌≤◌, le_antisymm, arith, eqb, get_or, rules}
-use Rattle.loops.specs.Count.{all, any}
-use Rattle.loops.specs.Count.Laws.{all_not, all_more, told_true, told_false}
+use Rattle.std.proofs.Common.{refl, sym, le_antisymm, arith}
+use Rattle.loops.specs.Count.{all}
+use Rattle.loops.specs.Count.Laws.{all_not, all_more, told}
 use Rattle.whole.specs.Whole.{factors_used}
 use Rattle.whole.proofs.factors_used.Goals as goal
 
@@ -12,12 +12,12 @@ pub returns-then-not-factor_used : goal.returns-then-not-factor_used
 unfolding factors_used
 returns-then-not-factor_used c =
     let l = c.loop-g in
-    sym (all_not _ _ l.g (omega arith) (told_false c.factor_used.ensures c.if-not-factor_used.true))
+    sym (all_not _ _ l.g (omega arith) (told c.factor_used.ensures c.if-not-factor_used.true))
 
 pub loop-g-preserved : goal.loop-g-preserved
 loop-g-preserved c =
     let l = c.loop-g in
-    (omega arith, refl, all_more _ _ l.invariant.2 (told_true c.factor_used.ensures c.if-not-factor_used.false))
+    (omega arith, refl, all_more _ _ l.invariant.2 (told c.factor_used.ensures c.if-not-factor_used.false))
 
 pub returns : goal.returns
 unfolding factors_used

@@ -1,8 +1,6 @@
 -- `whole::factors_used` meets its contract. The invariant: each factor so far has a variable. Assumes nothing.
-use Rattle.std.proofs.Common.{◌≡◌, refl, sym, true, ◌+◌, ◌-◌, ◌≤◌, le_antisymm, arith, eqb, get_or, rules}
+use Rattle.std.proofs.Common.{◌≡◌, true, ◌+◌, ◌-◌, ◌≤◌, eqb, get_or}
 use Rattle.loops.specs.Count.{all, any}
-use Rattle.loops.specs.Count.Laws.{all_not, all_more, told_true, told_false}
-use Rattle.whole.specs.Whole.{factors_used}
 use Rattle.whole.proofs.factors_used.Given as goal
 
 abbrev pub invariant-loop-g : goal.invariant-loop-g

@@ -1,9 +1,7 @@
-use Rattle.std.proofs.Common.{◌≡◌, refl, Bool, false, List, ℕ, suc, ◌+◌, ◌-◌, ◌≤◌, le_antisymm, arith, get_or, rules}
+use Rattle.std.proofs.Common.{refl, le_antisymm, arith}
 use Rattle.loops.specs.Count.Laws.{told}
 use Rattle.loops.specs.Count.{any}
-use Rattle.task.specs.Factors.{leaf_pairs}
 use Rattle.whole.specs.Whole.Laws.{star_centre, star_leaf, star_more, star_none}
-use Rattle.whole.proofs.is_star.Invariants.{fitting}
 use Rattle.whole.proofs.is_star.Goals as goal
 
 pub returns-then-touches_centre : goal.returns-then-touches_centre

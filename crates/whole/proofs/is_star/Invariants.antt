@@ -1,10 +1,8 @@
 -- `whole::is_star` meets its contract. The invariant: the pairs are a leaf action's of no leaf so far; they do not touch the centre.
 -- Assumes nothing.
-use Rattle.std.proofs.Common.{◌≡◌, refl, Bool, false, List, ℕ, suc, ◌+◌, ◌-◌, ◌≤◌, le_antisymm, arith, get_or, rules}
-use Rattle.loops.specs.Count.Laws.{told}
+use Rattle.std.proofs.Common.{◌≡◌, Bool, false, List, ℕ, suc, ◌+◌, ◌-◌, ◌≤◌, get_or}
 use Rattle.loops.specs.Count.{any}
 use Rattle.task.specs.Factors.{leaf_pairs}
-use Rattle.whole.specs.Whole.Laws.{star_centre, star_leaf, star_more, star_none}
 use Rattle.whole.proofs.is_star.Given as goal
 
 -- the entries from `base` on are those of a leaf action of leaf k + 1

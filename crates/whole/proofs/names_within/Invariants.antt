@@ -1,8 +1,7 @@
 -- `whole::names_within` meets its contract. The invariant: each entry so far names no variable, or one of the two factors. Assumes nothing.
-use Rattle.std.proofs.Common.{◌≡◌, refl, sym, true, not, ◌||◌, ◌+◌, ◌-◌, ◌≤◌, le_antisymm, arith, eqb, get_or, rules}
+use Rattle.std.proofs.Common.{◌≡◌, true, not, ◌||◌, ◌+◌, ◌-◌, ◌≤◌, eqb, get_or}
 use Rattle.loops.specs.Count.{all}
-use Rattle.loops.specs.Count.Laws.{all_not, all_more, told_true, told_false}
-use Rattle.task.specs.Factors.{named, within}
+use Rattle.task.specs.Factors.{named}
 use Rattle.whole.proofs.names_within.Given as goal
 
 abbrev pub invariant-loop-v : goal.invariant-loop-v

@@ -1,9 +1,7 @@
 -- `whole::states_capped` meets its contract. The invariant: the product is that of the leaf's sizes so far, capped at 257; a cap may be put on
 -- before a product as well as after it. Assumes nothing.
-use Rattle.std.proofs.Common.{◌≡◌, refl, ◌∙◌, ⊎_elim, ◌-◌, ◌≤◌, min, le_antisymm, arith, get_or, rules}
-use Rattle.loops.specs.Count.Laws.{told}
+use Rattle.std.proofs.Common.{◌≡◌, ◌-◌, ◌≤◌, min, get_or}
 use Rattle.task.specs.Factors.{states_to}
-use Rattle.whole.specs.Whole.Laws.{capped_in, capped_out}
 use Rattle.whole.proofs.states_capped.Given as goal
 
 abbrev pub invariant-loop-v : goal.invariant-loop-v

@@ -1,8 +1,6 @@
-use Rattle.std.proofs.Common.{◌≡◌, refl, sym, ap, ◌∙◌, true, List, ℕ, suc, ◌-◌, ◌*◌, ◌≤◌, le_antisymm, arith, leb, get_or, rules}
+use Rattle.std.proofs.Common.{refl, sym, ap, ◌∙◌, ℕ, le_antisymm, arith, leb}
 use Rattle.loops.specs.Count.{all, sum}
-use Rattle.task.specs.Factors.{states_to}
 use Rattle.whole.specs.Whole.Laws.{few_more, states_more, few_not, few_together}
-use Rattle.whole.proofs.states_few.Invariants.{count}
 use Rattle.whole.proofs.states_few.Goals as goal
 
 pub loop-i-init : goal.loop-i-init

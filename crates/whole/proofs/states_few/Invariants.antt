@@ -1,9 +1,8 @@
 -- `whole::states_few` meets its contract. The invariant: each leaf so far has at most 256 states, and the sum is that of their counts, which
 -- the cap leaves as they are. Assumes nothing.
-use Rattle.std.proofs.Common.{◌≡◌, refl, sym, ap, ◌∙◌, true, List, ℕ, suc, ◌-◌, ◌*◌, ◌≤◌, le_antisymm, arith, leb, get_or, rules}
+use Rattle.std.proofs.Common.{◌≡◌, true, List, ℕ, suc, ◌-◌, ◌*◌, ◌≤◌, leb, get_or}
 use Rattle.loops.specs.Count.{all, sum}
 use Rattle.task.specs.Factors.{states_to}
-use Rattle.whole.specs.Whole.Laws.{few_more, states_more, few_not, few_together}
 use Rattle.whole.proofs.states_few.Given as goal
 
 -- the states of leaf k + 1

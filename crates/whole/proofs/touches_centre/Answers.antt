@@ -1,7 +1,7 @@
-use Rattle.std.proofs.Common.{◌≡◌, refl, sym, false, ◌&&◌, ◌+◌, ◌-◌, ◌≤◌, le_antisymm, arith, eqb, get_or, rules}
+use Rattle.std.proofs.Common.{refl, sym, le_antisymm, arith}
 use Rattle.loops.specs.Count.{any}
 use Rattle.loops.specs.Count.Laws.{any_in, any_more, told}
-use Rattle.task.specs.Factors.{named, touches}
+use Rattle.task.specs.Factors.{touches}
 use Rattle.whole.proofs.touches_centre.Goals as goal
 
 pub loop-v-init : goal.loop-v-init

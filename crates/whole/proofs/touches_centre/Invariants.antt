@@ -1,8 +1,7 @@
 -- `whole::touches_centre` meets its contract. The invariant: no entry so far names a centre variable. Assumes nothing.
-use Rattle.std.proofs.Common.{◌≡◌, refl, sym, false, ◌&&◌, ◌+◌, ◌-◌, ◌≤◌, le_antisymm, arith, eqb, get_or, rules}
+use Rattle.std.proofs.Common.{◌≡◌, false, ◌&&◌, ◌+◌, ◌-◌, ◌≤◌, eqb, get_or}
 use Rattle.loops.specs.Count.{any}
-use Rattle.loops.specs.Count.Laws.{any_in, any_more, told}
-use Rattle.task.specs.Factors.{named, touches}
+use Rattle.task.specs.Factors.{named}
 use Rattle.whole.proofs.touches_centre.Given as goal
 
 abbrev pub invariant-loop-v : goal.invariant-loop-v
