@@ -1,6 +1,5 @@
 -- `paths::advance` meets its contract: the tables say whether the action applies, and what the next layer is. Assumes nothing.
 use Rattle.std.proofs.Common.{◌≡◌, sym, ◌∙◌, arith, length, rules}
-use borrow.Author.Tests.{not-true, not-false}
 use Rattle.leaf.specs.Price.{mark}
 use Rattle.leaf.specs.Settle.Turns.{take_replicate}
 use Rattle.layer.specs.Board.{Board}
@@ -17,7 +16,7 @@ board s =
 
 pub returns-then-not-applies : goal.returns-then-not-applies
 returns-then-not-applies c =
-    stepped_not (board (goal.at.returns-then-not-applies c).Start) c.args.effects.now c.args.spot c.args.action c.args.layer.now (sym c.applies.ensures ∙ not-true _ c.if-not-applies.true)
+    stepped_not (board (goal.at.returns-then-not-applies c).Start) c.args.effects.now c.args.spot c.args.action c.args.layer.now (sym c.applies.ensures ∙ c.if-not-applies.true)
 
 pub next_layer-requires : goal.next_layer-requires
 next_layer-requires c =
@@ -38,7 +37,7 @@ copy_words-requires c =
 pub returns : goal.returns
 returns c =
     stepped_on (board (goal.at.returns c).Start) c.args.effects.now c.args.spot c.args.action c.args.layer.now c.pairs_of.result _
-    (sym c.applies.ensures ∙ not-false _ c.if-not-applies.false)
+    (sym c.applies.ensures ∙ c.if-not-applies.false)
     c.after-behind.ensures
     c.pairs_of.ensures
     c.next_layer.ensures

@@ -22,20 +22,20 @@ pub first_layer-requires : goal.first_layer-requires
 first_layer-requires c =
     let board : Board = let a = c.args in board_of a.task.leaves a.task.actions a.bases.now a.moves.now a.costs.now a.kinds.now a.task.factors a.task.conditions in
     let lists : let t = c.args.task in (length t.factors ≡ 32) × (length t.conditions ≡ 8192) × (length t.effects ≡ 8192) = (search rules, search rules, search rules) in
-    let long : length c.args.layer.now ≡ 1024 = ap length c.requires.1.1.1 ∙ length-replicate 1024 mark in
-    let fit : Fits c.args.task board × Sound board = let a = c.args in let h = c.requires.1.0 in tables_fit a.task c.requires.0 a.bases.now a.moves.now a.costs.now a.kinds.now h.is_bases h.is_moves h.is_costs h.is_kinds h.long_moves lists.0 lists.1 in
+    let long : length c.args.layer.now ≡ 1024 = ap length c.requires.layer_value ∙ length-replicate 1024 mark in
+    let fit : Fits c.args.task board × Sound board = let a = c.args in let h = c.requires.tabled in tables_fit a.task c.requires.valid a.bases.now a.moves.now a.costs.now a.kinds.now h.is_bases h.is_moves h.is_costs h.is_kinds h.long_moves lists.0 lists.1 in
     let t = c.args.task in
     let w = fit in (
       w.1,
       omega (arith, w.1.few_all, long),
-      omega (arith, c.requires.0.fields.few_leaves, c.requires.1.0.is_starts.long),
-      start_in t c.requires.0 board w.0 c.args.starts.now c.requires.1.0.is_starts,
-      rw c.requires.1.1.1 (take_replicate _ 1024 mark w.1.few_all),
+      omega (arith, c.requires.valid.fields.few_leaves, c.requires.tabled.is_starts.long),
+      start_in t c.requires.valid board w.0 c.args.starts.now c.requires.tabled.is_starts,
+      rw c.requires.layer_value (take_replicate _ 1024 mark w.1.few_all),
     )
 
 pub loop-k-init : goal.loop-k-init
 loop-k-init c =
-    let long : length c.args.layer.now ≡ 1024 = ap length c.requires.1.1.1 ∙ length-replicate 1024 mark in
+    let long : length c.args.layer.now ≡ 1024 = ap length c.requires.layer_value ∙ length-replicate 1024 mark in
     let kept : length c.first_layer.new.new ≡ length c.args.layer.now = c.first_layer.auto.new in
     (omega arith, refl, kept ∙ long, λ t f q. refl)
 
@@ -56,12 +56,12 @@ pub advance-turn-requires : goal.advance-turn-requires
 advance-turn-requires c =
     let board : Board = let a = c.args in board_of a.task.leaves a.task.actions a.bases.now a.moves.now a.costs.now a.kinds.now a.task.factors a.task.conditions in
     let lists : let t = c.args.task in (length t.factors ≡ 32) × (length t.conditions ≡ 8192) × (length t.effects ≡ 8192) = (search rules, search rules, search rules) in
-    let fit : Fits c.args.task board × Sound board = let a = c.args in let h = c.requires.1.0 in tables_fit a.task c.requires.0 a.bases.now a.moves.now a.costs.now a.kinds.now h.is_bases h.is_moves h.is_costs h.is_kinds h.long_moves lists.0 lists.1 in
-    (fit.1, c.requires.1.1.0 c.loop-k.k (omega arith), lists.2, c.loop-k.invariant.2)
+    let fit : Fits c.args.task board × Sound board = let a = c.args in let h = c.requires.tabled in tables_fit a.task c.requires.valid a.bases.now a.moves.now a.costs.now a.kinds.now h.is_bases h.is_moves h.is_costs h.is_kinds h.long_moves lists.0 lists.1 in
+    (fit.1, c.requires.by_index c.loop-k.k (omega arith), lists.2, c.loop-k.invariant.2)
 
 pub shape_of-layer-then-not-turn : goal.shape_of-layer-then-not-turn
 shape_of-layer-then-not-turn c =
-    let long : length c.args.layer.now ≡ 1024 = ap length c.requires.1.1.1 ∙ length-replicate 1024 mark in
+    let long : length c.args.layer.now ≡ 1024 = ap length c.requires.layer_value ∙ length-replicate 1024 mark in
     let kept : length c.advance-turn.new.layer ≡ length c.loop-k.layer = c.advance-turn.auto.layer in
     kept ∙ c.loop-k.invariant.2 ∙ sym long
 
@@ -69,14 +69,14 @@ pub returns-then-not-turn : goal.returns-then-not-turn
 returns-then-not-turn c =
     let board : Board = let a = c.args in board_of a.task.leaves a.task.actions a.bases.now a.moves.now a.costs.now a.kinds.now a.task.factors a.task.conditions in
     let lists : let t = c.args.task in (length t.factors ≡ 32) × (length t.conditions ≡ 8192) × (length t.effects ≡ 8192) = (search rules, search rules, search rules) in
-    let fit : Fits c.args.task board × Sound board = let a = c.args in let h = c.requires.1.0 in tables_fit a.task c.requires.0 a.bases.now a.moves.now a.costs.now a.kinds.now h.is_bases h.is_moves h.is_costs h.is_kinds h.long_moves lists.0 lists.1 in
-    let begins : let t = c.args.task in front t c.after-spot.result c.first_layer.new.new ≡ first_layer t = let t = c.args.task in walk_first t board fit.0 c.args.starts.now c.after-spot.result (drop (get_or c.args.bases.now t.leaves 0) c.args.layer.now) c.first_layer.new.new c.requires.1.0.is_starts.is (c.after-spot.ensures ∙ ap (centre_after (factor t) (initial t)) c.blank.ensures ∙ initial_centre t c.requires.0) c.first_layer.ensures in
+    let fit : Fits c.args.task board × Sound board = let a = c.args in let h = c.requires.tabled in tables_fit a.task c.requires.valid a.bases.now a.moves.now a.costs.now a.kinds.now h.is_bases h.is_moves h.is_costs h.is_kinds h.long_moves lists.0 lists.1 in
+    let begins : let t = c.args.task in front t c.after-spot.result c.first_layer.new.new ≡ first_layer t = let t = c.args.task in walk_first t board fit.0 c.args.starts.now c.after-spot.result (drop (get_or c.args.bases.now t.leaves 0) c.args.layer.now) c.first_layer.new.new c.requires.tabled.is_starts.is (c.after-spot.ensures ∙ ap (centre_after (factor t) (initial t)) c.blank.ensures ∙ initial_centre t c.requires.valid) c.first_layer.ensures in
     let t = c.args.task in
     let w = fit in
-    let e : c.advance-turn.result.ends ≡ false = c.if-not-turn.true in
+    let e : c.advance-turn.result.ends ≡ false = not-true _ c.if-not-turn.true in
     rw e
     (along_stuck board t.effects c.args.path.now c.after-spot.result c.first_layer.new.new c.loop-k.spot c.loop-k.layer c.loop-k.k
-    c.advance-turn.result c.advance-turn.new.layer (omega (arith, c.loop-k-test.true, c.loop-k.invariant.1)) (c.requires.1.1.0 c.loop-k.k (omega (arith, c.loop-k-test.true, c.loop-k.invariant.1)))
+    c.advance-turn.result c.advance-turn.new.layer (omega (arith, c.loop-k-test.true, c.loop-k.invariant.1)) (c.requires.by_index c.loop-k.k (omega (arith, c.loop-k-test.true, c.loop-k.invariant.1)))
     c.advance-turn.ensures c.loop-k.invariant.3 e t w.0 refl
     ∙ ap (λ m. walk t m c.args.path.now) begins)
 
@@ -92,13 +92,13 @@ loop-k-preserved c =
       c.loop-k.invariant.1,
       kept ∙ c.loop-k.invariant.2,
       along_more board t.effects c.args.path.now c.after-spot.result c.first_layer.new.new c.loop-k.spot c.loop-k.layer c.loop-k.k
-          c.advance-turn.result c.advance-turn.new.layer (omega (arith, c.loop-k-test.true, c.loop-k.invariant.1)) (c.requires.1.1.0 c.loop-k.k (omega (arith, c.loop-k-test.true, c.loop-k.invariant.1)))
-          c.advance-turn.ensures c.loop-k.invariant.3 c.if-not-turn.false,
+          c.advance-turn.result c.advance-turn.new.layer (omega (arith, c.loop-k-test.true, c.loop-k.invariant.1)) (c.requires.by_index c.loop-k.k (omega (arith, c.loop-k-test.true, c.loop-k.invariant.1)))
+          c.advance-turn.ensures c.loop-k.invariant.3 (not-false _ c.if-not-turn.false),
     )
 
 pub shape_of-layer : goal.shape_of-layer
 shape_of-layer c =
-    let long : length c.args.layer.now ≡ 1024 = ap length c.requires.1.1.1 ∙ length-replicate 1024 mark in
+    let long : length c.args.layer.now ≡ 1024 = ap length c.requires.layer_value ∙ length-replicate 1024 mark in
     c.loop-k.invariant.2
     ∙ sym long
 
@@ -106,8 +106,8 @@ pub returns : goal.returns
 returns c =
     let board : Board = let a = c.args in board_of a.task.leaves a.task.actions a.bases.now a.moves.now a.costs.now a.kinds.now a.task.factors a.task.conditions in
     let lists : let t = c.args.task in (length t.factors ≡ 32) × (length t.conditions ≡ 8192) × (length t.effects ≡ 8192) = (search rules, search rules, search rules) in
-    let fit : Fits c.args.task board × Sound board = let a = c.args in let h = c.requires.1.0 in tables_fit a.task c.requires.0 a.bases.now a.moves.now a.costs.now a.kinds.now h.is_bases h.is_moves h.is_costs h.is_kinds h.long_moves lists.0 lists.1 in
-    let begins : let t = c.args.task in front t c.after-spot.result c.first_layer.new.new ≡ first_layer t = let t = c.args.task in walk_first t board fit.0 c.args.starts.now c.after-spot.result (drop (get_or c.args.bases.now t.leaves 0) c.args.layer.now) c.first_layer.new.new c.requires.1.0.is_starts.is (c.after-spot.ensures ∙ ap (centre_after (factor t) (initial t)) c.blank.ensures ∙ initial_centre t c.requires.0) c.first_layer.ensures in
+    let fit : Fits c.args.task board × Sound board = let a = c.args in let h = c.requires.tabled in tables_fit a.task c.requires.valid a.bases.now a.moves.now a.costs.now a.kinds.now h.is_bases h.is_moves h.is_costs h.is_kinds h.long_moves lists.0 lists.1 in
+    let begins : let t = c.args.task in front t c.after-spot.result c.first_layer.new.new ≡ first_layer t = let t = c.args.task in walk_first t board fit.0 c.args.starts.now c.after-spot.result (drop (get_or c.args.bases.now t.leaves 0) c.args.layer.now) c.first_layer.new.new c.requires.tabled.is_starts.is (c.after-spot.ensures ∙ ap (centre_after (factor t) (initial t)) c.blank.ensures ∙ initial_centre t c.requires.valid) c.first_layer.ensures in
     let t = c.args.task in
     let p = c.args.path.now in
     sym (walk_end t (front t c.loop-k.spot c.loop-k.layer) p c.loop-k.k (omega arith))

@@ -1,7 +1,6 @@
 -- `paths::walk_path` meets its contract: what is left of the path goes from the layer where the whole goes from the first. Assumes nothing.
 use Rattle.std.proofs.Common.{◌≤◌, ◌-◌, ◌≡◌, refl, ap, sym, ◌∙◌, false, arith, length, get_or, drop, rules}
 use lib.ListN.{length-replicate}
-use borrow.Author.Tests.{not-true, not-false}
 use Rattle.task.specs.Meaning.{factor, initial}
 use Rattle.task.specs.Centre.{centre_after}
 use Rattle.task.specs.Star.{initial_centre}

@@ -91,7 +91,7 @@ module _ (t : Task) (ok : Valid t) where
       }
 
   -- a leaf's actions inside a layer
-  steps_walk : (i : ℕ) (s : State) {c : Centre} {x z : ℕ} {acts : List ℕ} → i < t.leaves → Inside t s → centre t s ≡ c → number t (suc i) s ≡ x
+  steps_walk : (i : ℕ) {c : Centre} (s : State) {x z : ℕ} {acts : List ℕ} → i < t.leaves → Inside t s → centre t s ≡ c → number t (suc i) s ≡ x
       → Steps t (suc i) c x acts z → Walked t s i acts z
   unfolding final
   steps_walk i s l h g q none = record { quiet = quiet_none t s; here = q; others = λ j d. refl }

@@ -7,15 +7,15 @@ use Rattle.pricer.proofs.price_path.Goals as goal
 
 pub returns-then-not-w : goal.returns-then-not-w
 returns-then-not-w c =
-    end_stuck c.args.task c.args.out.now c.walk_task-w.result _ _ c.walk_task-w.ensures c.if-not-w.true
+    end_stuck c.args.task c.args.out.now c.walk_task-w.result _ _ c.walk_task-w.ensures (not-true _ c.if-not-w.true)
 
 pub copy_words-requires : goal.copy_words-requires
 copy_words-requires c =
-    let row = row_of c.args.task c.args.bases c.requires.1.0.1 in
+    let row = row_of c.args.task c.args.bases c.requires.kinds.1 in
     let kept : length c.walk_task-w.new.layer ≡ 1024 = c.walk_task-w.auto.layer in
-    (omega (arith, row, kept, c.requires.0.whole.few_all_states), omega (arith, row, c.requires.1.1.1))
+    (omega (arith, row, kept, c.requires.valid.whole.few_all_states), omega (arith, row, c.requires.by_index.1))
 
 pub returns : goal.returns
 returns c =
-    end_prices c.args.task c.args.out.now c.walk_task-w.result c.walk_task-w.new.layer _ _ _ c.walk_task-w.ensures c.if-not-w.false
-    (row_of c.args.task c.args.bases c.requires.1.0.1) c.copy_words.ensures
+    end_prices c.args.task c.args.out.now c.walk_task-w.result c.walk_task-w.new.layer _ _ _ c.walk_task-w.ensures (not-false _ c.if-not-w.false)
+    (row_of c.args.task c.args.bases c.requires.kinds.1) c.copy_words.ensures

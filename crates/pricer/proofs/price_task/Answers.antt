@@ -1,6 +1,5 @@
 -- `pricer::price_task` meets its contract: 12, then 21, then what the walk says. Assumes nothing.
 use Rattle.std.proofs.Common.{◌≡◌, sym, ◌∙◌, arith, get_or, rules}
-use borrow.Author.Tests.{not-true, not-false}
 use Rattle.task.specs.Factors.{all_states}
 use Rattle.tables.specs.Fit.{row_of}
 use Rattle.pricer.specs.Pricer.{path_fits}
@@ -24,12 +23,12 @@ row c =
 pub returns-then-not-fits : goal.returns-then-not-fits
 returns-then-not-fits c =
     let a = c.args in
-    task_wrong a.task a.path.now a.out.now (fitting (goal.at.returns-then-not-fits c).After-path_fits-fits ∙ not-true _ c.if-not-fits.true)
+    task_wrong a.task a.path.now a.out.now (fitting (goal.at.returns-then-not-fits c).After-path_fits-fits ∙ c.if-not-fits.true)
 
 pub returns-then-out-states : goal.returns-then-out-states
 returns-then-out-states c =
     let a = c.args in
-    task_short a.task a.path.now a.out.now (fitting (goal.at.returns-then-out-states c).After-path_fits-fits ∙ not-false _ c.if-not-fits.false) (omega (arith, row (goal.at.returns-then-out-states c).After-path_fits-fits, c.if-out-states.true))
+    task_short a.task a.path.now a.out.now (fitting (goal.at.returns-then-out-states c).After-path_fits-fits ∙ c.if-not-fits.false) (omega (arith, row (goal.at.returns-then-out-states c).After-path_fits-fits, c.if-out-states.true))
 
 pub price_path-requires : goal.price_path-requires
 price_path-requires c =
@@ -38,5 +37,5 @@ price_path-requires c =
 pub returns : goal.returns
 returns c =
     let a = c.args in
-    task_end a.task a.path.now a.out.now (fitting (goal.at.returns c).After-path_fits-fits ∙ not-false _ c.if-not-fits.false)
+    task_end a.task a.path.now a.out.now (fitting (goal.at.returns c).After-path_fits-fits ∙ c.if-not-fits.false)
     (omega (arith, row (goal.at.returns c).After-path_fits-fits, c.if-out-states.false)) c.price_path.ensures

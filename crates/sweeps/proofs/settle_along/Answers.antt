@@ -1,5 +1,4 @@
 use Rattle.std.proofs.Common.{◌≡◌, refl, ◌∙◌, List, ℕ, arith, length, rules}
-use borrow.Author.Tests.{not-true}
 use Rattle.leaf.specs.Price.{mark}
 use Rattle.leaf.specs.Settle.Walks.{Capped}
 use Rattle.leaf.specs.Settle.Turns.{at_most}
@@ -12,12 +11,10 @@ first_sweep-requires c = (c.requires.0, c.requires.1)
 
 pub returns-then-not-first_sweep : goal.returns-then-not-first_sweep
 returns-then-not-first_sweep c m cost to meant =
-    let few : Capped mark meant.args.prices.now = at_most mark meant.args.prices.now (λ i. omega (arith, meant.type_inv.prices i)) in
-    let first = c.before.before.before.before in
-    let k = known first in
-    let P = k.before.args.prices.now in
-    sweeping_end mark _ _ _ _ meant.ranged 0 P P _ _ _ refl (few k) (sweeping_start mark _ _ _ _ P _ refl (few k)) (first.first-sweep.ensures _ _ _ meant)
-    (not-true _ c.if1.true)
+    let P = c.args.prices.now in
+    let few : Capped mark P = at_most mark P (λ i. search rules) in
+    sweeping_end mark _ _ _ _ meant.ranged 0 P P _ _ _ refl few (sweeping_start mark _ _ _ _ P _ refl few) (c.first_sweep.ensures _ _ _ meant)
+    c.if-not-first_sweep.true
 
 pub loop-dirty-init : goal.loop-dirty-init
 loop-dirty-init c = (refl, c.first_sweep.auto.dirty, λ m cost to h P s. s)
@@ -52,13 +49,10 @@ shape_of-prices c =
 
 pub returns : goal.returns
 returns c m cost to meant =
-    let few : Capped mark meant.args.prices.now = at_most mark meant.args.prices.now (λ i. omega (arith, meant.type_inv.prices i)) in
-    let turned : length meant.loop-dirty.prices ≡ length meant.args.prices.now = meant.loop-dirty.invariant.0 ∙ meant.first_sweep.auto.prices in
-    let called = c.before.before.before.before in
-    let t = called.before.before.before in
-    let first = t.before.before.before.before.before in
-    let k = known first in
-    let P = k.before.args.prices.now in
-    sweeping_end mark _ _ _ _ meant.ranged (length P) P _ _ _ _ refl (few k)
-    ((rw first.first-sweep.auto.0 at t.loop.invariant.2) _ _ _ meant P ((first.first-sweep.ensures _ _ _ meant).keeps P (sweeping_start mark _ _ _ _ P _ refl (few k))))
-    ((rw (turned t) at called.sweep.ensures) _ _ _ meant) c.if2.false
+    let P = c.args.prices.now in
+    let few : Capped mark P = at_most mark P (λ i. search rules) in
+    let long = c.first_sweep.auto.prices in
+    let turned : length c.loop-dirty.prices ≡ length P = c.loop-dirty.invariant.0 ∙ long in
+    sweeping_end mark _ _ _ _ meant.ranged (length P) P _ _ _ _ refl few
+    ((rw long at c.loop-dirty.invariant.2) _ _ _ meant P ((c.first_sweep.ensures _ _ _ meant).keeps P (sweeping_start mark _ _ _ _ P _ refl few)))
+    ((rw turned at c.sweep.ensures) _ _ _ meant) c.loop-dirty-test.false

@@ -1,7 +1,7 @@
 -- `sweeps::settle_leaf` meets its contract. The enabled actions lead where the leaf's edges do; where no edge has its flag set they lead nowhere.
 -- Assumes nothing.
 use Rattle.std.proofs.Common.{refl, sym, ◌∙◌, true≢false, List, ℕ, ◌+◌, ◌≤◌, ◌<◌, le_trans, arith, length, get_or, rules}
-use Rattle.loops.specs.Count.Laws.{told_true, told_false}
+use Rattle.loops.specs.Count.Laws.{told}
 use Rattle.leaf.specs.Price.{mark}
 use Rattle.leaf.specs.Settle.Turns.{at_most}
 use Rattle.leaf.specs.Lent.{cost_by, move_by}
@@ -66,10 +66,10 @@ returns-then-not-some_met c =
     let meant : let a = c.args in let b = board in Meant a.moves.now (row_on b) (base_on b a.i) a.costs.now a.mets.now a.edges.now a.ends.now (length a.prices.now) (length acts) (cost_by a.costs.now acts) (move_by a.moves.now (row_on b) (base_on b a.i) acts) = let a = c.args in rw c.requires.4 (leaf_meant board c.requires.0 a.edges.now a.ends.now c.requires.2 a.i c.requires.3 a.centre a.mets.now c.requires.1) in
     let a = c.args in
     let P = a.prices.now in
-    let none = told_false c.some_met.ensures c.if-not-some_met.true in
+    let none = told c.some_met.ensures c.if-not-some_met.true in
     let unmet = leaf_unmet board c.requires.0 a.edges.now a.ends.now c.requires.2 a.i c.requires.3 a.mets.now (some_none _ _ none) in
     let still = still_settled mark _ _ _ _ _ _ _ _ _ _ _ P meant (rw c.requires.4 unmet) refl
-    (at_most mark P (λ i. omega (arith, c.type_inv.prices i))) in
+    (at_most mark P (λ i. search rules)) in
     (still ∙ leaf_settled board a.i a.centre acts _ refl refl P, (λ _. refl), sym none)
 
 -- the edges can be followed
@@ -79,12 +79,12 @@ settle_along-requires c =
     let acts : List ℕ = enabled_on board c.args.i c.args.centre c.args.actions in
     let meant : let a = c.args in let b = board in Meant a.moves.now (row_on b) (base_on b a.i) a.costs.now a.mets.now a.edges.now a.ends.now (length a.prices.now) (length acts) (cost_by a.costs.now acts) (move_by a.moves.now (row_on b) (base_on b a.i) acts) = let a = c.args in rw c.requires.4 (leaf_meant board c.requires.0 a.edges.now a.ends.now c.requires.2 a.i c.requires.3 a.centre a.mets.now c.requires.1) in
     let a = c.args in
-    let ways = leaf_ways (board c) c.requires.0 a.edges.now a.ends.now c.requires.2 a.i c.requires.3 a.mets.now c.requires.1.long in
-    (omega (arith, c.requires.4, c.requires.0.few_states a.i c.requires.3), rw c.requires.4 ways, record { count = _; cost = _; to = _; meant = meant c })
+    let ways = leaf_ways board c.requires.0 a.edges.now a.ends.now c.requires.2 a.i c.requires.3 a.mets.now c.requires.1.long in
+    (omega (arith, c.requires.4, c.requires.0.few_states a.i c.requires.3), rw c.requires.4 ways, record { count = _; cost = _; to = _; meant = meant })
 
 pub returns : goal.returns
 returns c =
     let board : Board = let a = c.args in board_of a.leaves a.actions a.bases.now a.moves.now a.costs.now a.kinds.now a.factors a.conditions.now in
     let acts : List ℕ = enabled_on board c.args.i c.args.centre c.args.actions in
     let meant : let a = c.args in let b = board in Meant a.moves.now (row_on b) (base_on b a.i) a.costs.now a.mets.now a.edges.now a.ends.now (length a.prices.now) (length acts) (cost_by a.costs.now acts) (move_by a.moves.now (row_on b) (base_on b a.i) acts) = let a = c.args in rw c.requires.4 (leaf_meant board c.requires.0 a.edges.now a.ends.now c.requires.2 a.i c.requires.3 a.centre a.mets.now c.requires.1) in
-    (c.settle_along.ensures _ _ _ (meant c) ∙ leaf_settled (board c) c.args.i c.args.centre (acts c) _ refl refl c.args.prices.now, (λ e. absurd (true≢false e)), sym (told_true c.some_met.ensures c.if-not-some_met.false))
+    (c.settle_along.ensures _ _ _ meant ∙ leaf_settled board c.args.i c.args.centre acts _ refl refl c.args.prices.now, (λ e. absurd (true≢false e)), sym (told c.some_met.ensures c.if-not-some_met.false))
