@@ -1,6 +1,6 @@
 -- `blocks::choose` meets its contract: the first of the least upper words leads to the first block word that is the same, and that to the first such key.
 -- Assumes nothing.
-use Rattle.std.proofs.Common.{◌≡◌, sym, ◌∙◌, suc, ◌+◌, ◌-◌, ◌*◌, ◌<◌, arith, get_or, get_or-drop, drop-drop, rules}
+use Rattle.std.proofs.Common.{◌≡◌, sym, ◌∙◌, suc, ◌+◌, ◌-◌, ◌*◌, ◌<◌, arith, get_or, get_or-drop, drop-drop}
 use Rattle.blocks.specs.Choice.{choose_by, Picked}
 use Rattle.blocks.specs.Choice.Laws.{choose_picked, choose_first}
 use Rattle.blocks.specs.Block.{block_size, block_words, upper_words}

@@ -1,4 +1,4 @@
-use Rattle.std.proofs.Common.{◌≡◌, sym, ◌∙◌, List, ℕ, ◌+◌, ◌-◌, ◌≤◌, ◌<◌, arith, get_or, drop, get_or-drop, rules}
+use Rattle.std.proofs.Common.{◌≡◌, sym, ◌∙◌, List, ℕ, ◌+◌, ◌-◌, arith, get_or, drop, get_or-drop}
 use native.Mathlib.Decide.{ℕ_discrete}
 use Rattle.blocks.proofs.find.Invariants.{NoneIn}
 use Rattle.blocks.proofs.find.Goals as goal

@@ -1,6 +1,5 @@
 -- `blocks::find` meets its contract. The invariant: `found` is the first place of the word from place k on, `count` if there is none. Assumes nothing.
-use Rattle.std.proofs.Common.{◌≡◌, sym, ◌∙◌, List, ℕ, ◌+◌, ◌-◌, ◌≤◌, ◌<◌, arith, get_or, drop, get_or-drop, rules}
-use native.Mathlib.Decide.{ℕ_discrete}
+use Rattle.std.proofs.Common.{◌≡◌, List, ℕ, ◌≤◌, ◌<◌, get_or, drop}
 use Rattle.blocks.proofs.find.Given as goal
 
 -- none of the keys from place k on and before place f is the word

@@ -1,5 +1,5 @@
 -- `blocks::find_block` meets its contract: four parts of four words, joined two by two. Assumes nothing.
-use Rattle.std.proofs.Common.{refl, ◌+◌, arith, drop, rules}
+use Rattle.std.proofs.Common.{refl, ◌+◌, arith, drop}
 use Rattle.blocks.specs.Block.{FirstOf}
 use Rattle.blocks.specs.Block.Laws.{first_two}
 use Rattle.blocks.proofs.find_block.Goals as goal

@@ -1,5 +1,5 @@
 -- `blocks::find_key` meets its contract: a full block has 16 words. Assumes nothing.
-use Rattle.std.proofs.Common.{◌≡◌, rules}
+use Rattle.std.proofs.Common.{◌≡◌}
 use Rattle.blocks.proofs.find_key.Goals as goal
 
 pub returns-then-count-eq16 : goal.returns-then-count-eq16

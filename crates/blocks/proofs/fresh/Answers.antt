@@ -1,4 +1,4 @@
-use Rattle.std.proofs.Common.{◌≡◌, refl, sym, ◌∙◌, ◌-◌, ◌≤◌, arith, length, length-set, rules}
+use Rattle.std.proofs.Common.{◌≡◌, refl, sym, ◌∙◌, arith, length-set}
 use Rattle.blocks.specs.Block.{fresh_to}
 use Rattle.blocks.specs.Block.Laws.{fresh_more}
 use Rattle.blocks.proofs.fresh.Goals as goal

@@ -1,7 +1,6 @@
 -- `blocks::fresh` meets its contract. The invariant: the first b block words are the mark. Assumes nothing.
-use Rattle.std.proofs.Common.{◌≡◌, refl, sym, ◌∙◌, ◌-◌, ◌≤◌, arith, length, length-set, rules}
+use Rattle.std.proofs.Common.{◌≡◌, ◌-◌, ◌≤◌, length}
 use Rattle.blocks.specs.Block.{fresh_to}
-use Rattle.blocks.specs.Block.Laws.{fresh_more}
 use Rattle.blocks.proofs.fresh.Given as goal
 
 abbrev pub invariant-loop-b : goal.invariant-loop-b

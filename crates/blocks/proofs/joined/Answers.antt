@@ -1,5 +1,5 @@
 -- `blocks::joined` meets its contract. Assumes nothing.
-use Rattle.std.proofs.Common.{arith, rules, lt-ltb, le-ltb}
+use Rattle.std.proofs.Common.{arith, lt-ltb, le-ltb}
 use Rattle.blocks.proofs.joined.Goals as goal
 
 pub returns-then-first-few : goal.returns-then-first-few

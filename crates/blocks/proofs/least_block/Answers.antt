@@ -1,5 +1,5 @@
 -- `blocks::least_block` meets its contract. Assumes nothing.
-use Rattle.std.proofs.Common.{◌≡◌, refl, ◌+◌, ◌*◌, arith, rules}
+use Rattle.std.proofs.Common.{◌≡◌, refl, ◌+◌, ◌*◌, arith}
 use Rattle.blocks.specs.Block.Laws.{least_quarters}
 use Rattle.blocks.proofs.least_block.Goals as goal
 

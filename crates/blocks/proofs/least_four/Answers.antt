@@ -1,5 +1,5 @@
 -- `blocks::least_four` meets its contract. Assumes nothing.
-use Rattle.std.proofs.Common.{◌≡◌, refl, ◌+◌, ◌*◌, arith, rules}
+use Rattle.std.proofs.Common.{◌≡◌, refl, ◌+◌, ◌*◌, arith}
 use Rattle.blocks.specs.Block.Laws.{least_one, least_quarters}
 use Rattle.blocks.proofs.least_four.Goals as goal
 

@@ -1,5 +1,5 @@
 -- `blocks::least_from` meets its contract. Assumes nothing.
-use Rattle.std.proofs.Common.{◌≡◌, sym, ◌∙◌, suc, ◌-◌, ◌<◌, arith, drop, get_or-drop, rules}
+use Rattle.std.proofs.Common.{◌≡◌, sym, ◌∙◌, suc, ◌-◌, ◌<◌, arith, drop, get_or-drop}
 use Rattle.leaf.specs.Price.{mark}
 use Rattle.blocks.specs.Choice.Laws.{choose_most}
 use Rattle.blocks.specs.Block.Laws.{least_none, least_some}

@@ -1,5 +1,4 @@
 -- `blocks::lower` meets its contract. Assumes nothing.
-use Rattle.std.proofs.Common.{rules}
 use Rattle.blocks.specs.Block.{lowered_to}
 use Rattle.blocks.proofs.lower.Goals as goal
 

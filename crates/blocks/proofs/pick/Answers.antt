@@ -1,7 +1,8 @@
-use Rattle.std.proofs.Common.{◌≡◌, refl, sym, ◌∙◌, ⊎_elim, ◌-◌, ◌≤◌, arith, drop, get_or-drop, rules}
+use Rattle.std.proofs.Common.{◌≡◌, refl, sym, ◌∙◌, arith, drop, get_or-drop}
 use Rattle.blocks.specs.Choice.{key_of, choose_by}
 use Rattle.blocks.specs.Choice.Laws.{choose_here, choose_kept, key_next}
 use Rattle.blocks.proofs.pick.Goals as goal
+use Rattle.blocks.proofs.pick.Goals.{then-scan-from, else-scan-from}
 
 pub loop-u-init : goal.loop-u-init
 unfolding choose_by key_of
@@ -13,14 +14,14 @@ loop-u-preserved c =
     let a = c.args in
     let K = drop a.from a.scan.now in
     let k = get_or-drop a.from a.scan.now l.u 0 in
-    ⊎_elim
-    (λ w.
-    let p = choose_here a.bound K l.u (omega (arith, w.0.taken, l.invariant.2, k)) in
-    (omega arith, w.3 ∙ sym p, w.2 ∙ rw p (sym (key_next a.bound K l.u ∙ k))))
-    (λ w.
-    let p = choose_kept a.bound K l.u (omega (arith, w.0.left, l.invariant.2, k)) in
-    (omega arith, w.2 ∙ l.invariant.1 ∙ sym p, w.1 ∙ rw p l.invariant.2))
-    c.if-scan-from.branch
+    elim c.if-scan-from.branch [
+      | then-scan-from w ↦
+          let p = choose_here a.bound K l.u (omega (arith, w.if-scan-from.true, l.invariant.2, k)) in
+          (omega arith, w.chosen-is ∙ sym p, w.low-is ∙ rw p (sym (key_next a.bound K l.u ∙ k)))
+      | else-scan-from w ↦
+          let p = choose_kept a.bound K l.u (omega (arith, w.if-scan-from.false, l.invariant.2, k)) in
+          (omega arith, w.chosen-is ∙ l.invariant.1 ∙ sym p, w.low-is ∙ rw p l.invariant.2)
+    ]
 
 pub returns : goal.returns
 returns c = let all : c.loop-u.u ≡ c.args.count = omega arith in c.loop-u.invariant.1 ∙ rw all

@@ -1,7 +1,6 @@
 -- `blocks::pick` meets its contract. The invariant: `chosen` is the choice among the keys so far, and `low` its key. Assumes nothing.
-use Rattle.std.proofs.Common.{◌≡◌, refl, sym, ◌∙◌, ⊎_elim, ◌-◌, ◌≤◌, arith, drop, get_or-drop, rules}
+use Rattle.std.proofs.Common.{◌≡◌, ◌-◌, ◌≤◌, drop}
 use Rattle.blocks.specs.Choice.{key_of, choose_by}
-use Rattle.blocks.specs.Choice.Laws.{choose_here, choose_kept, key_next}
 use Rattle.blocks.proofs.pick.Given as goal
 
 abbrev pub invariant-loop-u : goal.invariant-loop-u

@@ -1,5 +1,5 @@
 -- `blocks::raise` meets its contract: the block's word is stored. Assumes nothing.
-use Rattle.std.proofs.Common.{◌*◌, drop-drop, rules}
+use Rattle.std.proofs.Common.{◌*◌, drop-drop}
 use Rattle.blocks.specs.Block.{raised_to}
 use Rattle.blocks.proofs.raise.Goals as goal
 

@@ -1,5 +1,5 @@
 -- `blocks::retire` meets its contract: the node's open key, its block's word and the upper word are stored. Assumes nothing.
-use Rattle.std.proofs.Common.{◌≡◌, sym, ◌∙◌, arith, length, length-set, rules}
+use Rattle.std.proofs.Common.{◌≡◌, sym, ◌∙◌, arith, length, length-set}
 use Rattle.blocks.specs.Block.{retired_to}
 use Rattle.blocks.proofs.retire.Goals as goal
 use Rattle.blocks.proofs.retire.Goals.{After-raise}

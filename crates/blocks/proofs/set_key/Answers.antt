@@ -1,5 +1,5 @@
 -- `blocks::set_key` meets its contract: the key is stored, and the two words above it are lowered. Assumes nothing.
-use Rattle.std.proofs.Common.{◌≡◌, ◌∙◌, arith, length, length-set, rules}
+use Rattle.std.proofs.Common.{◌≡◌, ◌∙◌, arith, length, length-set}
 use Rattle.blocks.specs.Block.{blocked_to}
 use Rattle.blocks.proofs.set_key.Goals as goal
 use Rattle.blocks.proofs.set_key.Goals.{After-lower}

@@ -15,7 +15,7 @@ use Rattle.loops.specs.Count.{sum}
 use Rattle.loops.specs.Count.Laws.{and_in, and_out, all_out, sum_more}
 use Rattle.layer.specs.Layer.Front.{part_take}
 use Rattle.rows.specs.Row.{node_of, node_in}
-use Rattle.rows.specs.Row.Laws.{row_in, row_word}
+use Rattle.rows.specs.Row.Laws.{row_in_lem, row_word}
 use Rattle.mets.specs.Listed.{Listed, listed_none, listed_ext, listed_more, past, past_next, past_end, past_more, listed_gap}
 use Rattle.detours.specs.Detours.{detours, detours_from, kept_of, kept_in, same_front, hop_behind}
 
@@ -202,7 +202,7 @@ price_words S u T = part_take S 40 (40 + S) (drop (u * (40 + S)) T) (omega arith
 
 -- a row before another lies within the table
 pub row_before : (S u p : ℕ) (T : List ℕ) → p < u → u * (40 + S) + (40 + S) ≤ length T → p * (40 + S) + (40 + S) ≤ length T
-row_before S u p T l h = row_in S u p T l (omega arith)
+row_before S u p T l h = row_in_lem S u p T l (omega arith)
 
 -- the hop behind a node by the words of the table
 pub hop_words : (S actions : ℕ) (T hops : List ℕ) (u : ℕ) (P : List ℕ)

@@ -1,5 +1,5 @@
-use Rattle.std.proofs.Common.{◌≡◌, refl, ◌∙◌, ◌-◌, ◌≤◌, arith, length, rules}
-use Rattle.rows.specs.Reach.{ReachesIn, reaches_none}
+use Rattle.std.proofs.Common.{refl, ◌∙◌, arith}
+use Rattle.rows.specs.Reach.{reaches_none}
 use Rattle.dominance.proofs.list_all.Goals as goal
 
 pub loop-x-init : goal.loop-x-init

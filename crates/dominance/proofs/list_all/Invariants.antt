@@ -1,6 +1,6 @@
 -- `dominance::list_all` meets its contract. The invariant: those states so far that are reached are listed. Assumes nothing.
-use Rattle.std.proofs.Common.{◌≡◌, refl, ◌∙◌, ◌-◌, ◌≤◌, arith, length, rules}
-use Rattle.rows.specs.Reach.{ReachesIn, reaches_none}
+use Rattle.std.proofs.Common.{◌≡◌, ◌-◌, ◌≤◌, length}
+use Rattle.rows.specs.Reach.{ReachesIn}
 use Rattle.dominance.proofs.list_all.Given as goal
 
 abbrev pub invariant-loop-x : goal.invariant-loop-x

@@ -1,5 +1,4 @@
 -- `dominance::list_four` meets its contract: where the bits that four prices share are those of the mark, none of the four is reached. Assumes nothing.
-use Rattle.std.proofs.Common.{rules}
 use Rattle.rows.specs.Reach.{reaches_four}
 use Rattle.dominance.proofs.list_four.Goals as goal
 

@@ -1,6 +1,6 @@
 -- `dominance::list_from` meets its contract. The invariant: just those states so far that are reached are listed. Assumes nothing.
-use Rattle.std.proofs.Common.{◌≡◌, refl, ◌∙◌, ⊎_elim, ◌+◌, ◌-◌, ◌≤◌, ◌<◌, arith, length, set, length-set, rules}
-use Rattle.rows.specs.Reach.{ReachesIn, reaches_more, reaches_skip}
+use Rattle.std.proofs.Common.{◌≡◌, ◌-◌, ◌≤◌, length}
+use Rattle.rows.specs.Reach.{ReachesIn}
 use Rattle.dominance.proofs.list_from.Given as goal
 
 abbrev pub invariant-loop-x : goal.invariant-loop-x

@@ -1,5 +1,5 @@
 -- `dominance::list_reached` meets its contract: fewer states than 128 need no list. Assumes nothing.
-use Rattle.std.proofs.Common.{refl, arith, rules}
+use Rattle.std.proofs.Common.{refl, arith}
 use Rattle.dominance.proofs.list_reached.Goals as goal
 
 pub returns-then-states-ge128 : goal.returns-then-states-ge128

@@ -1,5 +1,4 @@
 -- `dominance::place_above` meets its contract: where there are 128 states or more, the list is that of those that are reached. Assumes nothing.
-use Rattle.std.proofs.Common.{rules}
 use Rattle.dominance.proofs.place_above.Goals as goal
 
 pub place_listed-requires : goal.place_listed-requires

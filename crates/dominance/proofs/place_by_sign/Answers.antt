@@ -1,5 +1,5 @@
 -- `dominance::place_by_sign` meets its contract. Where the bits give no place, no price below 64 is higher. Assumes nothing.
-use Rattle.std.proofs.Common.{ℕ, ◌≤◌, arith, rules}
+use Rattle.std.proofs.Common.{ℕ, ◌≤◌, arith}
 use Rattle.rows.specs.Row.{NotAbove}
 use Rattle.rows.specs.Row.Laws.{above_none}
 use Rattle.rows.specs.Sign.Bits.{bits_none}

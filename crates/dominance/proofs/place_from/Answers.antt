@@ -1,5 +1,4 @@
-use Rattle.std.proofs.Common.{◌≡◌, ◌-◌, ◌≤◌, arith, rules}
-use Rattle.rows.specs.Row.{NotAbove}
+use Rattle.std.proofs.Common.{◌≡◌, arith}
 use Rattle.rows.specs.Row.Laws.{higher_more, above_at, above_none}
 use Rattle.dominance.proofs.place_from.Goals as goal
 

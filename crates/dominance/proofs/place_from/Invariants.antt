@@ -1,7 +1,6 @@
 -- `dominance::place_from` meets its contract. The invariant: no price so far is higher. Assumes nothing.
-use Rattle.std.proofs.Common.{◌≡◌, ◌-◌, ◌≤◌, arith, rules}
+use Rattle.std.proofs.Common.{◌-◌, ◌≤◌}
 use Rattle.rows.specs.Row.{NotAbove}
-use Rattle.rows.specs.Row.Laws.{higher_more, above_at, above_none}
 use Rattle.dominance.proofs.place_from.Given as goal
 
 abbrev pub invariant-loop-k : goal.invariant-loop-k

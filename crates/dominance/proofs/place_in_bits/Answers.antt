@@ -1,7 +1,7 @@
-use Rattle.std.proofs.Common.{◌≡◌, ◌-◌, ◌^◌, ◌<◌, arith, bit_and}
+use Rattle.std.proofs.Common.{◌≡◌, ◌-◌, ◌<◌, arith, bit_and}
 use lib.Bits.{and_le_r}
 use lib.Count.{count_trailing_zeros, trailing_le}
-use Rattle.rows.specs.Sign.Bits.{Left, left_all, left_state, left_less, left_none}
+use Rattle.rows.specs.Sign.Bits.{left_all, left_state, left_less, left_none}
 use Rattle.dominance.proofs.place_in_bits.Goals as goal
 use Rattle.dominance.proofs.place_in_bits.Goals.{In-loop-rest}
 

@@ -1,9 +1,7 @@
 -- `dominance::place_in_bits` meets its contract. The invariant: where a bit of the signature is gone, no price is higher. The measure is `rest`
 -- itself, which loses a bit with each turn. Assumes nothing.
-use Rattle.std.proofs.Common.{◌≡◌, ◌-◌, ◌^◌, ◌<◌, arith, bit_and}
-use lib.Bits.{and_le_r}
-use lib.Count.{count_trailing_zeros, trailing_le}
-use Rattle.rows.specs.Sign.Bits.{Left, left_all, left_state, left_less, left_none}
+use Rattle.std.proofs.Common.{◌^◌, ◌<◌}
+use Rattle.rows.specs.Sign.Bits.{Left}
 use Rattle.dominance.proofs.place_in_bits.Given as goal
 
 abbrev pub invariant-loop-rest : goal.invariant-loop-rest

@@ -1,4 +1,4 @@
-use Rattle.std.proofs.Common.{ℕ, ◌+◌, ◌-◌, ◌≤◌, ◌<◌, not-suc-le-zero, arith, below_more, rules, length, get_or}
+use Rattle.std.proofs.Common.{◌<◌, not-suc-le-zero, arith, below_more, get_or}
 use Rattle.dominance.proofs.place_in_list.Goals as goal
 use Rattle.dominance.proofs.place_in_list.Goals.{In-loop-j}
 

@@ -1,5 +1,5 @@
 -- `dominance::place_in_list` meets its contract. The invariant: no price at the states of the list so far is higher. Assumes nothing.
-use Rattle.std.proofs.Common.{ℕ, ◌+◌, ◌-◌, ◌≤◌, ◌<◌, not-suc-le-zero, arith, below_more, rules, length, get_or}
+use Rattle.std.proofs.Common.{ℕ, ◌+◌, ◌-◌, ◌≤◌, ◌<◌, length, get_or}
 use Rattle.dominance.proofs.place_in_list.Given as goal
 
 abbrev pub invariant-loop-j : goal.invariant-loop-j

@@ -1,5 +1,5 @@
 -- `dominance::place_listed` meets its contract. A state that is not listed has the mark as its price, and no price is higher. Assumes nothing.
-use Rattle.std.proofs.Common.{arith, rules}
+use Rattle.std.proofs.Common.{arith}
 use Rattle.rows.specs.Reach.{list_above}
 use Rattle.dominance.proofs.place_listed.Goals as goal
 

@@ -1,5 +1,5 @@
 -- `dominance::test_row` meets its contract, by what each refusal says of the row. Assumes nothing.
-use Rattle.std.proofs.Common.{◌≡◌, arith, rules}
+use Rattle.std.proofs.Common.{◌≡◌, arith}
 use Rattle.loops.specs.Count.Laws.{told}
 use Rattle.rows.specs.Row.Laws.{test_paid, test_price, test_spot, test_found}
 use Rattle.dominance.proofs.test_row.Goals as goal

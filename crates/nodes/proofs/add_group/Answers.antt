@@ -1,5 +1,5 @@
 -- `nodes::add_group` meets its contract: three words are stored. Assumes nothing.
-use Rattle.std.proofs.Common.{refl, arith, length-set, rules}
+use Rattle.std.proofs.Common.{refl, arith, length-set}
 use Rattle.nodes.specs.Chain.{with_group}
 use Rattle.nodes.proofs.add_group.Goals as goal
 

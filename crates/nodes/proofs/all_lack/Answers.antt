@@ -1,5 +1,5 @@
 -- `nodes::all_lack` meets its contract: four signatures are tested. Assumes nothing.
-use Rattle.std.proofs.Common.{◌≡◌, ◌+◌, ◌*◌, arith, rules}
+use Rattle.std.proofs.Common.{◌≡◌, ◌+◌, ◌*◌, arith}
 use Rattle.nodes.specs.Chain.{all_lack}
 use Rattle.nodes.proofs.all_lack.Goals as goal
 

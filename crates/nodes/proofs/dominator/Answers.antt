@@ -1,8 +1,8 @@
 -- `nodes::dominator` meets its contract: what is lent as recent is one more than the number of a node that dominates, or the walk tells. Assumes nothing.
-use Rattle.std.proofs.Common.{◌≡◌, suc, ◌-◌, ◌<◌, arith, take, rules}
+use Rattle.std.proofs.Common.{◌≡◌, suc, ◌-◌, ◌<◌, arith, take}
 use Rattle.search.specs.Node.{Node}
 use Rattle.rows.specs.Row.{node_in, node_with, Tested}
-use Rattle.rows.specs.Row.Laws.{row_in}
+use Rattle.rows.specs.Row.Laws.{row_in_lem}
 use Rattle.nodes.specs.Chain.Walk.{dominator_found}
 use Rattle.nodes.proofs.dominator.Goals as goal
 
@@ -10,13 +10,13 @@ pub test_at-tried-requires : goal.test_at-tried-requires
 test_at-tried-requires c =
     let a = c.args in
     let inside : a.recent - 1 < a.count = omega (arith, c.if-recent-count.true, c.if-recent-gt0.true) in (
-      c.requires.0.0,
-      row_in a.states a.count (c.args.recent - 1) a.table.now inside c.requires.0.2,
-      c.requires.0.3,
+      c.requires.states_bound.0,
+      row_in_lem a.states a.count (c.args.recent - 1) a.table.now inside c.requires.states_bound.2,
+      c.requires.states_bound.3,
       omega arith,
-      c.requires.0.4.packed (c.args.recent - 1) inside,
-      c.requires.1.1,
-      c.requires.1.2,
+      c.requires.states_bound.4.packed (c.args.recent - 1) inside,
+      c.requires.class_value.1,
+      c.requires.class_value.2,
     )
 
 pub returns-then-tried-states : goal.returns-then-tried-states

@@ -1,5 +1,5 @@
 -- `nodes::entry_of` meets its contract. Assumes nothing.
-use Rattle.std.proofs.Common.{refl, rules}
+use Rattle.std.proofs.Common.{refl}
 use Rattle.nodes.specs.Chain.{entry_of}
 use Rattle.nodes.proofs.entry_of.Goals as goal
 

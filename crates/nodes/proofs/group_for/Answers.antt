@@ -1,5 +1,5 @@
 -- `nodes::group_for` meets its contract. Assumes nothing.
-use Rattle.std.proofs.Common.{sym, ◌∙◌, rules}
+use Rattle.std.proofs.Common.{sym, ◌∙◌}
 use Rattle.loops.specs.Count.Laws.{told}
 use Rattle.nodes.specs.Chain.Groups.{room_head, group_last, group_new}
 use Rattle.nodes.proofs.group_for.Goals as goal

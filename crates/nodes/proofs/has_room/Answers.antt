@@ -1,5 +1,5 @@
 -- `nodes::has_room` meets its contract. Assumes nothing.
-use Rattle.std.proofs.Common.{sym, rules}
+use Rattle.std.proofs.Common.{sym}
 use Rattle.nodes.specs.Chain.Groups.{room_none, room_some}
 use Rattle.nodes.proofs.has_room.Goals as goal
 

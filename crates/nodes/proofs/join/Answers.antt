@@ -1,5 +1,5 @@
 -- `nodes::join` meets its contract: three words are stored. Assumes nothing.
-use Rattle.std.proofs.Common.{arith, length-set, rules}
+use Rattle.std.proofs.Common.{arith, length-set}
 use Rattle.nodes.specs.Chain.{joined_to}
 use Rattle.nodes.proofs.join.Goals as goal
 

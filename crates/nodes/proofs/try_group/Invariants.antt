@@ -1,11 +1,7 @@
 -- `nodes::try_group` meets its contract. The invariant: no entry before place k dominates. Assumes nothing.
-use Rattle.std.proofs.Common.{◌≡◌, ℕ, ◌-◌, ◌≤◌, ◌<◌, arith, take, rules}
-use Rattle.search.specs.Node.{Node}
-use Rattle.rows.specs.Row.{node_in, node_with, Tested}
-use Rattle.rows.specs.Row.Laws.{row_in}
-use Rattle.nodes.specs.Chain.{entry_at, fill_at, Entry, Missed}
-use Rattle.nodes.specs.Chain.Room.{groups_few}
-use Rattle.nodes.specs.Chain.Walk.{missed_none, missed_more, tried_found}
+use Rattle.std.proofs.Common.{◌-◌, ◌≤◌, take}
+use Rattle.rows.specs.Row.{node_with}
+use Rattle.nodes.specs.Chain.{Missed}
 use Rattle.nodes.proofs.try_group.Given as goal
 
 abbrev pub invariant-loop-k : goal.invariant-loop-k

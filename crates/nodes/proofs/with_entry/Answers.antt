@@ -1,5 +1,5 @@
 -- `nodes::with_entry` meets its contract. Assumes nothing.
-use Rattle.std.proofs.Common.{arith, rules}
+use Rattle.std.proofs.Common.{arith}
 use Rattle.nodes.specs.Chain.{with_entry}
 use Rattle.nodes.specs.Chain.Groups.{unit_is, entry_fits}
 use Rattle.nodes.proofs.with_entry.Goals as goal

@@ -8,7 +8,7 @@ use Rattle.loops.specs.Count.{any}
 use Rattle.loops.specs.Count.Laws.{and_out, any_in, any_out, below_cases, test_cases}
 use Rattle.search.specs.Node.{Node, dominates}
 use Rattle.rows.specs.Row.{node_in}
-use Rattle.rows.specs.Row.Laws.{row_in, prices_length}
+use Rattle.rows.specs.Row.Laws.{row_in_lem, prices_length}
 use Rattle.rows.specs.Sign.{sign_of, class_of}
 use Rattle.rows.specs.Sign.Laws.{class_lt, other_class, other_sign}
 use Rattle.nodes.specs.Chain.{link_at, head_at, groups_in, class_at, fill_at, shown_at, entry_at, lacking, all_lack, Grouped, Dominator, Missed, Tried, Walked}
@@ -96,7 +96,7 @@ module _ (S : ℕ) (T C : List ℕ) (n : ℕ) (m : Node) (r : Grouped S T C n) w
     lack_missed g k l b e =
         let x = r.entries g k l b in
         let u = entry_at C g k in
-        let room = row_in S n u T x.inside rows in
+        let room = row_in_lem S n u T x.inside rows in
         other_sign (node_in S T u) m (prices_length S u T room ∙ sym wide)
         (lacking_out (sign_of m.prices) (sign_of (node_in S T u).prices) (rw x.shown at e))
 

@@ -1,4 +1,4 @@
-use Rattle.std.proofs.Common.{◌≡◌, refl, sym, true, ◌+◌, ◌-◌, ◌≤◌, le_antisymm, arith, eqb, get_or, rules, eq-eqb, ne_eqb}
+use Rattle.std.proofs.Common.{refl, sym, ◌+◌, le_antisymm, arith, eqb, get_or, eq-eqb, ne_eqb}
 use Rattle.loops.specs.Count.{all}
 use Rattle.loops.specs.Count.Laws.{all_more, all_not}
 use Rattle.stills.specs.Still.{stays_by}

@@ -1,7 +1,5 @@
 -- `stills::is_still_leaf` meets its contract. The invariant: the states so far stay as they are. Assumes nothing.
-use Rattle.std.proofs.Common.{◌≡◌, refl, sym, true, ◌+◌, ◌-◌, ◌≤◌, le_antisymm, arith, eqb, get_or, rules, eq-eqb, ne_eqb}
-use Rattle.loops.specs.Count.{all}
-use Rattle.loops.specs.Count.Laws.{all_more, all_not}
+use Rattle.std.proofs.Common.{◌≡◌, true, ◌-◌, ◌≤◌}
 use Rattle.stills.specs.Still.{stays_by}
 use Rattle.stills.proofs.is_still_leaf.Given as goal
 

@@ -1,6 +1,6 @@
-use Rattle.std.proofs.Common.{◌≡◌, refl, ap, ap₂, ◌∙◌, List, ℕ, ◌-◌, ◌≤◌, ◌<◌, le_antisymm, arith, length, set, rules}
+use Rattle.std.proofs.Common.{refl, ap, ap₂, ◌∙◌, List, ℕ, ◌<◌, le_antisymm, arith, length, set}
 use Rattle.loops.specs.Count.{list}
-use Rattle.stills.specs.Still.{padded, still_by, still_actions, padded_length, padded_more}
+use Rattle.stills.specs.Still.{still_by, still_actions, padded_length, padded_more}
 use Rattle.stills.proofs.still_actions.Goals as goal
 
 pub loop-a-init : goal.loop-a-init

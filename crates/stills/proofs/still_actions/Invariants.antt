@@ -1,7 +1,6 @@
 -- `stills::still_actions` meets its contract. The invariant: it holds of the actions so far. Assumes nothing.
-use Rattle.std.proofs.Common.{◌≡◌, refl, ap, ap₂, ◌∙◌, List, ℕ, ◌-◌, ◌≤◌, ◌<◌, le_antisymm, arith, length, set, rules}
-use Rattle.loops.specs.Count.{list}
-use Rattle.stills.specs.Still.{padded, still_by, still_actions, padded_length, padded_more}
+use Rattle.std.proofs.Common.{◌≡◌, ◌-◌, ◌≤◌}
+use Rattle.stills.specs.Still.{padded, still_by}
 use Rattle.stills.proofs.still_actions.Given as goal
 
 abbrev pub invariant-loop-a : goal.invariant-loop-a

@@ -1,5 +1,5 @@
 -- `stills::still_entry` meets its contract: the leaf's moves lie within the action's. Assumes nothing.
-use Rattle.std.proofs.Common.{◌≡◌, sym, cond, ◌+◌, ◌*◌, ◌/◌, ◌%◌, ◌≤◌, arith, length, get_or, rules, lt-ltb, le-ltb}
+use Rattle.std.proofs.Common.{◌≡◌, sym, cond, ◌+◌, ◌*◌, ◌/◌, ◌%◌, ◌≤◌, arith, length, get_or, lt-ltb, le-ltb}
 use Rattle.keys.specs.Scan.{Cut}
 use Rattle.stills.specs.Still.{within, still_entry}
 use Rattle.stills.proofs.still_entry.Goals as goal

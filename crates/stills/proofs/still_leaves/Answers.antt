@@ -1,6 +1,6 @@
-use Rattle.std.proofs.Common.{◌≡◌, refl, ap, ap₂, ◌∙◌, List, ℕ, ◌*◌, ◌/◌, ◌-◌, ◌≤◌, ◌<◌, le_antisymm, arith, length, get_or, set, rules}
+use Rattle.std.proofs.Common.{refl, ap, ap₂, ◌∙◌, List, ℕ, ◌/◌, ◌<◌, le_antisymm, arith, length, get_or, set}
 use Rattle.loops.specs.Count.{list}
-use Rattle.stills.specs.Still.{padded, still_entry, still_leaves, action_in, padded_length, padded_more}
+use Rattle.stills.specs.Still.{still_entry, still_leaves, action_in, padded_length, padded_more}
 use Rattle.stills.proofs.still_leaves.Goals as goal
 
 pub loop-k-init : goal.loop-k-init

@@ -1,7 +1,6 @@
 -- `stills::still_leaves` meets its contract. The invariant: it holds of the entries so far. Assumes nothing.
-use Rattle.std.proofs.Common.{◌≡◌, refl, ap, ap₂, ◌∙◌, List, ℕ, ◌*◌, ◌/◌, ◌-◌, ◌≤◌, ◌<◌, le_antisymm, arith, length, get_or, set, rules}
-use Rattle.loops.specs.Count.{list}
-use Rattle.stills.specs.Still.{padded, still_entry, still_leaves, action_in, padded_length, padded_more}
+use Rattle.std.proofs.Common.{◌≡◌, ◌*◌, ◌-◌, ◌≤◌}
+use Rattle.stills.specs.Still.{padded, still_entry}
 use Rattle.stills.proofs.still_leaves.Given as goal
 
 abbrev pub invariant-loop-k : goal.invariant-loop-k
