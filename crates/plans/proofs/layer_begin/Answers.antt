@@ -37,7 +37,7 @@ overflow_mul-from c =
     let room : let b = board in RowIn (row_on b) c.args.table.now c.parent_of-parent.result × (base_on b c.args.i + length c.args.out.now ≤ row_on b) × (row_on b ≤ 1024) × (c.action_of-action.result < c.args.actions) × (c.action_of-action.result * row_on b + row_on b ≤ length c.args.moves.now) = let z : 0 < c.args.node = omega arith in
     let known : c.action_of-action.result < c.args.actions = omega (arith, c.requires.0.known z, c.action_of-action.ensures) in
     let sound = c.requires.0.sound in (
-      subst (λ (p : ℕ). RowIn (row_on board) c.args.table.now p) (sym c.parent_of-parent.ensures) (c.requires.0 z),
+      subst (λ (p : ℕ). RowIn (row_on board) c.args.table.now p) (sym c.parent_of-parent.ensures) (c.requires.0.before z),
       omega (arith, base_in board sound c.args.i c.requires.1, sound.bases_rise c.args.i c.requires.1, long),
       sound.few_all,
       known,
@@ -52,7 +52,7 @@ overflow_add-from-2 c =
     let room : let b = board in RowIn (row_on b) c.args.table.now c.parent_of-parent.result × (base_on b c.args.i + length c.args.out.now ≤ row_on b) × (row_on b ≤ 1024) × (c.action_of-action.result < c.args.actions) × (c.action_of-action.result * row_on b + row_on b ≤ length c.args.moves.now) = let z : 0 < c.args.node = omega arith in
     let known : c.action_of-action.result < c.args.actions = omega (arith, c.requires.0.known z, c.action_of-action.ensures) in
     let sound = c.requires.0.sound in (
-      subst (λ (p : ℕ). RowIn (row_on board) c.args.table.now p) (sym c.parent_of-parent.ensures) (c.requires.0 z),
+      subst (λ (p : ℕ). RowIn (row_on board) c.args.table.now p) (sym c.parent_of-parent.ensures) (c.requires.0.before z),
       omega (arith, base_in board sound c.args.i c.requires.1, sound.bases_rise c.args.i c.requires.1, long),
       sound.few_all,
       known,
@@ -67,7 +67,7 @@ overflow_add-from-3 c =
     let room : let b = board in RowIn (row_on b) c.args.table.now c.parent_of-parent.result × (base_on b c.args.i + length c.args.out.now ≤ row_on b) × (row_on b ≤ 1024) × (c.action_of-action.result < c.args.actions) × (c.action_of-action.result * row_on b + row_on b ≤ length c.args.moves.now) = let z : 0 < c.args.node = omega arith in
     let known : c.action_of-action.result < c.args.actions = omega (arith, c.requires.0.known z, c.action_of-action.ensures) in
     let sound = c.requires.0.sound in (
-      subst (λ (p : ℕ). RowIn (row_on board) c.args.table.now p) (sym c.parent_of-parent.ensures) (c.requires.0 z),
+      subst (λ (p : ℕ). RowIn (row_on board) c.args.table.now p) (sym c.parent_of-parent.ensures) (c.requires.0.before z),
       omega (arith, base_in board sound c.args.i c.requires.1, sound.bases_rise c.args.i c.requires.1, long),
       sound.few_all,
       known,
@@ -82,7 +82,7 @@ overflow_add-from-4 c =
     let room : let b = board in RowIn (row_on b) c.args.table.now c.parent_of-parent.result × (base_on b c.args.i + length c.args.out.now ≤ row_on b) × (row_on b ≤ 1024) × (c.action_of-action.result < c.args.actions) × (c.action_of-action.result * row_on b + row_on b ≤ length c.args.moves.now) = let z : 0 < c.args.node = omega arith in
     let known : c.action_of-action.result < c.args.actions = omega (arith, c.requires.0.known z, c.action_of-action.ensures) in
     let sound = c.requires.0.sound in (
-      subst (λ (p : ℕ). RowIn (row_on board) c.args.table.now p) (sym c.parent_of-parent.ensures) (c.requires.0 z),
+      subst (λ (p : ℕ). RowIn (row_on board) c.args.table.now p) (sym c.parent_of-parent.ensures) (c.requires.0.before z),
       omega (arith, base_in board sound c.args.i c.requires.1, sound.bases_rise c.args.i c.requires.1, long),
       sound.few_all,
       known,
@@ -97,7 +97,7 @@ offset_bounds-table-from c =
     let room : let b = board in RowIn (row_on b) c.args.table.now c.parent_of-parent.result × (base_on b c.args.i + length c.args.out.now ≤ row_on b) × (row_on b ≤ 1024) × (c.action_of-action.result < c.args.actions) × (c.action_of-action.result * row_on b + row_on b ≤ length c.args.moves.now) = let z : 0 < c.args.node = omega arith in
     let known : c.action_of-action.result < c.args.actions = omega (arith, c.requires.0.known z, c.action_of-action.ensures) in
     let sound = c.requires.0.sound in (
-      subst (λ (p : ℕ). RowIn (row_on board) c.args.table.now p) (sym c.parent_of-parent.ensures) (c.requires.0 z),
+      subst (λ (p : ℕ). RowIn (row_on board) c.args.table.now p) (sym c.parent_of-parent.ensures) (c.requires.0.before z),
       omega (arith, base_in board sound c.args.i c.requires.1, sound.bases_rise c.args.i c.requires.1, long),
       sound.few_all,
       known,
@@ -112,7 +112,7 @@ slice_bounds-pass-end c =
     let room : let b = board in RowIn (row_on b) c.args.table.now c.parent_of-parent.result × (base_on b c.args.i + length c.args.out.now ≤ row_on b) × (row_on b ≤ 1024) × (c.action_of-action.result < c.args.actions) × (c.action_of-action.result * row_on b + row_on b ≤ length c.args.moves.now) = let z : 0 < c.args.node = omega arith in
     let known : c.action_of-action.result < c.args.actions = omega (arith, c.requires.0.known z, c.action_of-action.ensures) in
     let sound = c.requires.0.sound in (
-      subst (λ (p : ℕ). RowIn (row_on board) c.args.table.now p) (sym c.parent_of-parent.ensures) (c.requires.0 z),
+      subst (λ (p : ℕ). RowIn (row_on board) c.args.table.now p) (sym c.parent_of-parent.ensures) (c.requires.0.before z),
       omega (arith, base_in board sound c.args.i c.requires.1, sound.bases_rise c.args.i c.requires.1, long),
       sound.few_all,
       known,
@@ -127,7 +127,7 @@ overflow_mul-action c =
     let room : let b = board in RowIn (row_on b) c.args.table.now c.parent_of-parent.result × (base_on b c.args.i + length c.args.out.now ≤ row_on b) × (row_on b ≤ 1024) × (c.action_of-action.result < c.args.actions) × (c.action_of-action.result * row_on b + row_on b ≤ length c.args.moves.now) = let z : 0 < c.args.node = omega arith in
     let known : c.action_of-action.result < c.args.actions = omega (arith, c.requires.0.known z, c.action_of-action.ensures) in
     let sound = c.requires.0.sound in (
-      subst (λ (p : ℕ). RowIn (row_on board) c.args.table.now p) (sym c.parent_of-parent.ensures) (c.requires.0 z),
+      subst (λ (p : ℕ). RowIn (row_on board) c.args.table.now p) (sym c.parent_of-parent.ensures) (c.requires.0.before z),
       omega (arith, base_in board sound c.args.i c.requires.1, sound.bases_rise c.args.i c.requires.1, long),
       sound.few_all,
       known,
@@ -142,7 +142,7 @@ overflow_add-action c =
     let room : let b = board in RowIn (row_on b) c.args.table.now c.parent_of-parent.result × (base_on b c.args.i + length c.args.out.now ≤ row_on b) × (row_on b ≤ 1024) × (c.action_of-action.result < c.args.actions) × (c.action_of-action.result * row_on b + row_on b ≤ length c.args.moves.now) = let z : 0 < c.args.node = omega arith in
     let known : c.action_of-action.result < c.args.actions = omega (arith, c.requires.0.known z, c.action_of-action.ensures) in
     let sound = c.requires.0.sound in (
-      subst (λ (p : ℕ). RowIn (row_on board) c.args.table.now p) (sym c.parent_of-parent.ensures) (c.requires.0 z),
+      subst (λ (p : ℕ). RowIn (row_on board) c.args.table.now p) (sym c.parent_of-parent.ensures) (c.requires.0.before z),
       omega (arith, base_in board sound c.args.i c.requires.1, sound.bases_rise c.args.i c.requires.1, long),
       sound.few_all,
       known,
@@ -157,7 +157,7 @@ pass-requires c =
     let room : let b = board in RowIn (row_on b) c.args.table.now c.parent_of-parent.result × (base_on b c.args.i + length c.args.out.now ≤ row_on b) × (row_on b ≤ 1024) × (c.action_of-action.result < c.args.actions) × (c.action_of-action.result * row_on b + row_on b ≤ length c.args.moves.now) = let z : 0 < c.args.node = omega arith in
     let known : c.action_of-action.result < c.args.actions = omega (arith, c.requires.0.known z, c.action_of-action.ensures) in
     let sound = c.requires.0.sound in (
-      subst (λ (p : ℕ). RowIn (row_on board) c.args.table.now p) (sym c.parent_of-parent.ensures) (c.requires.0 z),
+      subst (λ (p : ℕ). RowIn (row_on board) c.args.table.now p) (sym c.parent_of-parent.ensures) (c.requires.0.before z),
       omega (arith, base_in board sound c.args.i c.requires.1, sound.bases_rise c.args.i c.requires.1, long),
       sound.few_all,
       known,
@@ -179,7 +179,7 @@ returns c =
     let room : let b = board in RowIn (row_on b) c.args.table.now c.parent_of-parent.result × (base_on b c.args.i + length c.args.out.now ≤ row_on b) × (row_on b ≤ 1024) × (c.action_of-action.result < c.args.actions) × (c.action_of-action.result * row_on b + row_on b ≤ length c.args.moves.now) = let z : 0 < c.args.node = omega arith in
     let known : c.action_of-action.result < c.args.actions = omega (arith, c.requires.0.known z, c.action_of-action.ensures) in
     let sound = c.requires.0.sound in (
-      subst (λ (p : ℕ). RowIn (row_on board) c.args.table.now p) (sym c.parent_of-parent.ensures) (c.requires.0 z),
+      subst (λ (p : ℕ). RowIn (row_on board) c.args.table.now p) (sym c.parent_of-parent.ensures) (c.requires.0.before z),
       omega (arith, base_in board sound c.args.i c.requires.1, sound.bases_rise c.args.i c.requires.1, long),
       sound.few_all,
       known,

@@ -20,15 +20,15 @@ room : (s : Start) → let b = board s in let a = s.args in
     × (base_on b a.i ≤ base_on b (a.i + 1)) × (a.state < states_on b a.i) × (row_on b ≤ 1024)
     × (a.action * row_on b + row_on b ≤ length a.moves.now) × (length a.table.now * 8 < 2 ^ 63) × (length a.moves.now < 2 ^ 64)
 room s =
-    let sound = s.requires.0.0 in
-    let rise = sound.bases_rise s.args.i s.requires.0.1 in (
-      s.requires.0.3,
-      s.requires.0.4,
-      omega (arith, base_in (board s) sound s.args.i s.requires.0.1, rise),
+    let sound = s.requires.sound.0 in
+    let rise = sound.bases_rise s.args.i s.requires.sound.1 in (
+      s.requires.sound.3,
+      s.requires.sound.4,
+      omega (arith, base_in (board s) sound s.args.i s.requires.sound.1, rise),
       rise,
-      s.requires.1.2,
+      s.requires.parent_value.2,
       sound.few_all,
-      row_in (board s) sound s.args.action s.requires.0.2,
+      row_in (board s) sound s.args.action s.requires.sound.2,
       s.well_formed.1.1.1.1.1.1.1.1.0.1,
       s.well_formed.1.1.1.0.0,
     )
@@ -82,8 +82,8 @@ slice_bounds-lowest_over-end c = omega (arith, room (goal.at.slice_bounds-lowest
 pub lowest_over-requires : goal.lowest_over-requires
 lowest_over-requires c =
     let a = c.args in
-    let many = ap length (lent (goal.at.lowest_over-requires c).Start) ∙ slice_length (board (goal.at.lowest_over-requires c).Start) c.requires.0.0 a.table.now a.i a.parent c.requires.0.1 c.requires.0.4 in
-    (rw many (moves_here (board (goal.at.lowest_over-requires c).Start) c.requires.0.0 c.args.i c.args.action c.requires.0.1 c.requires.0.2), rw many c.requires.1.2)
+    let many = ap length (lent (goal.at.lowest_over-requires c).Start) ∙ slice_length (board (goal.at.lowest_over-requires c).Start) c.requires.sound.0 a.table.now a.i a.parent c.requires.sound.1 c.requires.sound.4 in
+    (rw many (moves_here (board (goal.at.lowest_over-requires c).Start) c.requires.sound.0 c.args.i c.args.action c.requires.sound.1 c.requires.sound.2), rw many c.requires.parent_value.2)
 
 pub returns : goal.returns
 returns c =
@@ -91,6 +91,6 @@ returns c =
     let T = c.args.table.now in
     let i = c.args.i in
     c.lowest_over.ensures
-    ∙ over_here b T i c.args.node c.args.parent c.args.action c.args.state _ _ c.requires.1.0 c.requires.1.1
-    (lent (goal.at.returns c).Start ∙ slice_is b c.requires.0.0 T i c.args.parent c.requires.0.1)
-    (price_at b c.requires.0.0 T i c.args.node c.requires.0.1 c.requires.0.3 c.args.state c.requires.1.2)
+    ∙ over_here b T i c.args.node c.args.parent c.args.action c.args.state _ _ c.requires.parent_value.0 c.requires.parent_value.1
+    (lent (goal.at.returns c).Start ∙ slice_is b c.requires.sound.0 T i c.args.parent c.requires.sound.1)
+    (price_at b c.requires.sound.0 T i c.args.node c.requires.sound.1 c.requires.sound.3 c.args.state c.requires.parent_value.2)

@@ -22,7 +22,7 @@ sound : (s : Start) → Sound (board s)
 sound s =
     let a = s.args in
     (grounds_on a.task a.bases.now a.moves.now a.costs.now a.kinds.now a.starts.now a.table.now a.count
-    s.requires.0.0 s.requires.0.1 (lists s).0 (lists s).1 s.requires.1.0.0).sound
+    s.requires.valid.0 s.requires.valid.1 (lists s).0 (lists s).1 s.requires.real.0).sound
 
 pub overflow_mul-actions : goal.overflow_mul-actions
 overflow_mul-actions c =
@@ -30,8 +30,8 @@ overflow_mul-actions c =
 
 pub write_with-requires : goal.write_with-requires
 write_with-requires c =
-    record { valid = c.requires.0; real = c.requires.1.0; node_lt_count = (c.requires.1.1.0, c.requires.1.1.1, c.requires.1.1.2, roomy_small (board (goal.at.write_with-requires c).Start) (sound (goal.at.write_with-requires c).Start) 4096 c.if-actions-bases-le4096.true, c.requires.1.1.3) }
+    record { valid = c.requires.valid; real = c.requires.real; node_lt_count = (c.requires.node_lt_count.0, c.requires.node_lt_count.1, c.requires.node_lt_count.2, roomy_small (board (goal.at.write_with-requires c).Start) (sound (goal.at.write_with-requires c).Start) 4096 c.if-actions-bases-le4096.true, c.requires.node_lt_count.3) }
 
 pub write_with-requires-2 : goal.write_with-requires-2
 write_with-requires-2 c =
-    record { valid = c.requires.0; real = c.requires.1.0; node_lt_count = (c.requires.1.1.0, c.requires.1.1.1, c.requires.1.1.2, roomy_large (board (goal.at.write_with-requires-2 c).Start) (sound (goal.at.write_with-requires-2 c).Start), c.requires.1.1.3) }
+    record { valid = c.requires.valid; real = c.requires.real; node_lt_count = (c.requires.node_lt_count.0, c.requires.node_lt_count.1, c.requires.node_lt_count.2, roomy_large (board (goal.at.write_with-requires-2 c).Start) (sound (goal.at.write_with-requires-2 c).Start), c.requires.node_lt_count.3) }
