@@ -5,8 +5,9 @@
 
 ghost use Rattle.std.specs.Prelude.{◌≤◌};
 
-use libc::STDIN_FILENO;
-use report::print_answer;
+use report::{print_answer, read_full};
+use std::io;
+use std::io::Read;
 
 // The number that two bytes write, the more significant one first.
 fn joined(high: u8, low: u8) -> usize
@@ -15,30 +16,32 @@ fn joined(high: u8, low: u8) -> usize
     high as usize * 256 + low as usize
 }
 
-// Fills `rec` from standard input, prints its answer, and says whether the input had so many bytes.
-fn run_record(rec: &mut [u8]) -> bool {
-    if io::read_full(STDIN_FILENO, rec) < rec.len() {
-        return false;
+// Fills `rec` from the input, prints its answer, and says whether the input had so many bytes.
+fn run_record(rt: &impl Print, input: &mut impl Read, rec: &mut [u8]) -> io::Result<bool> {
+    if read_full(input, rec) < rec.len() {
+        return Ok(false);
     }
-    print_answer(rec);
-    true
+    print_answer(rt, rec)?;
+    Ok(true)
 }
 
 // Reads the length of a record, prints the record's answer, and says whether there was one.
-fn run_case() -> bool {
+fn run_case(rt: &impl Print, input: &mut impl Read) -> io::Result<bool> {
     let mut two = [0u8; 2];
-    if io::read_full(STDIN_FILENO, &mut two) < 2 {
-        return false;
+    if read_full(input, &mut two) < 2 {
+        return Ok(false);
     }
     let length = joined(two[0], two[1]);
     let mut rec = [0u8; 65535];
-    run_record(&mut rec[0..length])
+    run_record(rt, input, &mut rec[0..length])
 }
 
-fn main() {
+fn main(rt: HostRuntime) -> io::Result<()> {
+    let mut input = rt.reader();
     for _ in 0..1000000u64 {
-        if !run_case() {
-            return;
+        if !run_case(&rt, &mut input)? {
+            return Ok(());
         }
     }
+    Ok(())
 }
