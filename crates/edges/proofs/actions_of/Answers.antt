@@ -1,5 +1,4 @@
-use Rattle.std.proofs.Common.{◌≡◌, refl, ap, ◌∙◌, ◌-◌, ◌≤◌, le_antisymm, arith, length, length-set, eq-eqb, ne_eqb, rules}
-use Rattle.layer.specs.Lent.{Front}
+use Rattle.std.proofs.Common.{refl, ap, ◌∙◌, ◌-◌, le_antisymm, arith, length, length-set, eq-eqb, ne_eqb}
 use Rattle.edges.specs.Edges.{those, of_leaf}
 use Rattle.edges.specs.Edges.Those.{those_here, those_not, front_more}
 use Rattle.edges.proofs.actions_of.Goals as goal

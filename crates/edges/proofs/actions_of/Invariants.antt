@@ -1,9 +1,8 @@
 -- `edges::actions_of` meets its contract. The invariant: the leaf's actions so far stand at the front, and behind them the list is as it
 -- was. Assumes nothing.
-use Rattle.std.proofs.Common.{◌≡◌, refl, ap, ◌∙◌, ⊎_elim, ◌-◌, ◌≤◌, le_antisymm, arith, length, length-set, eq-eqb, ne_eqb, rules}
+use Rattle.std.proofs.Common.{◌≡◌, ◌-◌, ◌≤◌, length}
 use Rattle.layer.specs.Lent.{Front}
 use Rattle.edges.specs.Edges.{those, of_leaf}
-use Rattle.edges.specs.Edges.Those.{those_here, those_not, front_more}
 use Rattle.edges.proofs.actions_of.Given as goal
 
 abbrev pub invariant-loop-a : goal.invariant-loop-a

@@ -1,5 +1,4 @@
-use Rattle.std.proofs.Common.{◌≡◌, refl, ap, ◌∙◌, not, ◌+◌, ◌*◌, ◌-◌, ◌≤◌, ◌<◌, le_antisymm, arith, length, get_or, length-set, eq-eqb, ne_eqb, rules}
-use Rattle.layer.specs.Lent.{Front}
+use Rattle.std.proofs.Common.{refl, ap, ◌∙◌, not, ◌+◌, ◌*◌, ◌-◌, ◌<◌, le_antisymm, arith, length, get_or, length-set, eq-eqb, ne_eqb}
 use Rattle.edges.specs.Edges.{picked, moved_by}
 use Rattle.edges.specs.Edges.Those.{picked_here, picked_not, front_more}
 use Rattle.edges.proofs.edges_of.Goals as goal

@@ -1,9 +1,8 @@
 -- `edges::edges_of` meets its contract. The invariant: the edges so far stand at the front, and behind them the list is as it
 -- was. Assumes nothing.
-use Rattle.std.proofs.Common.{◌≡◌, refl, ap, ◌∙◌, ⊎_elim, not, ◌+◌, ◌*◌, ◌-◌, ◌≤◌, ◌<◌, le_antisymm, arith, length, get_or, length-set, eq-eqb, ne_eqb, rules}
+use Rattle.std.proofs.Common.{◌≡◌, ◌-◌, ◌≤◌, length}
 use Rattle.layer.specs.Lent.{Front}
 use Rattle.edges.specs.Edges.{picked, moved_by}
-use Rattle.edges.specs.Edges.Those.{picked_here, picked_not, front_more}
 use Rattle.edges.proofs.edges_of.Given as goal
 
 abbrev pub invariant-loop-j : goal.invariant-loop-j

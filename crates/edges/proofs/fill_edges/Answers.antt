@@ -1,6 +1,5 @@
-use Rattle.std.proofs.Common.{◌≡◌, refl, ◌∙◌, ◌-◌, ◌≤◌, le_antisymm, arith, length, get_or, length-set, rules}
+use Rattle.std.proofs.Common.{refl, ◌∙◌, ◌-◌, le_antisymm, arith, length-set}
 use Rattle.layer.specs.Lent.{board_of}
-use Rattle.edges.specs.Edges.{EdgesTo}
 use Rattle.edges.specs.Edges.Fill.{edges_none}
 use Rattle.edges.proofs.fill_edges.Goals as goal
 

@@ -1,8 +1,7 @@
 -- `edges::fill_edges` meets its contract. The invariant: the table has the edges of the first i leaves. Assumes nothing.
-use Rattle.std.proofs.Common.{◌≡◌, refl, ◌∙◌, ◌-◌, ◌≤◌, le_antisymm, arith, length, get_or, length-set, rules}
+use Rattle.std.proofs.Common.{◌≡◌, ◌-◌, ◌≤◌, length, get_or}
 use Rattle.layer.specs.Lent.{board_of}
 use Rattle.edges.specs.Edges.{EdgesTo}
-use Rattle.edges.specs.Edges.Fill.{edges_none}
 use Rattle.edges.proofs.fill_edges.Given as goal
 
 abbrev pub invariant-loop-i : goal.invariant-loop-i

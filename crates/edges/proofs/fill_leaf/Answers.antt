@@ -1,5 +1,5 @@
 -- `edges::fill_leaf` meets its contract: what is lent on is the front of the list, the leaf's actions. Assumes nothing.
-use Rattle.std.proofs.Common.{◌≡◌, arith, length, take, length-take, rules}
+use Rattle.std.proofs.Common.{◌≡◌, arith, length, take, length-take}
 use Rattle.layer.specs.Board.Turns.{front_these, front_many}
 use Rattle.edges.proofs.fill_leaf.Goals as goal
 use Rattle.edges.proofs.fill_leaf.Goals.{After-actions_of-count}

@@ -1,5 +1,5 @@
 -- `edges::fill_state` meets its contract: what is written at the front of the rest stands behind the states before. Assumes nothing.
-use Rattle.std.proofs.Common.{◌-◌, ◌≤◌, arith, length, get_or, drop, length-take, rules}
+use Rattle.std.proofs.Common.{◌-◌, ◌≤◌, arith, length, get_or, drop, length-take}
 use Rattle.edges.specs.Edges.Those.{front_fits}
 use Rattle.edges.specs.Edges.Fill.{wrote_at}
 use Rattle.edges.proofs.fill_state.Goals as goal

@@ -1,8 +1,8 @@
-use Rattle.std.proofs.Common.{◌≡◌, refl, ◌∙◌, ℕ, ◌-◌, ◌≤◌, ◌<◌, le_antisymm, arith, length, get_or, rules}
+use Rattle.std.proofs.Common.{◌≡◌, refl, ◌∙◌, ℕ, ◌-◌, ◌≤◌, ◌<◌, le_antisymm, arith, length, get_or}
 use Rattle.layer.specs.Board.{Board, row_on}
 use Rattle.layer.specs.Board.Turns.{base_in, row_in}
 use Rattle.layer.specs.Lent.{board_of}
-use Rattle.edges.specs.Edges.{those, of_leaf, moved_by, edge_by, edges_in, Listed}
+use Rattle.edges.specs.Edges.{those, of_leaf, moved_by, edge_by, edges_in}
 use Rattle.edges.specs.Edges.Those.{those_few, those_at, picked_those}
 use Rattle.edges.specs.Edges.Fill.{edges_more, edges_room}
 use Rattle.edges.proofs.fill_states.Goals as goal

@@ -1,11 +1,6 @@
 -- `edges::fill_states` meets its contract. The invariant: the table has the edges of the states below s. Assumes nothing.
-use Rattle.std.proofs.Common.{◌≡◌, refl, ◌∙◌, ℕ, ◌-◌, ◌≤◌, ◌<◌, le_antisymm, arith, length, get_or, rules}
-use Rattle.layer.specs.Board.{Board, row_on}
-use Rattle.layer.specs.Board.Turns.{base_in, row_in}
-use Rattle.layer.specs.Lent.{board_of}
-use Rattle.edges.specs.Edges.{those, of_leaf, moved_by, edge_by, edges_in, Listed}
-use Rattle.edges.specs.Edges.Those.{those_few, those_at, picked_those}
-use Rattle.edges.specs.Edges.Fill.{edges_more, edges_room}
+use Rattle.std.proofs.Common.{◌≡◌, ◌-◌, ◌≤◌, length}
+use Rattle.edges.specs.Edges.{Listed}
 use Rattle.edges.proofs.fill_states.Given as goal
 
 abbrev pub invariant-loop-s : goal.invariant-loop-s

@@ -1,7 +1,7 @@
-use Rattle.std.proofs.Common.{◌≡◌, refl, sym, ◌∙◌, Bool, true, List, [], ℕ, ◌+◌, ◌-◌, ◌*◌, ◌≤◌, arith, length, rules}
+use Rattle.std.proofs.Common.{◌≡◌, refl, sym, ◌∙◌, true, ℕ, ◌+◌, ◌-◌, ◌*◌, ◌≤◌, arith, length}
 use Rattle.loops.specs.Count.{all}
 use Rattle.loops.specs.Count.Laws.{all_more, all_not}
-use Rattle.layer.specs.Board.{Board, base_on, row_on, part_on, passes_on, applies_on}
+use Rattle.layer.specs.Board.{Board, base_on, row_on, passes_on, applies_on}
 use Rattle.layer.specs.Board.Turns.{base_in, moves_here, part_length, leaf_passes}
 use Rattle.layer.specs.Lent.{board_of}
 use Rattle.layer.proofs.applies.Invariants.{passed}

@@ -1,10 +1,7 @@
 -- `layer::applies` meets its contract. The invariant: in each leaf so far a state passes. Assumes nothing.
-use Rattle.std.proofs.Common.{◌≡◌, refl, sym, ◌∙◌, Bool, true, List, [], ℕ, ◌+◌, ◌-◌, ◌*◌, ◌≤◌, arith, length, rules}
-use borrow.Author.Tests.{not-true, not-false}
+use Rattle.std.proofs.Common.{◌≡◌, Bool, true, List, ℕ, ◌-◌, ◌≤◌}
 use Rattle.loops.specs.Count.{all}
-use Rattle.loops.specs.Count.Laws.{all_more, all_not}
-use Rattle.layer.specs.Board.{Board, base_on, row_on, part_on, passes_on, applies_on}
-use Rattle.layer.specs.Board.Turns.{base_in, moves_here, part_length, leaf_passes}
+use Rattle.layer.specs.Board.{Board, part_on, passes_on}
 use Rattle.layer.specs.Lent.{board_of}
 use Rattle.layer.proofs.applies.Given as goal
 

@@ -1,8 +1,7 @@
-use Rattle.std.proofs.Common.{◌≡◌, ◌∙◌, List, [], ℕ, ◌+◌, ◌*◌, ◌-◌, ◌≤◌, arith, length, get_or, rules}
-use Rattle.layer.specs.Board.{Board, base_on, row_on, part_on, pass_on, begin_on}
-use Rattle.layer.specs.Board.Turns.{base_in, moves_here, moves_stay, leaf_passed, part_length, Laid, laid_none, laid_more, laid_unreached}
+use Rattle.std.proofs.Common.{◌≡◌, ◌∙◌, ℕ, ◌+◌, ◌*◌, ◌-◌, ◌≤◌, arith, length}
+use Rattle.layer.specs.Board.{Board, base_on, row_on, pass_on, begin_on}
+use Rattle.layer.specs.Board.Turns.{base_in, moves_here, moves_stay, leaf_passed, part_length, laid_none, laid_more, laid_unreached}
 use Rattle.layer.specs.Lent.{board_of}
-use Rattle.layer.proofs.begin_layer.Invariants.{leaf}
 use Rattle.layer.proofs.begin_layer.Goals as goal
 
 pub loop-i-init : goal.loop-i-init

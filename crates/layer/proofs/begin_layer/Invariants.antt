@@ -1,8 +1,8 @@
 -- `layer::begin_layer` meets its contract. The invariant: what came through of the leaves so far stands one leaf's behind the other, and behind
 -- them the prices are as they were. Assumes nothing.
-use Rattle.std.proofs.Common.{◌≡◌, ◌∙◌, List, [], ℕ, ◌+◌, ◌*◌, ◌-◌, ◌≤◌, arith, length, get_or, rules}
-use Rattle.layer.specs.Board.{Board, base_on, row_on, part_on, pass_on, begin_on}
-use Rattle.layer.specs.Board.Turns.{base_in, moves_here, moves_stay, leaf_passed, part_length, Laid, laid_none, laid_more, laid_unreached}
+use Rattle.std.proofs.Common.{List, ℕ, ◌-◌, ◌≤◌, get_or}
+use Rattle.layer.specs.Board.{Board, part_on, pass_on}
+use Rattle.layer.specs.Board.Turns.{Laid}
 use Rattle.layer.specs.Lent.{board_of}
 use Rattle.layer.proofs.begin_layer.Given as goal
 

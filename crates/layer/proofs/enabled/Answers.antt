@@ -1,4 +1,4 @@
-use Rattle.std.proofs.Common.{◌≡◌, refl, sym, ap, ◌∙◌, ◌++◌, ◌-◌, ◌≤◌, le_antisymm, arith, length, drop, length-append, length-set, rules}
+use Rattle.std.proofs.Common.{refl, sym, ap, ◌∙◌, ◌-◌, le_antisymm, arith, length, length-append, length-set}
 use Rattle.layer.specs.Board.{enabled_on}
 use Rattle.layer.specs.Board.Turns.{enabled_here, enabled_not, push_more}
 use Rattle.layer.specs.Lent.{tests_of}

@@ -1,8 +1,7 @@
 -- `layer::enabled` meets its contract. The invariant: the enabled actions so far stand at the front, and behind them the list
 -- is as it was. Assumes nothing.
-use Rattle.std.proofs.Common.{◌≡◌, refl, sym, ap, ◌∙◌, ⊎_elim, ◌++◌, ◌-◌, ◌≤◌, le_antisymm, arith, length, drop, length-append, length-set, rules}
+use Rattle.std.proofs.Common.{◌≡◌, ◌++◌, ◌-◌, ◌≤◌, length, drop}
 use Rattle.layer.specs.Board.{enabled_on}
-use Rattle.layer.specs.Board.Turns.{enabled_here, enabled_not, push_more}
 use Rattle.layer.specs.Lent.{tests_of}
 use Rattle.layer.proofs.enabled.Given as goal
 

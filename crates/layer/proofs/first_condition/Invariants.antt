@@ -1,5 +1,5 @@
 -- `layer::first_condition` meets its contract. The loop only counts: the tests that led to the return tell the rest. Assumes nothing.
-use Rattle.std.proofs.Common.{◌-◌, ◌≤◌, arith, rules}
+use Rattle.std.proofs.Common.{◌-◌, ◌≤◌}
 use Rattle.layer.proofs.first_condition.Given as goal
 
 abbrev pub invariant-loop-v : goal.invariant-loop-v

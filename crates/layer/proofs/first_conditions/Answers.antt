@@ -1,5 +1,5 @@
-use Rattle.std.proofs.Common.{◌≡◌, refl, ℕ, ◌-◌, ◌≤◌, ◌<◌, not-suc-le-zero, arith, length, get_or, length-set, rules}
-use Rattle.layer.specs.First.{First, first_more, firsts_all}
+use Rattle.std.proofs.Common.{refl, ◌-◌, not-suc-le-zero, arith, length-set}
+use Rattle.layer.specs.First.{first_more, firsts_all}
 use Rattle.layer.proofs.first_conditions.Goals as goal
 
 pub loop-a-init : goal.loop-a-init

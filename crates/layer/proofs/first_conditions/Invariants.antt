@@ -1,6 +1,6 @@
 -- `layer::first_conditions` meets its contract. The invariant: the entries of the actions so far are right. Assumes nothing.
-use Rattle.std.proofs.Common.{◌≡◌, refl, ℕ, ◌-◌, ◌≤◌, ◌<◌, not-suc-le-zero, arith, length, get_or, length-set, rules}
-use Rattle.layer.specs.First.{First, first_more, firsts_all}
+use Rattle.std.proofs.Common.{◌≡◌, ℕ, ◌-◌, ◌≤◌, ◌<◌, length, get_or}
+use Rattle.layer.specs.First.{First}
 use Rattle.layer.proofs.first_conditions.Given as goal
 
 abbrev pub invariant-loop-a : goal.invariant-loop-a

@@ -1,9 +1,7 @@
-use Rattle.std.proofs.Common.{◌≡◌, ◌∙◌, List, ℕ, ◌+◌, ◌-◌, ◌≤◌, arith, length, get_or, rules}
-use Rattle.task.specs.declared.Centre.{Centre}
+use Rattle.std.proofs.Common.{◌≡◌, ◌∙◌, ℕ, ◌+◌, ◌-◌, ◌≤◌, arith, length}
 use Rattle.layer.specs.Board.{Board, base_on, row_on, first_on}
-use Rattle.layer.specs.Board.Turns.{base_in, part_length, Laid, laid_none, laid_more, laid_unreached}
-use Rattle.layer.specs.Lent.{board_of, first_leaf_on}
-use Rattle.layer.proofs.first_layer.Invariants.{leaf}
+use Rattle.layer.specs.Board.Turns.{base_in, part_length, laid_none, laid_more, laid_unreached}
+use Rattle.layer.specs.Lent.{board_of}
 use Rattle.layer.proofs.first_layer.Goals as goal
 
 pub loop-i-init : goal.loop-i-init

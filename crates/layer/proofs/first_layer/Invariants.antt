@@ -1,9 +1,9 @@
 -- `layer::first_layer` meets its contract. The invariant: the leaves so far stand one behind the other, as the first layer has them, and behind
 -- them the prices are as they were. Assumes nothing.
-use Rattle.std.proofs.Common.{◌≡◌, ◌∙◌, List, ℕ, ◌+◌, ◌-◌, ◌≤◌, arith, length, get_or, rules}
+use Rattle.std.proofs.Common.{List, ℕ, ◌-◌, ◌≤◌, get_or}
 use Rattle.task.specs.declared.Centre.{Centre}
-use Rattle.layer.specs.Board.{Board, base_on, row_on, first_on}
-use Rattle.layer.specs.Board.Turns.{base_in, part_length, Laid, laid_none, laid_more, laid_unreached}
+use Rattle.layer.specs.Board.{Board}
+use Rattle.layer.specs.Board.Turns.{Laid}
 use Rattle.layer.specs.Lent.{board_of, first_leaf_on}
 use Rattle.layer.proofs.first_layer.Given as goal
 

@@ -1,5 +1,5 @@
 -- `layer::first_leaf` meets its contract. What settles is the filled list, as it was lent, with 0 at the start. Assumes nothing.
-use Rattle.std.proofs.Common.{◌≡◌, ap, ◌∙◌, ◌+◌, ◌-◌, length, get_or, length-set, rules}
+use Rattle.std.proofs.Common.{◌≡◌, ap, ◌∙◌, ◌+◌, ◌-◌, length, get_or, length-set}
 use lib.ListN.{length-replicate}
 use Rattle.layer.proofs.first_leaf.Goals as goal
 use Rattle.layer.proofs.first_leaf.Goals.{Start}

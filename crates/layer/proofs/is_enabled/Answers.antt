@@ -1,5 +1,5 @@
 -- `layer::is_enabled` meets its contract. Each return computes, with the test that led there. Assumes nothing.
-use Rattle.std.proofs.Common.{arith, eq-eqb, ne_eqb, rules}
+use Rattle.std.proofs.Common.{arith, eq-eqb, ne_eqb}
 use Rattle.layer.proofs.is_enabled.Goals as goal
 
 pub overflow_cast-kinds : goal.overflow_cast-kinds

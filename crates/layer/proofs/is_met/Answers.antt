@@ -1,10 +1,7 @@
-use Rattle.std.proofs.Common.{◌≡◌, refl, ◌∙◌, Bool, not, ◌&&◌, ◌||◌, List, ℕ, ◌+◌, ◌*◌, ◌-◌, ◌≤◌, add-one, arith, eqb, get_or, rules}
+use Rattle.std.proofs.Common.{◌≡◌, refl, ◌∙◌, Bool, ◌&&◌, ℕ, ◌+◌, ◌-◌, add-one, arith}
 use Rattle.loops.specs.Count.{all}
-use Rattle.task.specs.declared.Centre.{Centre}
-use Rattle.task.specs.Meaning.{met}
 use Rattle.task.specs.Factors.{holds_in}
-use Rattle.task.specs.Centre.{value_in, centre_meets}
-use Rattle.layer.proofs.is_met.Invariants.{pair}
+use Rattle.task.specs.Centre.{centre_meets}
 use Rattle.layer.proofs.is_met.Goals as goal
 
 -- a turn of the loop

@@ -1,10 +1,9 @@
 -- `layer::is_met` meets its contract. The invariant: the flag tells whether the pairs on the first v variables hold. Assumes nothing.
-use Rattle.std.proofs.Common.{◌≡◌, refl, ◌∙◌, Bool, not, ◌&&◌, ◌||◌, List, ℕ, ◌+◌, ◌*◌, ◌-◌, ◌≤◌, add-one, arith, eqb, get_or, rules}
+use Rattle.std.proofs.Common.{◌≡◌, Bool, not, ◌||◌, List, ℕ, ◌+◌, ◌*◌, ◌-◌, ◌≤◌, eqb, get_or}
 use Rattle.loops.specs.Count.{all}
 use Rattle.task.specs.declared.Centre.{Centre}
 use Rattle.task.specs.Meaning.{met}
-use Rattle.task.specs.Factors.{holds_in}
-use Rattle.task.specs.Centre.{value_in, centre_meets}
+use Rattle.task.specs.Centre.{value_in}
 use Rattle.layer.proofs.is_met.Given as goal
 
 -- the pair on a variable, if it is the centre's, holds

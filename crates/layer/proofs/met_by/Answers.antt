@@ -1,5 +1,5 @@
 -- `layer::met_by` meets its contract. Where the condition tested first fails, they do not all hold. Assumes nothing.
-use Rattle.std.proofs.Common.{ap, sym, ◌∙◌, List, ℕ, get_or, rules}
+use Rattle.std.proofs.Common.{ap, sym, ◌∙◌, List, ℕ, get_or}
 use Rattle.layer.specs.First.{first_fails}
 use Rattle.layer.proofs.met_by.Goals as goal
 

@@ -1,5 +1,5 @@
 -- `layer::next_layer` meets its contract. What settles is the begin, and the begin, settled, is the layer. Assumes nothing.
-use Rattle.std.proofs.Common.{◌∙◌, rules}
+use Rattle.std.proofs.Common.{◌∙◌}
 use Rattle.layer.specs.Board.{Board}
 use Rattle.layer.specs.Board.Begin.{begin_next}
 use Rattle.layer.specs.Lent.{board_of}

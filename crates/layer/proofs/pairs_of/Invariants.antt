@@ -1,7 +1,6 @@
 -- `layer::pairs_of` meets its contract. The invariant: the entries so far are the action's. Assumes nothing.
-use Rattle.std.proofs.Common.{◌≡◌, refl, ◌++◌, append-nil, ◌+◌, ◌*◌, ◌-◌, ◌≤◌, arith, get_or, drop, replicate, rules}
+use Rattle.std.proofs.Common.{◌≡◌, ◌++◌, ◌+◌, ◌*◌, ◌-◌, ◌≤◌, get_or, drop, replicate}
 use Rattle.loops.specs.Count.{list}
-use Rattle.loops.specs.Count.Laws.{list_more}
 use Rattle.layer.proofs.pairs_of.Given as goal
 
 abbrev pub invariant-loop-v : goal.invariant-loop-v

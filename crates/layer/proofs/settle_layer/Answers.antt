@@ -1,9 +1,7 @@
-use Rattle.std.proofs.Common.{◌≡◌, ap, ◌∙◌, List, ℕ, ◌+◌, ◌-◌, ◌≤◌, arith, length, get_or, take, rules}
-use Rattle.task.specs.declared.Centre.{Centre}
-use Rattle.layer.specs.Board.{Board, base_on, settle_on, part_on, settled_on}
-use Rattle.layer.specs.Board.Turns.{base_in, part_length, Laid, laid_none, laid_more, laid_rest}
+use Rattle.std.proofs.Common.{◌≡◌, ap, ◌∙◌, List, ℕ, ◌+◌, ◌-◌, ◌≤◌, arith, length, take}
+use Rattle.layer.specs.Board.{Board, base_on, settle_on, settled_on}
+use Rattle.layer.specs.Board.Turns.{base_in, part_length, laid_none, laid_more, laid_rest}
 use Rattle.layer.specs.Lent.{board_of}
-use Rattle.layer.proofs.settle_layer.Invariants.{leaf}
 use Rattle.layer.proofs.settle_layer.Goals as goal
 
 pub loop-i-init : goal.loop-i-init

@@ -1,9 +1,9 @@
 -- `layer::settle_layer` meets its contract. The invariant: the leaves so far stand one behind the other, settled, and behind them the prices are
 -- as they were. Assumes nothing.
-use Rattle.std.proofs.Common.{◌≡◌, ap, ◌∙◌, List, ℕ, ◌+◌, ◌-◌, ◌≤◌, arith, length, get_or, take, rules}
+use Rattle.std.proofs.Common.{List, ℕ, ◌-◌, ◌≤◌, get_or}
 use Rattle.task.specs.declared.Centre.{Centre}
-use Rattle.layer.specs.Board.{Board, base_on, settle_on, part_on, settled_on}
-use Rattle.layer.specs.Board.Turns.{base_in, part_length, Laid, laid_none, laid_more, laid_rest}
+use Rattle.layer.specs.Board.{Board, settle_on, part_on}
+use Rattle.layer.specs.Board.Turns.{Laid}
 use Rattle.layer.specs.Lent.{board_of}
 use Rattle.layer.proofs.settle_layer.Given as goal
 

@@ -1,6 +1,6 @@
 -- `layer::settle_leaf` meets its contract. The actions at the front of the list are the enabled ones, and they can be lent to
 -- settling. Assumes nothing.
-use Rattle.std.proofs.Common.{◌≡◌, ◌∙◌, arith, length, take, length-take, rules}
+use Rattle.std.proofs.Common.{◌≡◌, ◌∙◌, arith, length, take, length-take}
 use Rattle.layer.specs.Board.{Board, enabled_on}
 use Rattle.layer.specs.Board.Turns.{enabled_part, front_these, front_many, leaf_lent, leaf_settled}
 use Rattle.layer.specs.Lent.{board_of}

@@ -1,6 +1,5 @@
-use Rattle.std.proofs.Common.{◌≤◌, ◌-◌, rules, cond, ◌≡◌, ap, sym, ◌∙◌, arith}
-use Rattle.layer.specs.First.{asks_of}
-use Rattle.mets.specs.Known.{Flagged, flagged_none, flagged_more}
+use Rattle.std.proofs.Common.{◌-◌, cond, ◌≡◌, ap, sym, ◌∙◌, arith}
+use Rattle.mets.specs.Known.{flagged_none, flagged_more}
 use Rattle.mets.proofs.find.Goals as goal
 
 pub loop-a-init : goal.loop-a-init

@@ -1,7 +1,7 @@
 -- `mets::find` meets its contract. The invariant: the flags of the actions so far are right. Assumes nothing.
-use Rattle.std.proofs.Common.{◌≤◌, ◌-◌, rules, cond, ◌≡◌, ap, sym, ◌∙◌, arith}
+use Rattle.std.proofs.Common.{◌≤◌, ◌-◌}
 use Rattle.layer.specs.First.{asks_of}
-use Rattle.mets.specs.Known.{Flagged, flagged_none, flagged_more}
+use Rattle.mets.specs.Known.{Flagged}
 use Rattle.mets.proofs.find.Given as goal
 
 abbrev pub invariant-loop-a : goal.invariant-loop-a

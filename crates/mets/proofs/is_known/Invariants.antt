@@ -1,6 +1,5 @@
 -- `mets::is_known` meets its contract. The invariant: where all was the same so far, the values are. Assumes nothing.
-use Rattle.std.proofs.Common.{◌≡◌, sym, true, true≢false, ℕ, ◌+◌, ◌-◌, ◌≤◌, ◌<◌, not-suc-le-zero, arith, get_or, below_more, rules, eqb-true}
-use Rattle.loops.specs.Count.Laws.{and_out}
+use Rattle.std.proofs.Common.{◌≡◌, true, ℕ, ◌+◌, ◌-◌, ◌≤◌, ◌<◌, get_or}
 use Rattle.mets.proofs.is_known.Given as goal
 
 abbrev pub invariant-loop-v : goal.invariant-loop-v

@@ -1,6 +1,6 @@
 -- `mets::list_flagged` meets its contract. The invariant: the actions so far whose flag is set are listed, and what stands before the list is as it was. Assumes nothing.
-use Rattle.std.proofs.Common.{◌≡◌, refl, sym, ◌∙◌, Bool, cond, List, ℕ, ◌+◌, ◌-◌, ◌≤◌, ◌<◌, arith, length, get_or, set, length-set, get_or-set_same, get_or-set_other}
-use Rattle.mets.specs.Listed.{Listed, listed_none, listed_ext, listed_more}
+use Rattle.std.proofs.Common.{◌≡◌, Bool, cond, ℕ, ◌+◌, ◌-◌, ◌≤◌, ◌<◌, length, get_or}
+use Rattle.mets.specs.Listed.{Listed}
 use Rattle.mets.proofs.list_flagged.Given as goal
 
 abbrev pub invariant-loop-a : goal.invariant-loop-a

@@ -1,5 +1,5 @@
 -- `mets::list_mets` meets its contract: the list stands in the slot, and is copied. Assumes nothing.
-use Rattle.std.proofs.Common.{refl, inr, arith, rules}
+use Rattle.std.proofs.Common.{refl, inr, arith}
 use Rattle.mets.specs.Known.{list_copied}
 use Rattle.mets.proofs.list_mets.Goals as goal
 

@@ -1,5 +1,5 @@
-use Rattle.std.proofs.Common.{◌≤◌, ◌-◌, rules, ◌≡◌, arith}
-use Rattle.mets.specs.Known.{Stored, stored_none, stored_more}
+use Rattle.std.proofs.Common.{◌-◌, ◌≡◌, arith}
+use Rattle.mets.specs.Known.{stored_none, stored_more}
 use Rattle.mets.proofs.store.Goals as goal
 
 pub loop-j-init : goal.loop-j-init

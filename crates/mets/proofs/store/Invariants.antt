@@ -1,6 +1,6 @@
 -- `mets::store` meets its contract. The invariant: the bytes so far stand in their places. Assumes nothing.
-use Rattle.std.proofs.Common.{◌≤◌, ◌-◌, rules, ◌≡◌, arith}
-use Rattle.mets.specs.Known.{Stored, stored_none, stored_more}
+use Rattle.std.proofs.Common.{◌≤◌, ◌-◌}
+use Rattle.mets.specs.Known.{Stored}
 use Rattle.mets.proofs.store.Given as goal
 
 abbrev pub invariant-loop-j : goal.invariant-loop-j

@@ -1,5 +1,5 @@
 -- `paths::advance` meets its contract: the tables say whether the action applies, and what the next layer is. Assumes nothing.
-use Rattle.std.proofs.Common.{◌≡◌, sym, ◌∙◌, arith, length, rules}
+use Rattle.std.proofs.Common.{◌≡◌, sym, ◌∙◌, arith, length}
 use Rattle.leaf.specs.Price.{mark}
 use Rattle.leaf.specs.Settle.Turns.{take_replicate}
 use Rattle.layer.specs.Board.{Board}

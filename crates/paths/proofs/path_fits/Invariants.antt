@@ -1,9 +1,7 @@
 -- `paths::path_fits` meets its contract: the entries before k are centre actions. Assumes nothing.
-use Rattle.std.proofs.Common.{◌≤◌, ◌-◌, ◌≡◌, refl, true, arith, length, get_or, rules, lt-ltb, eq-eqb}
+use Rattle.std.proofs.Common.{◌≤◌, ◌-◌, ◌≡◌, true, length}
 use Rattle.loops.specs.Count.{all}
-use Rattle.loops.specs.Count.Laws.{and_in, all_more}
 use Rattle.paths.specs.Paths.{entry_by}
-use Rattle.paths.specs.Paths.Laws.{fits_long, fits_high, fits_leaf, fits_all}
 use Rattle.paths.proofs.path_fits.Given as goal
 
 abbrev pub invariant-loop-k : goal.invariant-loop-k

@@ -1,4 +1,4 @@
-use Rattle.std.proofs.Common.{◌≤◌, ◌-◌, ◌≡◌, refl, ap, sym, ◌∙◌, false, arith, length, get_or, drop, rules}
+use Rattle.std.proofs.Common.{◌-◌, ◌≡◌, refl, ap, sym, ◌∙◌, false, arith, length, get_or, drop, rules}
 use lib.ListN.{length-replicate}
 use borrow.Author.Tests.{not-true, not-false}
 use Rattle.task.specs.Meaning.{factor, initial}
@@ -10,7 +10,7 @@ use Rattle.layer.specs.Board.{Board, Fits, Sound}
 use Rattle.layer.specs.Lent.{board_of}
 use Rattle.tables.specs.Fit.{start_in, tables_fit}
 use Rattle.price.specs.Path.{first_layer, walk}
-use Rattle.paths.specs.Paths.Laws.{AlongBy, front, walk_first, walk_end, along_more, along_stuck}
+use Rattle.paths.specs.Paths.Laws.{front, walk_first, walk_end, along_more, along_stuck}
 use Rattle.paths.proofs.walk_path.Goals as goal
 
 pub slice_bounds-first_layer-end : goal.slice_bounds-first_layer-end

@@ -1,16 +1,8 @@
 -- `paths::walk_path` meets its contract: what is left of the path goes from the layer where the whole goes from the first. Assumes nothing.
-use Rattle.std.proofs.Common.{◌≤◌, ◌-◌, ◌≡◌, refl, ap, sym, ◌∙◌, false, arith, length, get_or, drop, rules}
-use lib.ListN.{length-replicate}
-use Rattle.task.specs.Meaning.{factor, initial}
-use Rattle.task.specs.Centre.{centre_after}
-use Rattle.task.specs.Star.{initial_centre}
-use Rattle.leaf.specs.Price.{mark}
-use Rattle.leaf.specs.Settle.Turns.{take_replicate}
-use Rattle.layer.specs.Board.{Board, Fits, Sound}
+use Rattle.std.proofs.Common.{◌≤◌, ◌-◌, ◌≡◌, length}
+use Rattle.task.specs.Meaning.{initial}
 use Rattle.layer.specs.Lent.{board_of}
-use Rattle.tables.specs.Fit.{start_in, tables_fit}
-use Rattle.price.specs.Path.{first_layer, walk}
-use Rattle.paths.specs.Paths.Laws.{AlongBy, front, walk_first, walk_end, along_more, along_stuck}
+use Rattle.paths.specs.Paths.Laws.{AlongBy}
 use Rattle.paths.proofs.walk_path.Given as goal
 
 abbrev pub invariant-loop-k : goal.invariant-loop-k

@@ -1,5 +1,5 @@
 -- `paths::walk_task` meets its contract: the tables are the task's. Assumes nothing.
-use Rattle.std.proofs.Common.{◌≡◌, arith, length, rules}
+use Rattle.std.proofs.Common.{◌≡◌, arith, length}
 use Rattle.tables.specs.Fit.{moves_fit}
 use Rattle.paths.proofs.walk_task.Goals as goal
 

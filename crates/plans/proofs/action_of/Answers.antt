@@ -1,5 +1,5 @@
 -- `plans::action_of` meets its contract: the word stands in the node's row. Assumes nothing.
-use Rattle.std.proofs.Common.{sym, rules}
+use Rattle.std.proofs.Common.{sym}
 use Rattle.plans.specs.Walk.Laws.{action_at_lem}
 use Rattle.plans.proofs.action_of.Goals as goal
 

@@ -1,8 +1,8 @@
-use Rattle.std.proofs.Common.{sym, subst, ℕ, ◌-◌, ◌≤◌, ◌<◌, le_antisymm, arith, length, rules}
+use Rattle.std.proofs.Common.{sym, subst, ℕ, ◌-◌, ◌<◌, le_antisymm, arith, length}
 use Rattle.layer.specs.Board.{Board, row_on}
 use Rattle.layer.specs.Lent.{board_of}
-use Rattle.plans.specs.Walk.{over_on, RowIn}
-use Rattle.plans.specs.Walk.Turns.{OverLeft, over_none, over_more}
+use Rattle.plans.specs.Walk.{RowIn}
+use Rattle.plans.specs.Walk.Turns.{over_none, over_more}
 use Rattle.plans.proofs.go_over.Goals as goal
 
 pub parent_of-parent-requires : goal.parent_of-parent-requires

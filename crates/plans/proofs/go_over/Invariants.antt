@@ -1,9 +1,8 @@
 -- `plans::go_over` meets its contract. The invariant: the leaves so far are in the parent's layer, the others where they were. Assumes nothing.
-use Rattle.std.proofs.Common.{sym, subst, ℕ, ◌-◌, ◌≤◌, ◌<◌, le_antisymm, arith, length, rules}
-use Rattle.layer.specs.Board.{Board, row_on}
+use Rattle.std.proofs.Common.{◌-◌, ◌≤◌}
 use Rattle.layer.specs.Lent.{board_of}
-use Rattle.plans.specs.Walk.{over_on, RowIn}
-use Rattle.plans.specs.Walk.Turns.{OverLeft, over_none, over_more}
+use Rattle.plans.specs.Walk.{over_on}
+use Rattle.plans.specs.Walk.Turns.{OverLeft}
 use Rattle.plans.proofs.go_over.Given as goal
 
 abbrev pub invariant-loop-i : goal.invariant-loop-i

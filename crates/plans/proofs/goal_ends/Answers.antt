@@ -1,6 +1,5 @@
-use Rattle.std.proofs.Common.{◌≡◌, sym, ◌∙◌, ◌+◌, ◌-◌, ◌≤◌, le_antisymm, arith, length, get_or, length-set, rules}
+use Rattle.std.proofs.Common.{sym, ◌∙◌, ◌+◌, ◌-◌, ◌≤◌, le_antisymm, arith, length, get_or, length-set}
 use Rattle.layer.specs.Board.Turns.{part_length}
-use Rattle.digits.specs.Digits.{Filled}
 use Rattle.tables.specs.Tables.Laws.{filled_more}
 use Rattle.keys.specs.Scan.Laws.{cut_in}
 use Rattle.plans.specs.Walk.{goal_on}

@@ -1,9 +1,6 @@
 -- `plans::goal_ends` meets its contract. The invariant: the leaves so far have their goal states. Assumes nothing.
-use Rattle.std.proofs.Common.{◌≡◌, sym, ◌∙◌, ◌+◌, ◌-◌, ◌≤◌, le_antisymm, arith, length, get_or, length-set, rules}
-use Rattle.layer.specs.Board.Turns.{part_length}
+use Rattle.std.proofs.Common.{◌≡◌, ◌-◌, ◌≤◌, length}
 use Rattle.digits.specs.Digits.{Filled}
-use Rattle.tables.specs.Tables.Laws.{filled_more}
-use Rattle.keys.specs.Scan.Laws.{cut_in}
 use Rattle.plans.specs.Walk.{goal_on}
 use Rattle.plans.proofs.goal_ends.Given as goal
 

@@ -1,9 +1,9 @@
-use Rattle.std.proofs.Common.{◌≡◌, refl, sym, subst, ◌∙◌, ℕ, ◌+◌, ◌-◌, ◌≤◌, ◌<◌, arith, length, get_or, length-set, rules}
+use Rattle.std.proofs.Common.{refl, sym, subst, ◌∙◌, ℕ, ◌+◌, ◌-◌, ◌≤◌, ◌<◌, arith, length, get_or, length-set}
 use Rattle.leaf.specs.Price.{mark}
 use Rattle.layer.specs.Board.{Board}
 use Rattle.layer.specs.Lent.{board_of}
 use Rattle.plans.specs.Walk.{back_on, WalkableOn}
-use Rattle.plans.specs.Walk.Turns.{LayerLeft, layer_all, layer_less, layer_end}
+use Rattle.plans.specs.Walk.Turns.{layer_all, layer_less, layer_end}
 use Rattle.plans.specs.Fit.{back_few}
 use Rattle.plans.proofs.layer_back.Goals as goal
 

@@ -1,11 +1,8 @@
 -- `plans::layer_back` meets its contract. The invariant: what is left of the leaves is written from here as the whole from the start. Assumes nothing.
-use Rattle.std.proofs.Common.{◌≡◌, refl, sym, subst, ◌∙◌, ℕ, ◌+◌, ◌-◌, ◌≤◌, ◌<◌, arith, length, get_or, length-set, rules}
-use Rattle.leaf.specs.Price.{mark}
-use Rattle.layer.specs.Board.{Board}
+use Rattle.std.proofs.Common.{◌≡◌, ◌-◌, ◌≤◌, length}
 use Rattle.layer.specs.Lent.{board_of}
-use Rattle.plans.specs.Walk.{back_on, WalkableOn}
-use Rattle.plans.specs.Walk.Turns.{LayerLeft, layer_all, layer_less, layer_end}
-use Rattle.plans.specs.Fit.{back_few}
+use Rattle.plans.specs.Walk.{back_on}
+use Rattle.plans.specs.Walk.Turns.{LayerLeft}
 use Rattle.plans.proofs.layer_back.Given as goal
 
 abbrev pub invariant-loop-i : goal.invariant-loop-i

@@ -1,5 +1,5 @@
 -- `plans::layer_begin` meets its contract: node 0 begins in the initial state, another with what passes over its action. Assumes nothing.
-use Rattle.std.proofs.Common.{◌≡◌, sym, ap, subst, ◌∙◌, List, ℕ, ◌+◌, ◌-◌, ◌*◌, ◌≤◌, ◌<◌, arith, length, get_or, take, drop, rules}
+use Rattle.std.proofs.Common.{◌≡◌, sym, ap, subst, ◌∙◌, List, ℕ, ◌+◌, ◌-◌, ◌*◌, ◌≤◌, ◌<◌, arith, length, get_or, take, drop}
 use lib.ListN.{length-replicate}
 use Rattle.leaf.specs.Price.{mark}
 use Rattle.leaf.specs.Pass.{pass}

@@ -1,5 +1,5 @@
 -- `plans::leaf_over` meets its contract: it lends the leaf's prices in the parent's row, and reads the state's price in the node's. Assumes nothing.
-use Rattle.std.proofs.Common.{◌≡◌, ap, ◌∙◌, ℕ, ◌+◌, ◌-◌, ◌*◌, ◌≤◌, ◌<◌, ◌^◌, arith, length, take, drop, rules}
+use Rattle.std.proofs.Common.{◌≡◌, ap, ◌∙◌, ℕ, ◌+◌, ◌-◌, ◌*◌, ◌≤◌, ◌<◌, ◌^◌, arith, length, take, drop}
 use Rattle.layer.specs.Board.{Board, base_on, row_on, states_on}
 use Rattle.layer.specs.Board.Turns.{base_in, row_in, moves_here}
 use Rattle.layer.specs.Lent.{board_of}

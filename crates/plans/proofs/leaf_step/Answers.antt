@@ -1,5 +1,5 @@
 -- `plans::leaf_step` meets its contract: it lends what the layer began with. Assumes nothing.
-use Rattle.std.proofs.Common.{◌≡◌, sym, ap, ◌∙◌, ◌++◌, ◌+◌, ◌≤◌, arith, length, take, drop, replicate, length-append, length-take-le, take_at, rules}
+use Rattle.std.proofs.Common.{◌≡◌, sym, ap, ◌∙◌, ◌++◌, ◌+◌, ◌≤◌, arith, length, take, drop, replicate, length-append, length-take-le, take_at}
 use Rattle.leaf.specs.Price.{mark}
 use Rattle.leaf.specs.Settle.Turns.{take_replicate}
 use Rattle.layer.specs.Board.{Board, base_on, states_on}

@@ -1,6 +1,6 @@
 -- `plans::leaf_walk` meets its contract: from a state that has kept its price nothing is walked; else it lends the enabled actions and the leaf's
 -- prices in the node's row. Assumes nothing.
-use Rattle.std.proofs.Common.{◌≡◌, sym, ap, ◌∙◌, ℕ, ◌+◌, ◌-◌, ◌*◌, ◌≤◌, arith, length, take, drop, length-take, rules}
+use Rattle.std.proofs.Common.{◌≡◌, sym, ap, ◌∙◌, ℕ, ◌+◌, ◌-◌, ◌*◌, ◌≤◌, arith, length, take, drop, length-take}
 use Rattle.task.specs.declared.Centre.{Centre}
 use Rattle.layer.specs.Board.{Board, base_on, row_on, states_on, enabled_on}
 use Rattle.layer.specs.Board.Turns.{base_in, enabled_part, front_these, front_many}

@@ -1,8 +1,5 @@
-use Rattle.std.proofs.Common.{◌≡◌, refl, sym, ◌∙◌, Bool, List, ℕ, ◌-◌, ◌≤◌, not-suc-le-zero, le_antisymm, arith, eqb, length, get_or, below_more, rules, eq-eqb, ne_eqb}
-use Rattle.leaf.specs.Price.{mark}
-use Rattle.search.specs.Node.{least_of}
-use Rattle.search.specs.Plan.Lowest.{Fails, lowest_none}
-use Rattle.keys.specs.Scan.{goals_by}
+use Rattle.std.proofs.Common.{◌≡◌, refl, sym, ◌∙◌, ◌-◌, not-suc-le-zero, le_antisymm, arith, eqb, below_more, eq-eqb, ne_eqb}
+use Rattle.search.specs.Plan.Lowest.{lowest_none}
 use Rattle.wayback.specs.Lowest.{lowest_first}
 use Rattle.plans.specs.Walk.Laws.{goal_price}
 use Rattle.plans.proofs.lowest_goal.Invariants.{test}

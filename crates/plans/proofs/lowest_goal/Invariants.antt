@@ -1,11 +1,9 @@
 -- `plans::lowest_goal` meets its contract. The invariant: no state so far is a goal state of least price. Assumes nothing.
-use Rattle.std.proofs.Common.{◌≡◌, refl, sym, ◌∙◌, Bool, List, ℕ, ◌-◌, ◌≤◌, not-suc-le-zero, le_antisymm, arith, eqb, length, get_or, below_more, rules, eq-eqb, ne_eqb}
+use Rattle.std.proofs.Common.{◌≡◌, Bool, List, ℕ, ◌-◌, ◌≤◌, eqb, length, get_or}
 use Rattle.leaf.specs.Price.{mark}
 use Rattle.search.specs.Node.{least_of}
-use Rattle.search.specs.Plan.Lowest.{Fails, lowest_none}
+use Rattle.search.specs.Plan.Lowest.{Fails}
 use Rattle.keys.specs.Scan.{goals_by}
-use Rattle.wayback.specs.Lowest.{lowest_first}
-use Rattle.plans.specs.Walk.Laws.{goal_price}
 use Rattle.plans.proofs.lowest_goal.Given as goal
 
 -- state x is a goal state of least price

@@ -1,5 +1,5 @@
 -- `plans::node_back` meets its contract: the layer, the action before it, and over the action. Assumes nothing.
-use Rattle.std.proofs.Common.{◌+◌, ◌≤◌, arith, get_or, rules}
+use Rattle.std.proofs.Common.{◌+◌, ◌≤◌, arith, get_or}
 use Rattle.layer.specs.Board.{Board}
 use Rattle.layer.specs.Lent.{board_of}
 use Rattle.plans.specs.Walk.{over_on}

@@ -1,5 +1,5 @@
 -- `plans::parent_of` meets its contract: the word stands in the node's row. Assumes nothing.
-use Rattle.std.proofs.Common.{sym, rules}
+use Rattle.std.proofs.Common.{sym}
 use Rattle.plans.specs.Walk.Laws.{parent_at}
 use Rattle.plans.proofs.parent_of.Goals as goal
 

@@ -1,5 +1,5 @@
-use Rattle.std.proofs.Common.{◌≡◌, refl, ◌+◌, ◌-◌, ◌/◌, ◌≤◌, ◌<◌, arith, length, length-set, rules}
-use Rattle.plans.specs.Turned.{Turned, turned_none, turned_more, turned_all}
+use Rattle.std.proofs.Common.{refl, ◌+◌, ◌-◌, ◌<◌, arith, length, length-set}
+use Rattle.plans.specs.Turned.{turned_none, turned_more, turned_all}
 use Rattle.plans.proofs.turn_round.Goals as goal
 use Rattle.plans.proofs.turn_round.Goals.{In-loop-i}
 

@@ -1,6 +1,6 @@
 -- `plans::turn_round` meets its contract. The invariant: so many entries on each side have changed places. Assumes nothing.
-use Rattle.std.proofs.Common.{◌≡◌, refl, ◌+◌, ◌-◌, ◌/◌, ◌≤◌, ◌<◌, arith, length, length-set, rules}
-use Rattle.plans.specs.Turned.{Turned, turned_none, turned_more, turned_all}
+use Rattle.std.proofs.Common.{◌≡◌, ◌-◌, ◌/◌, ◌≤◌}
+use Rattle.plans.specs.Turned.{Turned}
 use Rattle.plans.proofs.turn_round.Given as goal
 
 abbrev pub invariant-loop-i : goal.invariant-loop-i

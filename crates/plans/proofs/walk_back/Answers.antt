@@ -1,5 +1,4 @@
 use Rattle.std.proofs.Common.{◌≡◌, refl, sym, subst, ◌∙◌, ℕ, ◌+◌, ◌*◌, ◌≤◌, ◌<◌, suc-mul, mul-le-mul, arith, length, get_or, rules}
-use Rattle.task.specs.declared.Task.{Task}
 use Rattle.task.specs.Factors.{all_states}
 use Rattle.leaf.specs.Price.{mark}
 use Rattle.layer.specs.Board.{Board, row_on}

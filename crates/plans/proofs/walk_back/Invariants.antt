@@ -1,19 +1,11 @@
 -- `plans::walk_back` meets its contract. The invariant: what is left, from where the walk is, ends as the whole from the start. Assumes nothing.
-use Rattle.std.proofs.Common.{◌≡◌, refl, sym, subst, ◌∙◌, ℕ, ◌+◌, ◌*◌, ◌≤◌, ◌<◌, suc-mul, mul-le-mul, arith, length, get_or, rules}
-use borrow.Author.Rules.{length_unmapped}
+use Rattle.std.proofs.Common.{◌≡◌, ◌+◌, ◌*◌, ◌≤◌, ◌<◌, length, get_or}
 use Rattle.task.specs.declared.Task.{Task}
-use Rattle.task.specs.Factors.{all_states}
-use Rattle.leaf.specs.Price.{mark}
-use Rattle.layer.specs.Board.{Board, row_on}
-use Rattle.layer.specs.Board.Laws.{row_on_lem}
+use Rattle.layer.specs.Board.{row_on}
 use Rattle.layer.specs.Lent.{board_of}
-use Rattle.search.specs.Plan.Backwards.{plan_back}
-use Rattle.search.specs.Plan.Laid.{laid}
 use Rattle.search.specs.Plan.Stages.{Priced}
-use Rattle.rows.specs.Row.{node_in}
-use Rattle.plans.specs.Walk.{held_in, Roomy, Standing}
-use Rattle.plans.specs.Fit.{Grounds, search_on, grounds_on, standing_on}
-use Rattle.plans.specs.Steps.{layer_few, walks, lands, Along, along_none, along_more, along_few, along_end}
+use Rattle.plans.specs.Fit.{Grounds, search_on}
+use Rattle.plans.specs.Steps.{Along}
 use Rattle.plans.proofs.walk_back.Given as goal
 
 abbrev pub invariant-loop-u : goal.invariant-loop-u

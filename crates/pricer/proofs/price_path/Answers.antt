@@ -1,5 +1,5 @@
 -- `pricer::price_path` meets its contract: where the walk ends, its last prices are copied out. Assumes nothing.
-use Rattle.std.proofs.Common.{◌≡◌, arith, length, rules}
+use Rattle.std.proofs.Common.{◌≡◌, arith, length}
 use borrow.Author.Tests.{not-true, not-false}
 use Rattle.tables.specs.Fit.{row_of}
 use Rattle.pricer.specs.Pricer.Laws.{end_stuck, end_prices}

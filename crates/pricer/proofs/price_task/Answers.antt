@@ -1,5 +1,5 @@
 -- `pricer::price_task` meets its contract: 12, then 21, then what the walk says. Assumes nothing.
-use Rattle.std.proofs.Common.{◌≡◌, sym, ◌∙◌, arith, get_or, rules}
+use Rattle.std.proofs.Common.{◌≡◌, sym, ◌∙◌, arith, get_or}
 use Rattle.task.specs.Factors.{all_states}
 use Rattle.tables.specs.Fit.{row_of}
 use Rattle.pricer.specs.Pricer.{path_fits}

@@ -1,5 +1,5 @@
 -- `pricer::prices` meets its contract: what the reader accepts is priced, and what the answer says of sequences follows. Assumes nothing.
-use Rattle.std.proofs.Common.{ap, sym, ◌∙◌, rules}
+use Rattle.std.proofs.Common.{ap, sym, ◌∙◌}
 use Rattle.record.specs.Record.{verdict_number}
 use Rattle.pricer.specs.Pricer.{task_prices}
 use Rattle.pricer.specs.Pricer.Laws.{record_refused, record_accepted, outcome_says}

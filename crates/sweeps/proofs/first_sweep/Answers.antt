@@ -1,7 +1,6 @@
-use Rattle.std.proofs.Common.{◌≡◌, refl, ◌∙◌, ℕ, ◌+◌, ◌-◌, ◌≤◌, arith, length, rules}
+use Rattle.std.proofs.Common.{refl, ◌∙◌, ◌+◌, ◌-◌, arith}
 use Rattle.leaf.specs.Price.{mark}
-use Rattle.leaf.specs.Settle.Sweeps.{Swept, swept_none, swept_join}
-use Rattle.sweeps.specs.Sweeps.{Meant}
+use Rattle.leaf.specs.Settle.Sweeps.{swept_none, swept_join}
 use Rattle.sweeps.proofs.first_sweep.Goals as goal
 
 pub loop-prices-init : goal.loop-prices-init

@@ -1,7 +1,7 @@
 -- `sweeps::first_sweep` meets its contract. The invariant: the states below x set out. Assumes nothing.
-use Rattle.std.proofs.Common.{◌≡◌, refl, ◌∙◌, ℕ, ◌+◌, ◌-◌, ◌≤◌, arith, length, rules}
+use Rattle.std.proofs.Common.{◌≡◌, ℕ, ◌-◌, ◌≤◌, length}
 use Rattle.leaf.specs.Price.{mark}
-use Rattle.leaf.specs.Settle.Sweeps.{Swept, swept_none, swept_join}
+use Rattle.leaf.specs.Settle.Sweeps.{Swept}
 use Rattle.sweeps.specs.Sweeps.{Meant}
 use Rattle.sweeps.proofs.first_sweep.Given as goal
 

@@ -1,5 +1,5 @@
 -- `sweeps::follow` meets its contract. Where the flag is not set, no price is lowered; else the sum, capped at the mark, lowers one. Assumes nothing.
-use Rattle.std.proofs.Common.{sym, arith, rules}
+use Rattle.std.proofs.Common.{sym, arith}
 use Rattle.leaf.specs.Price.{mark}
 use Rattle.leaf.specs.Settle.Turns.{lower_none}
 use Rattle.leaf.specs.Settle.Sweeps.{fell_none}

@@ -1,5 +1,5 @@
 -- `sweeps::four_far` meets its contract: where all four tests hold, no price of the four is below the mark. Assumes nothing.
-use Rattle.std.proofs.Common.{◌≡◌, List, ℕ, ◌+◌, ◌≤◌, ◌<◌, arith, length, get_or, rules, leb-true}
+use Rattle.std.proofs.Common.{◌≡◌, List, ℕ, ◌+◌, ◌≤◌, ◌<◌, arith, length, get_or, leb-true}
 use native.Mathlib.Decide.{ℕ_discrete}
 use Rattle.loops.specs.Count.Laws.{and_out}
 use Rattle.leaf.specs.Price.{mark}

@@ -1,8 +1,8 @@
-use Rattle.std.proofs.Common.{◌≡◌, refl, ◌∙◌, ℕ, ◌+◌, ◌-◌, ◌*◌, ◌≤◌, ◌<◌, min, le_antisymm, arith, length, get_or, rules}
+use Rattle.std.proofs.Common.{◌≡◌, refl, ◌∙◌, ◌+◌, ◌-◌, ◌*◌, ◌<◌, min, le_antisymm, arith, length, get_or}
 use Rattle.leaf.specs.Price.{mark}
 use Rattle.leaf.specs.Settle.{relax}
 use Rattle.leaf.specs.Settle.Turns.{at_any, relax_more}
-use Rattle.leaf.specs.Settle.Sweeps.{Fell, fell_none, fell_join}
+use Rattle.leaf.specs.Settle.Sweeps.{fell_none, fell_join}
 use Rattle.leaf.specs.Lent.{cost_by}
 use Rattle.sweeps.specs.Sweeps.{move_met}
 use Rattle.sweeps.proofs.relax_along.Goals as goal

@@ -1,10 +1,9 @@
 -- `sweeps::relax_along` meets its contract. The invariant: the first j actions have lowered the prices, and what fell is told. No price is
 -- above the mark, so a sum capped at the mark lowers as the sum itself does. Assumes nothing.
-use Rattle.std.proofs.Common.{◌≡◌, refl, ◌∙◌, ℕ, ◌+◌, ◌-◌, ◌*◌, ◌≤◌, ◌<◌, min, le_antisymm, arith, length, get_or, rules}
+use Rattle.std.proofs.Common.{◌≡◌, ℕ, ◌-◌, ◌≤◌, length, get_or}
 use Rattle.leaf.specs.Price.{mark}
 use Rattle.leaf.specs.Settle.{relax}
-use Rattle.leaf.specs.Settle.Turns.{at_any, relax_more}
-use Rattle.leaf.specs.Settle.Sweeps.{Fell, fell_none, fell_join}
+use Rattle.leaf.specs.Settle.Sweeps.{Fell}
 use Rattle.leaf.specs.Lent.{cost_by}
 use Rattle.sweeps.specs.Sweeps.{move_met}
 use Rattle.sweeps.proofs.relax_along.Given as goal

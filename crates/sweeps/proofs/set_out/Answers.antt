@@ -1,5 +1,5 @@
 -- `sweeps::set_out` meets its contract. The state is not reached, or its edges lower prices, as any actions with the same edges do. Assumes nothing.
-use Rattle.std.proofs.Common.{◌≡◌, refl, ◌∙◌, ◌+◌, ◌≤◌, arith, length, get_or, length-set, rules}
+use Rattle.std.proofs.Common.{◌≡◌, refl, ◌∙◌, ◌+◌, ◌≤◌, arith, length, get_or, length-set}
 use Rattle.leaf.specs.Price.{mark}
 use Rattle.leaf.specs.Settle.Turns.{at_any}
 use Rattle.leaf.specs.Settle.Sweeps.{visit_far, visit_near}

@@ -1,5 +1,4 @@
 -- `sweeps::set_out_four` meets its contract. None of the states is reached, or they set out. Assumes nothing.
-use Rattle.std.proofs.Common.{rules}
 use Rattle.leaf.specs.Price.{mark}
 use Rattle.leaf.specs.Settle.Sweeps.{visit_far, reach_next}
 use Rattle.sweeps.proofs.set_out_four.Goals as goal

@@ -1,7 +1,7 @@
 -- `sweeps::set_out_part` meets its contract. The invariant: the states from `from` to x set out. Assumes nothing.
-use Rattle.std.proofs.Common.{◌≡◌, refl, ◌∙◌, ℕ, ◌+◌, ◌-◌, ◌≤◌, le_antisymm, arith, length, rules}
+use Rattle.std.proofs.Common.{◌≡◌, ℕ, ◌-◌, ◌≤◌, length}
 use Rattle.leaf.specs.Price.{mark}
-use Rattle.leaf.specs.Settle.Sweeps.{Swept, swept_none, swept_join, reach_next}
+use Rattle.leaf.specs.Settle.Sweeps.{Swept}
 use Rattle.sweeps.specs.Sweeps.{Meant}
 use Rattle.sweeps.proofs.set_out_part.Given as goal
 

@@ -1,9 +1,8 @@
-use Rattle.std.proofs.Common.{◌≡◌, refl, ◌∙◌, List, ℕ, arith, length, rules}
+use Rattle.std.proofs.Common.{◌≡◌, refl, ◌∙◌, arith, length, rules}
 use Rattle.leaf.specs.Price.{mark}
 use Rattle.leaf.specs.Settle.Walks.{Capped}
 use Rattle.leaf.specs.Settle.Turns.{at_most}
-use Rattle.leaf.specs.Settle.Sweeps.{total, Sweeping, sweeping_start, sweeping_end}
-use Rattle.sweeps.specs.Sweeps.{Meant}
+use Rattle.leaf.specs.Settle.Sweeps.{sweeping_start, sweeping_end}
 use Rattle.sweeps.proofs.settle_along.Goals as goal
 
 pub first_sweep-requires : goal.first_sweep-requires

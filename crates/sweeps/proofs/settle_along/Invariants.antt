@@ -1,12 +1,9 @@
 -- `sweeps::settle_along` meets its contract. After the first sweep, for any actions that lead where the edges do, no price is above its start price, each is
 -- what a walk costs, and no action leads from a clean state to one at less than its price; the invariant: that stays so. The sum of the prices falls
 -- with each turn. Assumes nothing.
-use Rattle.std.proofs.Common.{◌≡◌, refl, ◌∙◌, List, ℕ, arith, length, rules}
-use borrow.Author.Tests.{not-true}
+use Rattle.std.proofs.Common.{◌≡◌, List, ℕ, length}
 use Rattle.leaf.specs.Price.{mark}
-use Rattle.leaf.specs.Settle.Walks.{Capped}
-use Rattle.leaf.specs.Settle.Turns.{at_most}
-use Rattle.leaf.specs.Settle.Sweeps.{total, Sweeping, sweeping_start, sweeping_end}
+use Rattle.leaf.specs.Settle.Sweeps.{total, Sweeping}
 use Rattle.sweeps.specs.Sweeps.{Meant}
 use Rattle.sweeps.proofs.settle_along.Given as goal
 

@@ -1,13 +1,11 @@
-use Rattle.std.proofs.Common.{◌≡◌, refl, ap, ◌∙◌, false, List, ℕ, ◌+◌, ◌-◌, ◌≤◌, arith, length, get_or, take, rules}
+use Rattle.std.proofs.Common.{◌≡◌, refl, ap, ◌∙◌, List, ℕ, ◌+◌, ◌-◌, ◌≤◌, arith, length, take}
 use Rattle.loops.specs.Count.{any}
-use Rattle.task.specs.declared.Centre.{Centre}
-use Rattle.layer.specs.Board.{Board, base_on, settle_on, part_on, settled_on}
-use Rattle.layer.specs.Board.Turns.{base_in, part_length, Laid, laid_none, laid_more, laid_rest}
+use Rattle.layer.specs.Board.{Board, base_on, settle_on, settled_on}
+use Rattle.layer.specs.Board.Turns.{base_in, part_length, laid_none, laid_more, laid_rest}
 use Rattle.layer.specs.Lent.{board_of}
 use Rattle.leaf.specs.Settle.Sweeps.{or_false}
-use Rattle.sweeps.specs.Sweeps.{some_met, edges_of, swept_by}
+use Rattle.sweeps.specs.Sweeps.{swept_by}
 use Rattle.sweeps.specs.Sweeps.Still.{any_next, put_back}
-use Rattle.sweeps.proofs.settle_edges.Invariants.{leaf}
 use Rattle.sweeps.proofs.settle_edges.Goals as goal
 
 pub loop-i-init : goal.loop-i-init

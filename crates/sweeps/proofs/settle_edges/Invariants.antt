@@ -1,14 +1,12 @@
 -- `sweeps::settle_edges` meets its contract. The invariant: the leaves so far stand one behind the other, settled, and behind them the prices are
 -- as they were. Assumes nothing.
-use Rattle.std.proofs.Common.{◌≡◌, refl, ap, ◌∙◌, false, List, ℕ, ◌+◌, ◌-◌, ◌≤◌, arith, length, get_or, take, rules}
+use Rattle.std.proofs.Common.{◌≡◌, false, List, ℕ, ◌-◌, ◌≤◌, get_or}
 use Rattle.loops.specs.Count.{any}
 use Rattle.task.specs.declared.Centre.{Centre}
-use Rattle.layer.specs.Board.{Board, base_on, settle_on, part_on, settled_on}
-use Rattle.layer.specs.Board.Turns.{base_in, part_length, Laid, laid_none, laid_more, laid_rest}
+use Rattle.layer.specs.Board.{Board, settle_on, part_on}
+use Rattle.layer.specs.Board.Turns.{Laid}
 use Rattle.layer.specs.Lent.{board_of}
-use Rattle.leaf.specs.Settle.Sweeps.{or_false}
-use Rattle.sweeps.specs.Sweeps.{some_met, edges_of, swept_by}
-use Rattle.sweeps.specs.Sweeps.Still.{any_next, put_back}
+use Rattle.sweeps.specs.Sweeps.{some_met, edges_of}
 use Rattle.sweeps.proofs.settle_edges.Given as goal
 
 -- the prices of the leaf behind k leaves, settled

@@ -1,4 +1,4 @@
-use Rattle.std.proofs.Common.{◌≡◌, refl, sym, ap, ◌∙◌, Bool, false, not, ℕ, ◌-◌, ◌≤◌, le_antisymm, arith, eqb, length, get_or, rules, eq-eqb, ne_eqb}
+use Rattle.std.proofs.Common.{refl, sym, ap, ◌∙◌, Bool, false, not, ℕ, ◌-◌, le_antisymm, arith, eqb, length, get_or, eq-eqb, ne_eqb}
 use Rattle.loops.specs.Count.{any}
 use Rattle.loops.specs.Count.Laws.{any_in, any_more}
 use Rattle.sweeps.specs.Sweeps.{some_met}

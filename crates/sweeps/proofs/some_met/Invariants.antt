@@ -1,8 +1,7 @@
 -- `sweeps::some_met` meets its contract. The invariant: the flags of the first j actions are not set. An action is a byte, and there are flags for
 -- all bytes. Assumes nothing.
-use Rattle.std.proofs.Common.{◌≡◌, refl, sym, ap, ◌∙◌, Bool, false, not, ℕ, ◌-◌, ◌≤◌, le_antisymm, arith, eqb, length, get_or, rules, eq-eqb, ne_eqb}
+use Rattle.std.proofs.Common.{◌≡◌, false, not, ◌-◌, ◌≤◌, eqb, length, get_or}
 use Rattle.loops.specs.Count.{any}
-use Rattle.loops.specs.Count.Laws.{any_in, any_more}
 use Rattle.sweeps.specs.Sweeps.{some_met}
 use Rattle.sweeps.proofs.some_met.Given as goal
 

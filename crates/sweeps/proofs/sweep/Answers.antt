@@ -1,7 +1,6 @@
-use Rattle.std.proofs.Common.{◌≡◌, refl, ◌∙◌, ℕ, ◌+◌, ◌-◌, ◌≤◌, le_antisymm, arith, length, rules}
+use Rattle.std.proofs.Common.{refl, ◌∙◌, ◌+◌, ◌-◌, le_antisymm, arith}
 use Rattle.leaf.specs.Price.{mark}
-use Rattle.leaf.specs.Settle.Sweeps.{Swept, swept_none, swept_join}
-use Rattle.sweeps.specs.Sweeps.{Meant}
+use Rattle.leaf.specs.Settle.Sweeps.{swept_none, swept_join}
 use Rattle.sweeps.proofs.sweep.Goals as goal
 
 pub loop-x-init : goal.loop-x-init

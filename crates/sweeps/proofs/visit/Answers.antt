@@ -1,5 +1,5 @@
 -- `sweeps::visit` meets its contract. The state is clean, or it sets out. Assumes nothing.
-use Rattle.std.proofs.Common.{inl, rules}
+use Rattle.std.proofs.Common.{inl}
 use Rattle.leaf.specs.Price.{mark}
 use Rattle.leaf.specs.Settle.Sweeps.{visit_clean}
 use Rattle.sweeps.proofs.visit.Goals as goal

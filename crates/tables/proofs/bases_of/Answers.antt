@@ -1,6 +1,6 @@
-use Rattle.std.proofs.Common.{◌≡◌, refl, ◌+◌, ◌-◌, ◌≤◌, le_antisymm, arith, length, length-set, rules}
+use Rattle.std.proofs.Common.{◌≡◌, refl, ◌+◌, ◌-◌, le_antisymm, arith, length-set}
 use Rattle.loops.specs.Count.{sum}
-use Rattle.digits.specs.Digits.{entries, Filled, start_of}
+use Rattle.digits.specs.Digits.{entries, start_of}
 use Rattle.digits.specs.Digits.Laws.{start_capped, start_few}
 use Rattle.tables.specs.Tables.Laws.{filled_more}
 use Rattle.tables.proofs.bases_of.Goals as goal

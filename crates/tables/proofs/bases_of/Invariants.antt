@@ -1,10 +1,8 @@
 -- `tables::bases_of` meets its contract. The invariant: each entry up to the i-th counts the states of the leaves before, and the sum is the
 -- last of them; no leaf has more than 256 states, so the cap leaves each count as it is. Assumes nothing.
-use Rattle.std.proofs.Common.{◌≡◌, refl, ◌+◌, ◌-◌, ◌≤◌, le_antisymm, arith, length, length-set, rules}
+use Rattle.std.proofs.Common.{◌≡◌, ◌+◌, ◌-◌, ◌≤◌, length}
 use Rattle.loops.specs.Count.{sum}
 use Rattle.digits.specs.Digits.{entries, Filled, start_of}
-use Rattle.digits.specs.Digits.Laws.{start_capped, start_few}
-use Rattle.tables.specs.Tables.Laws.{filled_more}
 use Rattle.tables.proofs.bases_of.Given as goal
 
 abbrev pub invariant-loop-i : goal.invariant-loop-i

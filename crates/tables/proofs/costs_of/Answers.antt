@@ -1,6 +1,4 @@
-use Rattle.std.proofs.Common.{◌≡◌, ap, ℕ, ◌+◌, ◌-◌, ◌≤◌, le_antisymm, arith, length, get_or, length-set, rules}
-use Rattle.drive.specs.Drive.{drive_time}
-use Rattle.digits.specs.Digits.{Filled}
+use Rattle.std.proofs.Common.{ap, ℕ, ◌+◌, ◌-◌, le_antisymm, arith, get_or, length-set}
 use Rattle.tables.specs.Tables.Laws.{filled_more}
 use Rattle.tables.proofs.costs_of.Goals as goal
 

@@ -1,8 +1,7 @@
 -- `tables::costs_of` meets its contract. The invariant: the first a entries are the costs of the actions. Assumes nothing.
-use Rattle.std.proofs.Common.{◌≡◌, ap, ℕ, ◌+◌, ◌-◌, ◌≤◌, le_antisymm, arith, length, get_or, length-set, rules}
+use Rattle.std.proofs.Common.{◌≡◌, ◌+◌, ◌-◌, ◌≤◌, length, get_or}
 use Rattle.drive.specs.Drive.{drive_time}
 use Rattle.digits.specs.Digits.{Filled}
-use Rattle.tables.specs.Tables.Laws.{filled_more}
 use Rattle.tables.proofs.costs_of.Given as goal
 
 abbrev pub invariant-loop-a : goal.invariant-loop-a

@@ -1,9 +1,8 @@
-use Rattle.std.proofs.Common.{◌≡◌, refl, sym, ◌∙◌, false, true≢false, suc, ◌-◌, ◌≤◌, le_antisymm, arith, rules}
+use Rattle.std.proofs.Common.{refl, sym, ◌∙◌, false, true≢false, ◌-◌, le_antisymm, arith}
 use Rattle.loops.specs.Count.Laws.{told}
 use Rattle.loops.specs.Count.{any}
 use Rattle.task.specs.Factors.{leaf_pairs}
 use Rattle.whole.specs.Whole.Laws.{star_more, star_none}
-use Rattle.digits.specs.Digits.{entries, entries_from}
 use Rattle.tables.specs.Tables.Laws.{kind_centre, kind_leaf}
 use Rattle.tables.proofs.kind_of.Goals as goal
 

@@ -1,12 +1,9 @@
 -- `tables::kind_of` meets its contract. The invariant: the pairs are a leaf action's of no leaf so far; they do not touch the centre, so some
 -- leaf is left. Assumes nothing.
-use Rattle.std.proofs.Common.{◌≡◌, refl, sym, ◌∙◌, false, true≢false, suc, ◌-◌, ◌≤◌, le_antisymm, arith, rules}
-use Rattle.loops.specs.Count.Laws.{told}
+use Rattle.std.proofs.Common.{◌≡◌, false, suc, ◌-◌, ◌≤◌}
 use Rattle.loops.specs.Count.{any}
 use Rattle.task.specs.Factors.{leaf_pairs}
-use Rattle.whole.specs.Whole.Laws.{star_more, star_none}
 use Rattle.digits.specs.Digits.{entries, entries_from}
-use Rattle.tables.specs.Tables.Laws.{kind_centre, kind_leaf}
 use Rattle.tables.proofs.kind_of.Given as goal
 
 abbrev pub invariant-loop-i : goal.invariant-loop-i

@@ -1,8 +1,7 @@
 -- `tables::kinds_of` meets its contract. The invariant: the first a entries are the kinds of the actions. Assumes nothing.
-use Rattle.std.proofs.Common.{◌≡◌, refl, List, ℕ, ◌-◌, ◌*◌, ◌≤◌, le_antisymm, not-suc-le-zero, arith, length, length-set, rules}
+use Rattle.std.proofs.Common.{◌≡◌, List, ℕ, ◌-◌, ◌*◌, ◌≤◌, length}
 use Rattle.digits.specs.Digits.{entries, entries_from, Each}
 use Rattle.tables.specs.Tables.{KindIs}
-use Rattle.tables.specs.Tables.Laws.{each_more}
 use Rattle.tables.proofs.kinds_of.Given as goal
 
 -- entry x is the kind of action k

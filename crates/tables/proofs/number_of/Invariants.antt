@@ -1,9 +1,7 @@
 -- `tables::number_of` meets its contract. The invariant: the number is that of the variables so far, which is below 256. Assumes nothing.
-use Rattle.std.proofs.Common.{◌≡◌, refl, ◌∙◌, ⊎_elim, ◌-◌, ◌≤◌, le_antisymm, arith, rules}
-use Rattle.loops.specs.Count.Laws.{told}
+use Rattle.std.proofs.Common.{◌≡◌, ◌-◌, ◌≤◌}
 use Rattle.task.specs.Factors.{number_to}
 use Rattle.digits.specs.Digits.{entries}
-use Rattle.tables.specs.Tables.Laws.{number_on, number_by, number_fits}
 use Rattle.tables.proofs.number_of.Given as goal
 
 abbrev pub invariant-loop-v : goal.invariant-loop-v

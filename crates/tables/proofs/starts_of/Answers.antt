@@ -1,6 +1,4 @@
-use Rattle.std.proofs.Common.{◌≡◌, suc, ◌-◌, ◌≤◌, le_antisymm, add-one, arith, length, length-set, rules}
-use Rattle.task.specs.Factors.{number_to}
-use Rattle.digits.specs.Digits.{entries, Filled}
+use Rattle.std.proofs.Common.{◌-◌, le_antisymm, add-one, arith, length-set, rules}
 use Rattle.tables.specs.Tables.Laws.{filled_more}
 use Rattle.tables.proofs.starts_of.Goals as goal
 

@@ -1,8 +1,7 @@
 -- `tables::starts_of` meets its contract. The invariant: the first i entries are the numbers of the leaves' states. Assumes nothing.
-use Rattle.std.proofs.Common.{◌≡◌, suc, ◌-◌, ◌≤◌, le_antisymm, add-one, arith, length, length-set, rules}
+use Rattle.std.proofs.Common.{◌≡◌, suc, ◌-◌, ◌≤◌, length}
 use Rattle.task.specs.Factors.{number_to}
 use Rattle.digits.specs.Digits.{entries, Filled}
-use Rattle.tables.specs.Tables.Laws.{filled_more}
 use Rattle.tables.proofs.starts_of.Given as goal
 
 abbrev pub invariant-loop-i : goal.invariant-loop-i

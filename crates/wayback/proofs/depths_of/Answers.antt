@@ -1,5 +1,5 @@
 -- `wayback::depths_of` meets its contract. Depths are what settling makes of where they begin, along the edges at cost 1. Assumes nothing.
-use Rattle.std.proofs.Common.{◌≡◌, refl, sym, ap, ◌∙◌, ℕ, ◌-◌, arith, length, take, drop, length-drop, rules}
+use Rattle.std.proofs.Common.{◌≡◌, refl, sym, ap, ◌∙◌, ℕ, ◌-◌, arith, length, take, drop, length-drop}
 use lib.Seq.{take-length}
 use Rattle.wayback.specs.Steps.{depths_by}
 use Rattle.wayback.proofs.depths_of.Goals as goal

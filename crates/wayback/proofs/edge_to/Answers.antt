@@ -1,5 +1,5 @@
 -- `wayback::edge_to` meets its contract: an action without an index has no edge; of another the move is read. Assumes nothing.
-use Rattle.std.proofs.Common.{sym, ◌∙◌, ◌+◌, ◌*◌, ◌<◌, arith, length, get_or, rules}
+use Rattle.std.proofs.Common.{sym, ◌∙◌, ◌+◌, ◌*◌, ◌<◌, arith, length, get_or}
 use Rattle.sweeps.specs.Sweeps.Leaf.{gated_shut, gated_open}
 use Rattle.wayback.proofs.edge_to.Goals as goal
 

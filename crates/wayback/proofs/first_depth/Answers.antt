@@ -1,5 +1,5 @@
 -- `wayback::first_depth` meets its contract. Each return computes, with the tests that led there. Assumes nothing.
-use Rattle.std.proofs.Common.{arith, get_or, lt-ltb, le-ltb, eq-eqb, ne_eqb, rules}
+use Rattle.std.proofs.Common.{arith, get_or, lt-ltb, le-ltb, eq-eqb, ne_eqb}
 use Rattle.leaf.specs.Price.{mark}
 use Rattle.leaf.specs.Settle.Turns.{at_any}
 use Rattle.wayback.proofs.first_depth.Goals as goal

@@ -1,8 +1,7 @@
-use Rattle.std.proofs.Common.{◌≡◌, refl, ◌∙◌, cond, ◌&&◌, List, ◌++◌, append-nil, ℕ, ◌-◌, ◌≤◌, arith, ltb, eqb, length, get_or, drop, length-set, rules}
+use Rattle.std.proofs.Common.{◌≡◌, refl, ◌∙◌, append-nil, ◌-◌, arith, length, length-set}
 use lib.Seq.{drop-length}
 use Rattle.loops.specs.Count.{list}
 use Rattle.loops.specs.Count.Laws.{list_more}
-use Rattle.leaf.specs.Price.{mark}
 use Rattle.wayback.proofs.first_depths.Invariants.{start}
 use Rattle.wayback.proofs.first_depths.Goals as goal
 

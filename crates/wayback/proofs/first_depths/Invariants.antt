@@ -1,8 +1,6 @@
 -- `wayback::first_depths` meets its contract. The invariant: the depths so far are those where depths begin. Assumes nothing.
-use Rattle.std.proofs.Common.{◌≡◌, refl, ◌∙◌, cond, ◌&&◌, List, ◌++◌, append-nil, ℕ, ◌-◌, ◌≤◌, arith, ltb, eqb, length, get_or, drop, length-set, rules}
-use lib.Seq.{drop-length}
+use Rattle.std.proofs.Common.{◌≡◌, cond, ◌&&◌, List, ◌++◌, ℕ, ◌-◌, ◌≤◌, ltb, eqb, length, get_or, drop}
 use Rattle.loops.specs.Count.{list}
-use Rattle.loops.specs.Count.Laws.{list_more}
 use Rattle.leaf.specs.Price.{mark}
 use Rattle.wayback.proofs.first_depths.Given as goal
 

@@ -1,5 +1,4 @@
-use Rattle.std.proofs.Common.{◌≡◌, refl, ◌-◌, ◌≤◌, arith, length, length-set, rules}
-use Rattle.wayback.specs.Woven.{IndexedFrom}
+use Rattle.std.proofs.Common.{◌≡◌, refl, ◌-◌, arith, length-set}
 use Rattle.wayback.specs.Woven.Laws.{index_none, index_more}
 use Rattle.wayback.proofs.index_of.Goals as goal
 

@@ -1,7 +1,6 @@
 -- `wayback::index_of` meets its contract. The invariant: the actions from the j-th on have their index. Assumes nothing.
-use Rattle.std.proofs.Common.{◌≡◌, refl, ◌-◌, ◌≤◌, arith, length, length-set, rules}
+use Rattle.std.proofs.Common.{◌≡◌, ◌-◌, ◌≤◌, length}
 use Rattle.wayback.specs.Woven.{IndexedFrom}
-use Rattle.wayback.specs.Woven.Laws.{index_none, index_more}
 use Rattle.wayback.proofs.index_of.Given as goal
 
 abbrev pub invariant-loop-j : goal.invariant-loop-j

@@ -1,5 +1,5 @@
 -- `wayback::keep_lower` meets its contract. Each return is what it should be, by the tests that led there. Assumes nothing.
-use Rattle.std.proofs.Common.{◌≡◌, refl, inl, inr, ◌-◌, arith, rules}
+use Rattle.std.proofs.Common.{◌≡◌, refl, inl, inr, ◌-◌, arith}
 use Rattle.wayback.proofs.keep_lower.Goals as goal
 
 pub returns-then-q-eq0 : goal.returns-then-q-eq0

@@ -1,6 +1,6 @@
 -- `wayback::leaf_back` meets its contract. Without an action nothing is walked; else the tight edges of the actions are listed, and their way is the
 -- one meant. Assumes nothing.
-use Rattle.std.proofs.Common.{refl, List, ℕ, ◌≤◌, ◌<◌, arith, length, length-take, rules}
+use Rattle.std.proofs.Common.{refl, List, ℕ, ◌≤◌, ◌<◌, arith, length, length-take}
 use lib.ListN.{length-replicate}
 use Rattle.leaf.specs.Settle.Steps.{replicate_at}
 use Rattle.wayback.specs.Woven.{Backed}

@@ -1,5 +1,5 @@
 -- `wayback::lowest_over` meets its contract. The action's moves of the leaf are a row. Assumes nothing.
-use Rattle.std.proofs.Common.{◌∙◌, rules}
+use Rattle.std.proofs.Common.{◌∙◌}
 use Rattle.wayback.specs.Rows.{lowest_part}
 use Rattle.wayback.proofs.lowest_over.Goals as goal
 

@@ -1,7 +1,7 @@
-use Rattle.std.proofs.Common.{◌≡◌, refl, sym, ◌∙◌, Bool, ◌&&◌, List, ℕ, suc, ◌+◌, ◌-◌, ◌≤◌, not-suc-le-zero, le_antisymm, add-one, arith, eqb, length, get_or, below_more, rules}
+use Rattle.std.proofs.Common.{◌≡◌, refl, sym, ◌∙◌, ◌-◌, not-suc-le-zero, le_antisymm, add-one, arith, below_more}
 use Rattle.leaf.specs.Price.{mark}
 use Rattle.leaf.specs.Settle.Turns.{at_any}
-use Rattle.search.specs.Plan.Lowest.{Fails, lowest_none}
+use Rattle.search.specs.Plan.Lowest.{lowest_none}
 use Rattle.wayback.specs.Lowest.{lowest_first}
 use Rattle.wayback.proofs.lowest_source.Invariants.{test}
 use Rattle.wayback.proofs.lowest_source.Goals as goal

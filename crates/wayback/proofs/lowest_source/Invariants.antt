@@ -1,9 +1,7 @@
 -- `wayback::lowest_source` meets its contract. The invariant: no state so far is a source. Assumes nothing.
-use Rattle.std.proofs.Common.{◌≡◌, refl, sym, ◌∙◌, Bool, ◌&&◌, List, ℕ, suc, ◌+◌, ◌-◌, ◌≤◌, not-suc-le-zero, le_antisymm, add-one, arith, eqb, length, get_or, below_more, rules}
+use Rattle.std.proofs.Common.{◌≡◌, Bool, ◌&&◌, List, ℕ, suc, ◌+◌, ◌-◌, ◌≤◌, eqb, length, get_or}
 use Rattle.leaf.specs.Price.{mark}
-use Rattle.leaf.specs.Settle.Turns.{at_any}
-use Rattle.search.specs.Plan.Lowest.{Fails, lowest_none}
-use Rattle.wayback.specs.Lowest.{lowest_first}
+use Rattle.search.specs.Plan.Lowest.{Fails}
 use Rattle.wayback.proofs.lowest_source.Given as goal
 
 -- state x is a source

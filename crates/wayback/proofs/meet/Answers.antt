@@ -1,5 +1,5 @@
 -- `wayback::meet` meets its contract: no edge changes nothing, and the state that an edge leads to keeps what it should. Assumes nothing.
-use Rattle.std.proofs.Common.{◌≡◌, ◌-◌, ◌<◌, arith, length, rules}
+use Rattle.std.proofs.Common.{◌≡◌, ◌-◌, ◌<◌, arith, length}
 use Rattle.leaf.specs.Price.{mark}
 use Rattle.leaf.specs.Settle.Turns.{at_any}
 use Rattle.wayback.specs.Least.{edge_none, edge_met}

@@ -1,5 +1,5 @@
 -- `wayback::put` meets its contract. Each return computes, with the test that led there. Assumes nothing.
-use Rattle.std.proofs.Common.{lt-ltb, le-ltb, rules}
+use Rattle.std.proofs.Common.{lt-ltb, le-ltb}
 use Rattle.search.specs.Plan.Laid.{put}
 use Rattle.wayback.proofs.put.Goals as goal
 

@@ -1,10 +1,10 @@
-use Rattle.std.proofs.Common.{◌≡◌, refl, ◌∙◌, ℕ, ◌+◌, ◌-◌, ◌≤◌, ◌<◌, arith, length, get_or, replicate, rules}
+use Rattle.std.proofs.Common.{◌≡◌, refl, ◌∙◌, ℕ, ◌+◌, ◌-◌, ◌≤◌, ◌<◌, arith, length, get_or, replicate}
 use lib.ListN.{length-replicate}
 use Rattle.leaf.specs.Settle.Steps.{replicate_at}
 use Rattle.leaf.specs.Settle.Turns.{at_any}
 use Rattle.edges.specs.Edges.{edges_at}
 use Rattle.wayback.specs.Woven.{Leading}
-use Rattle.wayback.specs.Least.{AllMet, all_none, all_more}
+use Rattle.wayback.specs.Least.{all_none, all_more}
 use Rattle.wayback.proofs.sources_of.Goals as goal
 
 pub loop-x-init : goal.loop-x-init

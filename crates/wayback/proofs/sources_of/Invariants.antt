@@ -1,11 +1,6 @@
 -- `wayback::sources_of` meets its contract. The invariant: the edges of the states so far are met. Assumes nothing.
-use Rattle.std.proofs.Common.{◌≡◌, refl, ◌∙◌, ℕ, ◌+◌, ◌-◌, ◌≤◌, ◌<◌, arith, length, get_or, replicate, rules}
-use lib.ListN.{length-replicate}
-use Rattle.leaf.specs.Settle.Steps.{replicate_at}
-use Rattle.leaf.specs.Settle.Turns.{at_any}
-use Rattle.edges.specs.Edges.{edges_at}
-use Rattle.wayback.specs.Woven.{Leading}
-use Rattle.wayback.specs.Least.{AllMet, all_none, all_more}
+use Rattle.std.proofs.Common.{◌≡◌, ◌-◌, ◌≤◌, length}
+use Rattle.wayback.specs.Least.{AllMet}
 use Rattle.wayback.proofs.sources_of.Given as goal
 
 abbrev pub invariant-loop-x : goal.invariant-loop-x

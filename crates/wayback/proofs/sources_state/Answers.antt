@@ -1,7 +1,7 @@
-use Rattle.std.proofs.Common.{◌≡◌, refl, ◌∙◌, ℕ, ◌+◌, ◌-◌, ◌*◌, ◌≤◌, ◌<◌, arith, length, get_or, rules}
+use Rattle.std.proofs.Common.{◌≡◌, refl, ◌∙◌, ℕ, ◌+◌, ◌-◌, ◌*◌, ◌≤◌, ◌<◌, arith, length, get_or}
 use Rattle.leaf.specs.Price.{mark}
 use Rattle.leaf.specs.Settle.Turns.{at_any}
-use Rattle.wayback.specs.Least.{StateMet, state_none, state_more}
+use Rattle.wayback.specs.Least.{state_none, state_more}
 use Rattle.wayback.proofs.sources_state.Goals as goal
 
 pub loop-k-init : goal.loop-k-init

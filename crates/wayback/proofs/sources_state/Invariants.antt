@@ -1,8 +1,7 @@
 -- `wayback::sources_state` meets its contract. The invariant: the edges so far are met. Assumes nothing.
-use Rattle.std.proofs.Common.{◌≡◌, refl, ◌∙◌, ℕ, ◌+◌, ◌-◌, ◌*◌, ◌≤◌, ◌<◌, arith, length, get_or, rules}
+use Rattle.std.proofs.Common.{◌≡◌, ◌-◌, ◌≤◌, length, get_or}
 use Rattle.leaf.specs.Price.{mark}
-use Rattle.leaf.specs.Settle.Turns.{at_any}
-use Rattle.wayback.specs.Least.{StateMet, state_none, state_more}
+use Rattle.wayback.specs.Least.{StateMet}
 use Rattle.wayback.proofs.sources_state.Given as goal
 
 abbrev pub invariant-loop-k : goal.invariant-loop-k

@@ -1,6 +1,5 @@
-use Rattle.std.proofs.Common.{◌≡◌, refl, ◌∙◌, ◌+◌, ◌-◌, ◌≤◌, ◌<◌, add-zero, arith, length, get_or, length-set, get_or-set_same, rules}
+use Rattle.std.proofs.Common.{◌≡◌, refl, ◌∙◌, ◌+◌, ◌-◌, ◌≤◌, ◌<◌, add-zero, arith, length, get_or, length-set, get_or-set_same}
 use Rattle.edges.specs.Edges.{edges_at}
-use Rattle.wayback.specs.Woven.{edge_at, Listed}
 use Rattle.wayback.specs.Woven.Laws.{part_size, listed_none, listed_more}
 use Rattle.wayback.proofs.tight_edges.Goals as goal
 

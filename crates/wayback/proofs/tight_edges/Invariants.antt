@@ -1,9 +1,8 @@
 -- `wayback::tight_edges` meets its contract. The invariant: the tight edges of the states so far are listed, no more than edges were read. Assumes
 -- nothing.
-use Rattle.std.proofs.Common.{◌≡◌, refl, ◌∙◌, ◌+◌, ◌-◌, ◌≤◌, ◌<◌, add-zero, arith, length, get_or, length-set, get_or-set_same, rules}
+use Rattle.std.proofs.Common.{◌≡◌, ◌+◌, ◌-◌, ◌≤◌, length, get_or}
 use Rattle.edges.specs.Edges.{edges_at}
 use Rattle.wayback.specs.Woven.{edge_at, Listed}
-use Rattle.wayback.specs.Woven.Laws.{part_size, listed_none, listed_more}
 use Rattle.wayback.proofs.tight_edges.Given as goal
 
 abbrev pub invariant-loop-x : goal.invariant-loop-x

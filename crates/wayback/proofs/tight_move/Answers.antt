@@ -1,5 +1,5 @@
 -- `wayback::tight_move` meets its contract. Each return is a case of the definition: no state, another price, the right price. Assumes nothing.
-use Rattle.std.proofs.Common.{sym, arith, rules}
+use Rattle.std.proofs.Common.{sym, arith}
 use Rattle.wayback.specs.Tight.{tight_none, tight_hit, tight_miss}
 use Rattle.wayback.proofs.tight_move.Goals as goal
 

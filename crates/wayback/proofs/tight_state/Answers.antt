@@ -1,5 +1,5 @@
-use Rattle.std.proofs.Common.{◌≡◌, refl, sym, ap, ◌∙◌, ℕ, ◌-◌, ◌≤◌, arith, length, length-set, rules}
-use Rattle.wayback.specs.Woven.{edge_at, Picked}
+use Rattle.std.proofs.Common.{◌≡◌, refl, sym, ap, ◌∙◌, ℕ, ◌-◌, arith, length, length-set}
+use Rattle.wayback.specs.Woven.{edge_at}
 use Rattle.wayback.specs.Woven.Laws.{picked_none, picked_not, picked_here}
 use Rattle.wayback.proofs.tight_state.Goals as goal
 use Rattle.wayback.proofs.tight_state.Goals.{then-edge_to-ne0, else-edge_to-ne0}

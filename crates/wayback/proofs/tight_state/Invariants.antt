@@ -1,7 +1,6 @@
 -- `wayback::tight_state` meets its contract. The invariant: of the actions so far those with an edge are picked. Assumes nothing.
-use Rattle.std.proofs.Common.{◌≡◌, refl, sym, ap, ◌∙◌, ⊎_elim, ℕ, ◌-◌, ◌≤◌, arith, length, length-set, rules}
+use Rattle.std.proofs.Common.{◌≡◌, ◌-◌, ◌≤◌, length}
 use Rattle.wayback.specs.Woven.{edge_at, Picked}
-use Rattle.wayback.specs.Woven.Laws.{picked_none, picked_not, picked_here}
 use Rattle.wayback.proofs.tight_state.Given as goal
 
 abbrev pub invariant-loop-k : goal.invariant-loop-k

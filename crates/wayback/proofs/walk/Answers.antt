@@ -1,10 +1,10 @@
-use Rattle.std.proofs.Common.{◌≡◌, refl, ◌∙◌, ℕ, suc, ◌+◌, ◌-◌, ◌*◌, ◌/◌, ◌%◌, ◌≤◌, ◌<◌, arith, length, get_or, rules}
+use Rattle.std.proofs.Common.{◌≡◌, refl, ◌∙◌, ℕ, suc, ◌+◌, ◌-◌, ◌*◌, ◌/◌, ◌%◌, ◌<◌, arith, length, get_or}
 use Rattle.leaf.specs.Price.{mark}
 use Rattle.leaf.specs.Settle.Turns.{at_any}
-use Rattle.wayback.specs.Steps.{entry_by, origin_by, back_by}
+use Rattle.wayback.specs.Steps.{entry_by, origin_by}
 use Rattle.wayback.specs.Sources.{Leads, source_taken}
 use Rattle.wayback.specs.Least.{Guided, place_row, place_entry}
-use Rattle.wayback.specs.Walked.{LeftAt, left_more, left_end}
+use Rattle.wayback.specs.Walked.{left_more, left_end}
 use Rattle.wayback.proofs.walk.Goals as goal
 
 pub loop-k-init : goal.loop-k-init

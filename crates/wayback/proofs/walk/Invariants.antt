@@ -1,11 +1,9 @@
 -- `wayback::walk` meets its contract. The invariant: what is left of the way, from here, ends as the whole does from the start. Assumes nothing.
-use Rattle.std.proofs.Common.{◌≡◌, refl, ◌∙◌, ℕ, suc, ◌+◌, ◌-◌, ◌*◌, ◌/◌, ◌%◌, ◌≤◌, ◌<◌, arith, length, get_or, rules}
+use Rattle.std.proofs.Common.{◌≡◌, ◌+◌, ◌-◌, ◌≤◌, ◌<◌, length, get_or}
 use Rattle.leaf.specs.Price.{mark}
-use Rattle.leaf.specs.Settle.Turns.{at_any}
-use Rattle.wayback.specs.Steps.{entry_by, origin_by, back_by}
-use Rattle.wayback.specs.Sources.{Leads, source_taken}
-use Rattle.wayback.specs.Least.{Guided, place_row, place_entry}
-use Rattle.wayback.specs.Walked.{LeftAt, left_more, left_end}
+use Rattle.wayback.specs.Steps.{back_by}
+use Rattle.wayback.specs.Least.{Guided}
+use Rattle.wayback.specs.Walked.{LeftAt}
 use Rattle.wayback.proofs.walk.Given as goal
 
 abbrev pub invariant-loop-k : goal.invariant-loop-k
