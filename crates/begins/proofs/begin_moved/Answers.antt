@@ -1,10 +1,9 @@
-use Rattle.std.proofs.Common.{◌≡◌, sym, ap, ◌∙◌, List, [], ◌++◌, ℕ, ◌+◌, ◌*◌, ◌-◌, ◌≤◌, ◌<◌, arith, length, get_or, take, drop, rules}
-use Rattle.layer.specs.Board.{Board, base_on, row_on, part_on, pass_on, begin_on}
-use Rattle.layer.specs.Board.Turns.{base_in, moves_here, moves_stay, leaf_passed, part_length, Laid, laid_none, laid_more, laid_rest}
+use Rattle.std.proofs.Common.{◌≡◌, sym, ap, ◌∙◌, List, ◌++◌, ℕ, ◌+◌, ◌*◌, ◌-◌, ◌≤◌, ◌<◌, arith, length, take, drop}
+use Rattle.layer.specs.Board.{Board, base_on, row_on, pass_on, begin_on}
+use Rattle.layer.specs.Board.Turns.{base_in, moves_here, moves_stay, leaf_passed, part_length, laid_none, laid_more, laid_rest}
 use Rattle.layer.specs.Lent.{board_of}
 use Rattle.search.specs.Node.{least_of}
-use Rattle.begins.specs.Begin.{Risen, risen_none, risen_more, risen_laid, part_copied, rest_copied}
-use Rattle.begins.proofs.begin_moved.Invariants.{leaf}
+use Rattle.begins.specs.Begin.{risen_none, risen_more, risen_laid, part_copied, rest_copied}
 use Rattle.begins.proofs.begin_moved.Goals as goal
 
 pub loop-i-init : goal.loop-i-init
@@ -162,9 +161,6 @@ returns c =
     let board : Board = lent in
     let made : List ℕ = c.copy_words.new.into in
     let is_made : made ≡ take (row_on lent) c.args.old.now ++ drop (row_on lent) c.args.new.now = c.copy_words.ensures in
-    let from : ℕ = base_on board c.loop-i.i in
-    let to : ℕ = base_on board (c.loop-i.i + 1) in
-    let room : (from ≤ to) × (to ≤ 1024) × (to ≤ length c.args.old.now) × (to ≤ length c.loop-i.new) = let i = c.loop-i.i in let end = base_in board c.requires.0 i c.loop-i-test.true in let rise = c.requires.0.bases_rise i c.loop-i-test.true in omega (arith, end, rise, c.requires.0.few_all, c.requires.3, c.requires.4, c.loop-i.invariant.1.kept) in
     let a = c.args in
     let l = c.loop-i in
     let all : l.i ≡ a.leaves = omega arith in

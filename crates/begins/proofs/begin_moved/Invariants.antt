@@ -1,11 +1,11 @@
 -- `begins::begin_moved` meets its contract: each leaf is carried. The invariant: what came through of the leaves so far stands one leaf's behind the other, and behind
 -- them the old prices, which were copied first; the key has risen with their least prices. Assumes nothing.
-use Rattle.std.proofs.Common.{◌≡◌, sym, ap, ◌∙◌, List, [], ◌++◌, ℕ, ◌+◌, ◌*◌, ◌-◌, ◌≤◌, ◌<◌, arith, length, get_or, take, drop, rules}
-use Rattle.layer.specs.Board.{Board, base_on, row_on, part_on, pass_on, begin_on}
-use Rattle.layer.specs.Board.Turns.{base_in, moves_here, moves_stay, leaf_passed, part_length, Laid, laid_none, laid_more, laid_rest}
+use Rattle.std.proofs.Common.{List, [], ℕ, ◌-◌, ◌≤◌, get_or}
+use Rattle.layer.specs.Board.{Board, part_on, pass_on}
+use Rattle.layer.specs.Board.Turns.{Laid}
 use Rattle.layer.specs.Lent.{board_of}
 use Rattle.search.specs.Node.{least_of}
-use Rattle.begins.specs.Begin.{Risen, risen_none, risen_more, risen_laid, part_copied, rest_copied}
+use Rattle.begins.specs.Begin.{Risen}
 use Rattle.begins.proofs.begin_moved.Given as goal
 
 -- what comes through of the leaf behind k leaves

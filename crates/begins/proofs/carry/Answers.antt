@@ -1,5 +1,5 @@
 -- `begins::carry` meets its contract: where no state moves the prices that stand there are what passes. Assumes nothing.
-use Rattle.std.proofs.Common.{ap, ◌+◌, ◌≤◌, arith, length, get_or, rules}
+use Rattle.std.proofs.Common.{ap, ◌+◌, ◌≤◌, arith, length, get_or}
 use Rattle.search.specs.Node.{least_of}
 use Rattle.begins.specs.Begin.{pass_rises, copy_passes}
 use Rattle.begins.proofs.carry.Goals as goal

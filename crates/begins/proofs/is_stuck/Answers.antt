@@ -1,4 +1,4 @@
-use Rattle.std.proofs.Common.{◌≡◌, refl, Bool, false, ℕ, ◌+◌, ◌-◌, ◌*◌, ◌≤◌, ◌<◌, arith, le_antisymm, length, get_or, rules, eq-eqb, ne_eqb}
+use Rattle.std.proofs.Common.{refl, Bool, ℕ, ◌+◌, ◌*◌, ◌≤◌, ◌<◌, arith, le_antisymm, length, get_or, eq-eqb, ne_eqb}
 use Rattle.loops.specs.Count.{any}
 use Rattle.loops.specs.Count.Laws.{told, any_in, any_more}
 use Rattle.layer.specs.Board.{Board, base_on, row_on}
@@ -20,30 +20,30 @@ overflow_mul-a c =
     let board : Board = let a = c.args in board_of a.leaves a.actions a.bases.now a.moves.now a.costs.now a.kinds.now a.factors a.conditions.now in
     let from : ℕ = base_on board c.loop-i.i in
     let to : ℕ = base_on board (c.loop-i.i + 1) in
-    let room : (from ≤ to) × (to ≤ length c.args.old.now) × (c.args.a * row_on board + to ≤ length c.args.moves.now) = let i = c.loop-i.i in let end = base_in board c.requires.0 i c.loop-i-test.true in omega (arith, end, c.requires.0.bases_rise i c.loop-i-test.true, c.requires.1.3, row_in board c.requires.0 c.args.a c.requires.1.2) in
+    let room : (from ≤ to) × (to ≤ length c.args.old.now) × (c.args.a * row_on board + to ≤ length c.args.moves.now) = let i = c.loop-i.i in let end = base_in board c.requires.sound i c.loop-i-test.true in omega (arith, end, c.requires.sound.bases_rise i c.loop-i-test.true, c.requires.still_len.3, row_in board c.requires.sound c.args.a c.requires.still_len.2) in
     omega (arith, c.well_formed, room)
 
 pub overflow_mul-a-in-loop-i : goal.overflow_mul-a-in-loop-i
-overflow_mul-a-in-loop-i c = omega (arith, c.requires.0.few_actions, c.requires.1.2)
+overflow_mul-a-in-loop-i c = omega (arith, c.requires.sound.few_actions, c.requires.still_len.2)
 
 pub overflow_add-a : goal.overflow_add-a
 overflow_add-a c =
-    let entry : c.args.a * 8 + c.loop-i.i < 2048 = omega (arith, c.loop-i-test.true, c.requires.0.few_leaves, c.requires.0.few_actions, c.requires.1.2) in
+    let entry : c.args.a * 8 + c.loop-i.i < 2048 = omega (arith, c.loop-i-test.true, c.requires.sound.few_leaves, c.requires.sound.few_actions, c.requires.still_len.2) in
     omega (arith, entry)
 
 pub bounds-stills-a : goal.bounds-stills-a
 bounds-stills-a c =
-    let entry : c.args.a * 8 + c.loop-i.i < 2048 = omega (arith, c.loop-i-test.true, c.requires.0.few_leaves, c.requires.0.few_actions, c.requires.1.2) in
-    omega (arith, entry, c.requires.1.1)
+    let entry : c.args.a * 8 + c.loop-i.i < 2048 = omega (arith, c.loop-i-test.true, c.requires.sound.few_leaves, c.requires.sound.few_actions, c.requires.still_len.2) in
+    omega (arith, entry, c.requires.still_len.1)
 
 pub is_stuck_in-requires : goal.is_stuck_in-requires
 is_stuck_in-requires c =
     let board : Board = let a = c.args in board_of a.leaves a.actions a.bases.now a.moves.now a.costs.now a.kinds.now a.factors a.conditions.now in
     let from : ℕ = base_on board c.loop-i.i in
     let to : ℕ = base_on board (c.loop-i.i + 1) in
-    let room : (from ≤ to) × (to ≤ length c.args.old.now) × (c.args.a * row_on board + to ≤ length c.args.moves.now) = let i = c.loop-i.i in let end = base_in board c.requires.0 i c.loop-i-test.true in omega (arith, end, c.requires.0.bases_rise i c.loop-i-test.true, c.requires.1.3, row_in board c.requires.0 c.args.a c.requires.1.2) in
+    let room : (from ≤ to) × (to ≤ length c.args.old.now) × (c.args.a * row_on board + to ≤ length c.args.moves.now) = let i = c.loop-i.i in let end = base_in board c.requires.sound i c.loop-i-test.true in omega (arith, end, c.requires.sound.bases_rise i c.loop-i-test.true, c.requires.still_len.3, row_in board c.requires.sound c.args.a c.requires.still_len.2) in
     let r = room in
-    (omega (arith, c.loop-i-test.true, c.requires.0.few_leaves, c.requires.0.bases_long), r.0, r.1, r.2)
+    (omega (arith, c.loop-i-test.true, c.requires.sound.few_leaves, c.requires.sound.bases_long), r.0, r.1, r.2)
 
 pub returns-then-is_stuck_in : goal.returns-then-is_stuck_in
 unfolding stuck_by

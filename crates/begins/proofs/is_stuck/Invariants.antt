@@ -1,11 +1,7 @@
 -- `begins::is_stuck` meets its contract. The invariant: the action is stuck in none of the leaves so far. Assumes nothing.
-use Rattle.std.proofs.Common.{◌≡◌, refl, Bool, false, ℕ, ◌+◌, ◌-◌, ◌*◌, ◌≤◌, ◌<◌, arith, le_antisymm, length, get_or, rules, eq-eqb, ne_eqb}
+use Rattle.std.proofs.Common.{◌≡◌, false, ◌+◌, ◌-◌, ◌*◌, ◌≤◌, get_or}
 use Rattle.loops.specs.Count.{any}
-use Rattle.loops.specs.Count.Laws.{told, any_in, any_more}
-use Rattle.layer.specs.Board.{Board, base_on, row_on}
-use Rattle.layer.specs.Board.Turns.{base_in, row_in}
-use Rattle.layer.specs.Lent.{board_of}
-use Rattle.begins.specs.Begin.{stuck_in, stuck_by}
+use Rattle.begins.specs.Begin.{stuck_in}
 use Rattle.begins.proofs.is_stuck.Given as goal
 
 abbrev pub invariant-loop-i : goal.invariant-loop-i

@@ -1,5 +1,5 @@
 -- `begins::is_stuck_in` meets its contract: where the leaf is looked at, `passes` tells. Assumes nothing.
-use Rattle.std.proofs.Common.{rules, eq-eqb, ne_eqb}
+use Rattle.std.proofs.Common.{eq-eqb, ne_eqb}
 use Rattle.begins.specs.Begin.{stuck_in}
 use Rattle.begins.proofs.is_stuck_in.Goals as goal
 
