@@ -11,8 +11,9 @@
 ghost use Rattle.std.specs.Prelude.{◌≡◌, ◌<◌, ◌≤◌, length};
 
 use answers::{PriceAnswer, PriceRefusal, price_refusal_number};
-use libc::{STDIN_FILENO, STDOUT_FILENO};
 use pricer::prices;
+use std::io;
+use std::io::Read;
 
 // Checksums are remainders by this prime.
 const PRIME: u64 = 1000003;
@@ -79,71 +80,73 @@ fn same(words: &[u64; 1116], from: usize, to: usize) -> bool
 }
 
 // A space and a number.
-fn print_number(n: u64) {
-    io::write_all(STDOUT_FILENO, b" ");
-    io::print_decimal(STDOUT_FILENO, n);
+fn print_number(rt: &impl Print, n: u64) -> io::Result<()> {
+    print!(rt; " {n}")
 }
 
 // A space and a price.
-fn print_price(x: u64) {
+fn print_price(rt: &impl Print, x: u64) -> io::Result<()> {
     if x == UNREACHABLE {
-        io::write_all(STDOUT_FILENO, b" -");
+        print!(rt; " -")
     } else {
-        print_number(x);
+        print_number(rt, x)
     }
 }
 
 // The first prices, at most twelve.
-fn print_first(words: &[u64; 1116], count: usize) {
+fn print_first(rt: &impl Print, words: &[u64; 1116], count: usize) -> io::Result<()> {
     for i in 0..12 {
         if i < count {
-            print_price(words[BEFORE + i]);
+            print_price(rt, words[BEFORE + i])?;
         }
     }
+    Ok(())
 }
 
-fn print_kept(kept: bool) {
+fn print_kept(rt: &impl Print, kept: bool) -> io::Result<()> {
     if kept {
-        io::write_all(STDOUT_FILENO, b" kept\n");
+        println!(rt; " kept")
     } else {
-        io::write_all(STDOUT_FILENO, b" CHANGED\n");
+        println!(rt; " CHANGED")
     }
 }
 
 // The rest of an answered call's line.
-fn print_answered(words: &[u64; 1116], count: usize) {
-    io::write_all(STDOUT_FILENO, b" prices");
-    print_number(count as u64);
+fn print_answered(rt: &impl Print, words: &[u64; 1116], count: usize) -> io::Result<()> {
+    print!(rt; " prices")?;
+    print_number(rt, count as u64)?;
     if count > MOST {
-        io::write_all(STDOUT_FILENO, b" TOO MANY\n");
-        return;
+        return println!(rt; " TOO MANY");
     }
-    io::write_all(STDOUT_FILENO, b" sum");
-    print_number(sum_of_prices(words, count));
-    io::write_all(STDOUT_FILENO, b" first");
-    print_first(words, count);
-    print_kept(same(words, 0, BEFORE) && same(words, BEFORE + count, ALL));
+    print!(rt; " sum")?;
+    print_number(rt, sum_of_prices(words, count))?;
+    print!(rt; " first")?;
+    print_first(rt, words, count)?;
+    print_kept(
+        rt,
+        same(words, 0, BEFORE) && same(words, BEFORE + count, ALL),
+    )
 }
 
 // The rest of a refused call's line.
-fn print_refused(words: &[u64; 1116], why: PriceRefusal) {
-    io::write_all(STDOUT_FILENO, b" refused");
-    print_number(price_refusal_number(why) as u64);
-    print_kept(same(words, 0, ALL));
+fn print_refused(rt: &impl Print, words: &[u64; 1116], why: PriceRefusal) -> io::Result<()> {
+    print!(rt; " refused")?;
+    print_number(rt, price_refusal_number(why) as u64)?;
+    print_kept(rt, same(words, 0, ALL))
 }
 
 // Calls the pricer with so many lent words, and prints the line.
-fn run_call(number: u64, rec: &[u8], path: &[u8], lent: usize)
+fn run_call(rt: &impl Print, number: u64, rec: &[u8], path: &[u8], lent: usize) -> io::Result<()>
     requires { lent ≤ 1100 }
 {
     let mut words = [0u64; 1116];
     fill(&mut words);
     let end = BEFORE + lent;
     let answer = prices(rec, path, &mut words[8..end]);
-    io::print_decimal(STDOUT_FILENO, number);
+    print!(rt; "{number}")?;
     match answer {
-        PriceAnswer::Prices(count) => print_answered(&words, count),
-        PriceAnswer::Refused(why) => print_refused(&words, why),
+        PriceAnswer::Prices(count) => print_answered(rt, &words, count),
+        PriceAnswer::Refused(why) => print_refused(rt, &words, why),
     }
 }
 
@@ -154,51 +157,78 @@ fn joined(high: u8, low: u8) -> usize
     high as usize * 256 + low as usize
 }
 
-// Fills `path` from standard input, reads the number of words to lend, runs the call, and answers whether the input had all of it.
-fn run_path(number: u64, rec: &[u8], path: &mut [u8]) -> bool {
-    if io::read_full(STDIN_FILENO, path) < path.len() {
-        return false;
+// Reads until `buf` is full, the input ends or a read fails, and returns how many bytes it put at the start of `buf`.
+fn read_full(input: &mut impl Read, buf: &mut [u8]) -> usize
+    ensures { result ≤ length buf.new }
+{
+    let mut done = 0;
+    while done < buf.len() {
+        match input.read(&mut buf[done..]) {
+            Ok(0) | Err(_) => break,
+            Ok(n) => done += n,
+        }
+    }
+    done
+}
+
+// Fills `path` from the input, reads the number of words to lend, runs the call, and answers whether the input had all of it.
+fn run_path(
+    rt: &impl Print,
+    input: &mut impl Read,
+    number: u64,
+    rec: &[u8],
+    path: &mut [u8],
+) -> io::Result<bool> {
+    if read_full(input, path) < path.len() {
+        return Ok(false);
     }
     let mut two = [0u8; 2];
-    if io::read_full(STDIN_FILENO, &mut two) < 2 {
-        return false;
+    if read_full(input, &mut two) < 2 {
+        return Ok(false);
     }
     let lent = joined(two[0], two[1]);
     if lent > MOST {
-        return false;
+        return Ok(false);
     }
-    run_call(number, rec, path, lent);
-    true
+    run_call(rt, number, rec, path, lent)?;
+    Ok(true)
 }
 
-// Fills `rec` from standard input, reads the length of the path, and goes on with the path.
-fn run_record(number: u64, rec: &mut [u8]) -> bool {
-    if io::read_full(STDIN_FILENO, rec) < rec.len() {
-        return false;
+// Fills `rec` from the input, reads the length of the path, and goes on with the path.
+fn run_record(
+    rt: &impl Print,
+    input: &mut impl Read,
+    number: u64,
+    rec: &mut [u8],
+) -> io::Result<bool> {
+    if read_full(input, rec) < rec.len() {
+        return Ok(false);
     }
     let mut two = [0u8; 2];
-    if io::read_full(STDIN_FILENO, &mut two) < 2 {
-        return false;
+    if read_full(input, &mut two) < 2 {
+        return Ok(false);
     }
     let length = joined(two[0], two[1]);
     let mut path = [0u8; 65535];
-    run_path(number, rec, &mut path[0..length])
+    run_path(rt, input, number, rec, &mut path[0..length])
 }
 
 // Reads the length of a record, goes on with the record, and answers whether there was a whole call.
-fn run_case(number: u64) -> bool {
+fn run_case(rt: &impl Print, input: &mut impl Read, number: u64) -> io::Result<bool> {
     let mut two = [0u8; 2];
-    if io::read_full(STDIN_FILENO, &mut two) < 2 {
-        return false;
+    if read_full(input, &mut two) < 2 {
+        return Ok(false);
     }
     let length = joined(two[0], two[1]);
     let mut rec = [0u8; 65535];
-    run_record(number, &mut rec[0..length])
+    run_record(rt, input, number, &mut rec[0..length])
 }
 
-fn main() {
+fn main(rt: HostRuntime) -> io::Result<()> {
+    let mut input = rt.reader();
     let mut number: u64 = 1;
-    while number < 1000000 && run_case(number) {
+    while number < 1000000 && run_case(&rt, &mut input, number)? {
         number += 1;
     }
+    Ok(())
 }

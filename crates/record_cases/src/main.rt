@@ -5,11 +5,12 @@
 // arrays, in their order in the task; the line of a refused one has the refusal's number.
 #![tactic(auto)]
 
-ghost use Rattle.std.specs.Prelude.{◌<◌, ◌≤◌};
+ghost use Rattle.std.specs.Prelude.{◌<◌, ◌≤◌, length};
 
 use fields::Refusal;
-use libc::{STDIN_FILENO, STDOUT_FILENO};
 use record::read_record;
+use std::io;
+use std::io::Read;
 use task::Task;
 use whole::Verdict;
 
@@ -48,68 +49,59 @@ fn sum_of_words(a: &[u16]) -> u64 {
 }
 
 // A space and a number.
-fn print_number(n: u64) {
-    io::write_all(STDOUT_FILENO, b" ");
-    io::print_decimal(STDOUT_FILENO, n);
+fn print_number(rt: &impl Print, n: u64) -> io::Result<()> {
+    print!(rt; " {n}")
 }
 
 // The checksum of what the task has for each variable.
-fn print_values(values: [u8; 32]) {
-    print_number(sum_of_bytes(&values));
+fn print_values(rt: &impl Print, values: [u8; 32]) -> io::Result<()> {
+    print_number(rt, sum_of_bytes(&values))
 }
 
 // The checksum of what the task has for each action.
-fn print_costs(costs: [u16; 256]) {
-    print_number(sum_of_words(&costs));
+fn print_costs(rt: &impl Print, costs: [u16; 256]) -> io::Result<()> {
+    print_number(rt, sum_of_words(&costs))
 }
 
 // The checksum of what the task has for each action and variable.
-fn print_pairs(pairs: [u8; 8192]) {
-    print_number(sum_of_bytes(&pairs));
+fn print_pairs(rt: &impl Print, pairs: [u8; 8192]) -> io::Result<()> {
+    print_number(rt, sum_of_bytes(&pairs))
 }
 
-fn print_accepted(t: Task) {
-    io::write_all(STDOUT_FILENO, b" accepted");
-    print_number(t.variables as u64);
-    print_number(t.leaves as u64);
-    print_number(t.actions as u64);
-    io::write_all(STDOUT_FILENO, b" sums");
-    let sizes = t.sizes;
-    print_values(sizes);
-    let factors = t.factors;
-    print_values(factors);
-    let initial = t.initial;
-    print_values(initial);
-    let goal = t.goal;
-    print_values(goal);
-    let handling = t.handling;
-    print_costs(handling);
-    let distance = t.distance;
-    print_costs(distance);
-    let conditions = t.conditions;
-    print_pairs(conditions);
-    let effects = t.effects;
-    print_pairs(effects);
+fn print_accepted(rt: &impl Print, t: Task) -> io::Result<()> {
+    print!(rt; " accepted")?;
+    print_number(rt, t.variables as u64)?;
+    print_number(rt, t.leaves as u64)?;
+    print_number(rt, t.actions as u64)?;
+    print!(rt; " sums")?;
+    print_values(rt, t.sizes)?;
+    print_values(rt, t.factors)?;
+    print_values(rt, t.initial)?;
+    print_values(rt, t.goal)?;
+    print_costs(rt, t.handling)?;
+    print_costs(rt, t.distance)?;
+    print_pairs(rt, t.conditions)?;
+    print_pairs(rt, t.effects)
 }
 
-fn print_refused(why: Refusal) {
-    io::write_all(STDOUT_FILENO, b" refused");
-    print_number(fields::number(why) as u64);
+fn print_refused(rt: &impl Print, why: Refusal) -> io::Result<()> {
+    print!(rt; " refused")?;
+    print_number(rt, fields::number(why) as u64)
 }
 
 // The line of one byte string.
-fn print_answer(number: u64, rec: &[u8]) {
-    io::print_decimal(STDOUT_FILENO, number);
+fn print_answer(rt: &impl Print, number: u64, rec: &[u8]) -> io::Result<()> {
+    print!(rt; "{number}")?;
     let r = read_record(rec);
     let v = r.verdict;
     match v {
         Verdict::Accepted => {
             let t = r.task;
-            print_accepted(t);
+            print_accepted(rt, t)?;
         }
-        Verdict::Refused(why) => print_refused(why),
+        Verdict::Refused(why) => print_refused(rt, why)?,
     }
-    io::write_all(STDOUT_FILENO, b"\n");
+    println!(rt)
 }
 
 // The number that two bytes write, the more significant one first.
@@ -119,29 +111,50 @@ fn joined(high: u8, low: u8) -> usize
     high as usize * 256 + low as usize
 }
 
-// Fills `rec` from standard input, prints its line, and answers whether the input had so many bytes.
-fn run_record(number: u64, rec: &mut [u8]) -> bool {
-    if io::read_full(STDIN_FILENO, rec) < rec.len() {
-        return false;
+// Reads until `buf` is full, the input ends or a read fails, and returns how many bytes it put at the start of `buf`.
+fn read_full(input: &mut impl Read, buf: &mut [u8]) -> usize
+    ensures { result ≤ length buf.new }
+{
+    let mut done = 0;
+    while done < buf.len() {
+        match input.read(&mut buf[done..]) {
+            Ok(0) | Err(_) => break,
+            Ok(n) => done += n,
+        }
     }
-    print_answer(number, rec);
-    true
+    done
+}
+
+// Fills `rec` from the input, prints its line, and answers whether the input had so many bytes.
+fn run_record(
+    rt: &impl Print,
+    input: &mut impl Read,
+    number: u64,
+    rec: &mut [u8],
+) -> io::Result<bool> {
+    if read_full(input, rec) < rec.len() {
+        return Ok(false);
+    }
+    print_answer(rt, number, rec)?;
+    Ok(true)
 }
 
 // Reads the length of a byte string, runs the reader over it, and answers whether there was one.
-fn run_case(number: u64) -> bool {
+fn run_case(rt: &impl Print, input: &mut impl Read, number: u64) -> io::Result<bool> {
     let mut two = [0u8; 2];
-    if io::read_full(STDIN_FILENO, &mut two) < 2 {
-        return false;
+    if read_full(input, &mut two) < 2 {
+        return Ok(false);
     }
     let length = joined(two[0], two[1]);
     let mut rec = [0u8; 65535];
-    run_record(number, &mut rec[0..length])
+    run_record(rt, input, number, &mut rec[0..length])
 }
 
-fn main() {
+fn main(rt: HostRuntime) -> io::Result<()> {
+    let mut input = rt.reader();
     let mut number: u64 = 1;
-    while number < 1000000 && run_case(number) {
+    while number < 1000000 && run_case(&rt, &mut input, number)? {
         number += 1;
     }
+    Ok(())
 }

@@ -1,5 +1,5 @@
 -- `price_cases::fill` is safe and ends. The measure is what is left of the words. Assumes nothing.
-use Rattle.std.proofs.Common.{◌≤◌, ◌-◌, ◌≡◌, rules, length}
+use Rattle.std.proofs.Common.{◌≤◌, ◌-◌, ◌≡◌, length}
 use Rattle.price_cases.proofs.fill.Given as goal
 
 abbrev pub invariant-loop-i : goal.invariant-loop-i

@@ -1,5 +1,5 @@
 -- `price_cases::sum_of_prices` is safe and ends. The sum stays below the prime, and the measure is what is left of the prices. Assumes nothing.
-use Rattle.std.proofs.Common.{◌≤◌, ◌<◌, ◌-◌, rules}
+use Rattle.std.proofs.Common.{◌≤◌, ◌<◌, ◌-◌}
 use Rattle.price_cases.proofs.sum_of_prices.Given as goal
 
 abbrev pub invariant-loop-i : goal.invariant-loop-i

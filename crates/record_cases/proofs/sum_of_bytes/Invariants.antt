@@ -1,6 +1,6 @@
 -- `record_cases::sum_of_bytes` is safe and ends. The sum stays below the prime, and the measure is what is left of the array.
 -- Assumes nothing.
-use Rattle.std.proofs.Common.{◌≤◌, ◌<◌, ◌-◌, ◌≡◌, rules, length}
+use Rattle.std.proofs.Common.{◌≤◌, ◌<◌, ◌-◌, ◌≡◌, length}
 use Rattle.record_cases.proofs.sum_of_bytes.Given as goal
 
 abbrev pub invariant-loop-i : goal.invariant-loop-i
