@@ -1,5 +1,5 @@
 -- `layer::applies` meets its contract. The invariant: in each leaf so far a state passes. Assumes nothing.
-use Rattle.std.proofs.Common.{◌≡◌, Bool, true, List, ℕ, ◌-◌, ◌≤◌}
+use Rattle.std.proofs.Common.{◌≡◌, Bool, true, List, ℕ, ◌-◌, ◌≤◌, []}
 use Rattle.loops.specs.Count.{all}
 use Rattle.layer.specs.Board.{Board, part_on, passes_on}
 use Rattle.layer.specs.Lent.{board_of}
