@@ -6,19 +6,21 @@ use Rattle.pricer.specs.Pricer.Laws.{record_refused, record_accepted, outcome_sa
 use Rattle.pricer.proofs.prices.Goals as goal
 
 pub price_task-requires : goal.price_task-requires
-price_task-requires c = c.read_record-r.ensures.valid (ap verdict_number c.enum_told-1.given.1)
+price_task-requires c = c.read_record-r.ensures.valid (ap verdict_number c.in-Accepted.is)
 
 pub returns-in-Refused : goal.returns-in-Refused
 returns-in-Refused c =
     let s = c.args in
     let read = c.read_record-r.ensures.answer in
-    outcome_says s.«record».now s.path.now s.out.now _ _
-    (record_refused s.«record».now s.path.now s.out.now (sym (ap (λ r. r.verdict) read) ∙ c.v-1.given.1))
+    let told = outcome_says s.«record».now s.path.now s.out.now _ _
+    (record_refused s.«record».now s.path.now s.out.now (sym (ap (λ r. r.verdict) read) ∙ c.in-Refused.is)) in
+    record { answer = told.0; decided = told.1.0; priced = told.1.1.0; untouched = told.1.1.1.0; count = told.1.1.1.1 }
 
 pub returns-in-Accepted : goal.returns-in-Accepted
 returns-in-Accepted c =
     let s = c.args in
     let read = c.read_record-r.ensures.answer in
-    outcome_says s.«record».now s.path.now s.out.now _ _
-    (record_accepted s.«record».now s.path.now s.out.now (sym (ap (λ r. r.verdict) read) ∙ c.enum_told-1.given.1)
-    (c.price_task.ensures ∙ ap (λ r. task_prices r.task s.path.now s.out.now) read))
+    let told = outcome_says s.«record».now s.path.now s.out.now _ _
+    (record_accepted s.«record».now s.path.now s.out.now (sym (ap (λ r. r.verdict) read) ∙ c.in-Accepted.is)
+    (c.price_task.ensures ∙ ap (λ r. task_prices r.task s.path.now s.out.now) read)) in
+    record { answer = told.0; decided = told.1.0; priced = told.1.1.0; untouched = told.1.1.1.0; count = told.1.1.1.1 }
