@@ -1,5 +1,5 @@
 -- `hops::hop_word` meets its contract: each answer is that of the tests. Assumes nothing.
-use Rattle.std.proofs.Common.{arith, eq-eqb, ne_eqb, lt-ltb, le-ltb, rules}
+use Rattle.std.proofs.Common.{arith, eq-eqb, ne_eqb, lt-ltb, le-ltb}
 use Rattle.hops.specs.Hops.{hop_word}
 use Rattle.hops.proofs.hop_word.Goals as goal
 

@@ -1,6 +1,6 @@
-use Rattle.std.proofs.Common.{◌≡◌, refl, ap, ap₂, ◌∙◌, List, ℕ, ◌-◌, ◌≤◌, ◌<◌, le_antisymm, arith, length, set}
+use Rattle.std.proofs.Common.{refl, ap, ap₂, ◌∙◌, List, ℕ, ◌<◌, le_antisymm, arith, length, set}
 use Rattle.loops.specs.Count.{list}
-use Rattle.stills.specs.Still.{padded, padded_length, padded_more}
+use Rattle.stills.specs.Still.{padded_length, padded_more}
 use Rattle.hops.specs.Hops.{hop_word, hops_by}
 use Rattle.hops.proofs.list_hops.Goals as goal
 use Rattle.hops.proofs.list_hops.Goals.{After-hop_word-word}
@@ -8,7 +8,7 @@ use Rattle.hops.proofs.list_hops.Goals.{After-hop_word-word}
 -- an action's number, where its word is found
 few : (c : After-hop_word-word) → c.loop-a.a < 255
 few c =
-    omega (arith, c.requires.0.0.few_actions, c.loop-a-test.true)
+    omega (arith, c.requires.sound.0.few_actions, c.loop-a-test.true)
 
 pub loop-a-init : goal.loop-a-init
 unfolding list
@@ -17,7 +17,7 @@ loop-a-init c = (omega arith, refl)
 pub hop_word-word-requires : goal.hop_word-word-requires
 hop_word-word-requires c =
     let p = c.requires in
-    record { sound = (p.0.0, p.0.1, c.loop-a-test.true); still = p.1 }
+    record { sound = (p.sound.0, p.sound.1, c.loop-a-test.true); still = p.still }
 
 pub offset_bounds-hops-a : goal.offset_bounds-hops-a
 offset_bounds-hops-a c = omega (arith, few (goal.at.offset_bounds-hops-a c).After-hop_word-word)

@@ -1,8 +1,7 @@
 -- `hops::list_hops` meets its contract. The invariant: the actions so far have their words. Assumes nothing.
-use Rattle.std.proofs.Common.{◌≡◌, refl, ap, ap₂, ◌∙◌, List, ℕ, ◌-◌, ◌≤◌, ◌<◌, le_antisymm, arith, length, set}
-use Rattle.loops.specs.Count.{list}
-use Rattle.stills.specs.Still.{padded, padded_length, padded_more}
-use Rattle.hops.specs.Hops.{hop_word, hops_by}
+use Rattle.std.proofs.Common.{◌≡◌, ◌-◌, ◌≤◌}
+use Rattle.stills.specs.Still.{padded}
+use Rattle.hops.specs.Hops.{hop_word}
 use Rattle.hops.proofs.list_hops.Given as goal
 
 abbrev pub invariant-loop-a : goal.invariant-loop-a

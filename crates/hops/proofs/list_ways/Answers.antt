@@ -1,7 +1,8 @@
-use Rattle.std.proofs.Common.{◌≡◌, refl, ap, ◌∙◌, ⊎_elim, ◌-◌, ◌≤◌, le_antisymm, arith, length, rules}
+use Rattle.std.proofs.Common.{refl, ap, ◌∙◌, le_antisymm, arith, length}
 use Rattle.hops.specs.Hops.{ways_by}
 use Rattle.hops.specs.Hops.Laws.{ways_right, way_pass, way_more}
 use Rattle.hops.proofs.list_ways.Goals as goal
+use Rattle.hops.proofs.list_ways.Goals.{then-word-ne0, else-word-ne0}
 
 pub loop-a-init : goal.loop-a-init
 unfolding ways_by
@@ -25,7 +26,10 @@ loop-a-preserved c =
     let l = c.loop-a in
     let H = c.args.hops.now in (
       omega arith,
-      ⊎_elim (λ w. w.1 ∙ rw l.invariant.1 (way_more H l.a w.0.taken)) (λ w. w.1 ∙ l.invariant.1 ∙ way_pass H l.a w.0.left) c.if-word-ne0.branch,
+      elim c.if-word-ne0.branch [
+        | then-word-ne0 w ↦ w.ways-is ∙ rw l.invariant.1 (way_more H l.a w.if-word-ne0.true)
+        | else-word-ne0 w ↦ w.ways-is ∙ l.invariant.1 ∙ way_pass H l.a w.if-word-ne0.false
+      ],
     )
 
 pub returns : goal.returns

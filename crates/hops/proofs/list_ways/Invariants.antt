@@ -1,7 +1,6 @@
 -- `hops::list_ways` meets its contract. The invariant: the ways are those of the actions so far. Assumes nothing.
-use Rattle.std.proofs.Common.{◌≡◌, refl, ap, ◌∙◌, ⊎_elim, ◌-◌, ◌≤◌, le_antisymm, arith, length, rules}
+use Rattle.std.proofs.Common.{◌≡◌, ◌-◌, ◌≤◌}
 use Rattle.hops.specs.Hops.{ways_by}
-use Rattle.hops.specs.Hops.Laws.{ways_right, way_pass, way_more}
 use Rattle.hops.proofs.list_ways.Given as goal
 
 abbrev pub invariant-loop-a : goal.invariant-loop-a

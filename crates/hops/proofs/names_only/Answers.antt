@@ -1,4 +1,4 @@
-use Rattle.std.proofs.Common.{◌≡◌, refl, ap, ◌∙◌, Bool, ◌&&◌, ◌||◌, ℕ, ◌+◌, ◌-◌, ◌≤◌, le_antisymm, add-one, arith, eqb, get_or, rules}
+use Rattle.std.proofs.Common.{refl, ap, ◌∙◌, Bool, ◌&&◌, ◌||◌, ℕ, ◌+◌, le_antisymm, add-one, arith, eqb, get_or}
 use Rattle.loops.specs.Count.{all}
 use Rattle.hops.specs.Hops.{names_only}
 use Rattle.hops.proofs.names_only.Goals as goal

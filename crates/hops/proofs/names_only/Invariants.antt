@@ -1,7 +1,6 @@
 -- `hops::names_only` meets its contract. The invariant: the answer so far is that of the variables so far. Assumes nothing.
-use Rattle.std.proofs.Common.{◌≡◌, refl, ap, ◌∙◌, Bool, ◌&&◌, ◌||◌, ℕ, ◌+◌, ◌-◌, ◌≤◌, le_antisymm, add-one, arith, eqb, get_or, rules}
+use Rattle.std.proofs.Common.{◌≡◌, ◌||◌, ◌+◌, ◌-◌, ◌≤◌, eqb, get_or}
 use Rattle.loops.specs.Count.{all}
-use Rattle.hops.specs.Hops.{names_only}
 use Rattle.hops.proofs.names_only.Given as goal
 
 abbrev pub invariant-loop-w : goal.invariant-loop-w

@@ -1,6 +1,6 @@
 -- `hops::pair_word` meets its contract: each answer is that of the tests. Assumes nothing.
-use Rattle.std.proofs.Common.{◌+◌, ◌*◌, arith, lt-ltb, le-ltb, rules}
-use Rattle.loops.specs.Count.Laws.{told_true, told_false}
+use Rattle.std.proofs.Common.{◌+◌, ◌*◌, arith, lt-ltb, le-ltb}
+use Rattle.loops.specs.Count.Laws.{told}
 use Rattle.hops.specs.Hops.{pair_word}
 use Rattle.hops.proofs.pair_word.Goals as goal
 
@@ -25,14 +25,14 @@ returns-then-into-ge16 c = rw (lt-ltb _ _ c.if-from-ge16.false, le-ltb _ _ c.if-
 pub returns-then-not-names_only : goal.returns-then-not-names_only
 unfolding pair_word
 returns-then-not-names_only c =
-    rw (lt-ltb _ _ c.if-from-ge16.false, lt-ltb _ _ c.if-into-ge16.false, told_false c.names_only.ensures c.if-not-names_only.true)
+    rw (lt-ltb _ _ c.if-from-ge16.false, lt-ltb _ _ c.if-into-ge16.false, told c.names_only.ensures c.if-not-names_only.true)
 
 pub returns-then-not-names_only-2 : goal.returns-then-not-names_only-2
 unfolding pair_word
 returns-then-not-names_only-2 c =
-    rw (lt-ltb _ _ c.if-from-ge16.false, lt-ltb _ _ c.if-into-ge16.false, told_true c.names_only.ensures c.if-not-names_only.false, told_false c.names_only-2.ensures c.if-not-names_only-2.true)
+    rw (lt-ltb _ _ c.if-from-ge16.false, lt-ltb _ _ c.if-into-ge16.false, told c.names_only.ensures c.if-not-names_only.false, told c.names_only-2.ensures c.if-not-names_only-2.true)
 
 pub returns : goal.returns
 unfolding pair_word
 returns c =
-    rw (lt-ltb _ _ c.if-from-ge16.false, lt-ltb _ _ c.if-into-ge16.false, told_true c.names_only.ensures c.if-not-names_only.false, told_true c.names_only-2.ensures c.if-not-names_only-2.false)
+    rw (lt-ltb _ _ c.if-from-ge16.false, lt-ltb _ _ c.if-into-ge16.false, told c.names_only.ensures c.if-not-names_only.false, told c.names_only-2.ensures c.if-not-names_only-2.false)
