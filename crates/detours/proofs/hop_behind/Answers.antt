@@ -1,6 +1,6 @@
 -- `detours::hop_behind` meets its contract: the parent's row lies within the table. Assumes nothing.
-use Rattle.std.proofs.Common.{◌≡◌, cond, ◌&&◌, ◌+◌, ◌-◌, ◌*◌, ◌≤◌, arith, ltb, length, get_or, take, drop, lt-ltb, le-ltb, rules}
-use Rattle.loops.specs.Count.Laws.{told_true, told_false}
+use Rattle.std.proofs.Common.{◌≡◌, cond, ◌&&◌, ◌+◌, ◌-◌, ◌*◌, ◌≤◌, arith, ltb, length, get_or, take, drop, lt-ltb, le-ltb}
+use Rattle.loops.specs.Count.Laws.{told}
 use Rattle.detours.specs.Detours.{same_front, hop_behind}
 use Rattle.detours.specs.Detours.Laws.{row_before, hop_words, hop_none}
 use Rattle.detours.proofs.hop_behind.Goals as goal
@@ -53,8 +53,8 @@ returns-then-word-eq0 c =
 
 pub returns-then-not-same_words : goal.returns-then-not-same_words
 returns-then-not-same_words c =
-    rw (words (goal.at.returns-then-not-same_words c).Start, lt-ltb _ _ c.if-states-ge128.false, lt-ltb _ _ c.if-parent-u.false, lt-ltb _ _ c.if-action-actions.false, told_false c.same_words.ensures c.if-not-same_words.true)
+    rw (words (goal.at.returns-then-not-same_words c).Start, lt-ltb _ _ c.if-states-ge128.false, lt-ltb _ _ c.if-parent-u.false, lt-ltb _ _ c.if-action-actions.false, told c.same_words.ensures c.if-not-same_words.true)
 
 pub returns : goal.returns
 returns c =
-    rw (words (goal.at.returns c).Start, lt-ltb _ _ c.if-states-ge128.false, lt-ltb _ _ c.if-parent-u.false, lt-ltb _ _ c.if-action-actions.false, told_true c.same_words.ensures c.if-not-same_words.false)
+    rw (words (goal.at.returns c).Start, lt-ltb _ _ c.if-states-ge128.false, lt-ltb _ _ c.if-parent-u.false, lt-ltb _ _ c.if-action-actions.false, told c.same_words.ensures c.if-not-same_words.false)

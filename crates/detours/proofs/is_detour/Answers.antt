@@ -1,5 +1,5 @@
 -- `detours::is_detour` meets its contract: each answer is that of the test. Assumes nothing.
-use Rattle.std.proofs.Common.{◌+◌, ◌-◌, ◌*◌, ◌%◌, arith, get_or, rules}
+use Rattle.std.proofs.Common.{◌+◌, ◌-◌, ◌*◌, ◌%◌, arith, get_or}
 use Rattle.detours.specs.Detours.Laws.{detour_word, detour_other, detour_back, detour_none, detour_way}
 use Rattle.detours.proofs.is_detour.Goals as goal
 

@@ -1,4 +1,4 @@
-use Rattle.std.proofs.Common.{◌≡◌, refl, ap, ◌∙◌, ◌&&◌, ◌-◌, ◌≤◌, le_antisymm, add-one, arith, eqb, bit_xor, length, get_or, rules}
+use Rattle.std.proofs.Common.{refl, ap, ◌∙◌, ◌&&◌, le_antisymm, add-one, arith, eqb, bit_xor, get_or}
 use Rattle.loops.specs.Count.{all}
 use Rattle.detours.specs.Detours.{same_front}
 use Rattle.detours.specs.Detours.Laws.{or_none, xor_same}

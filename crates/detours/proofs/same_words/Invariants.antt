@@ -1,8 +1,6 @@
 -- `detours::same_words` meets its contract. The invariant: no bit was apart so far just where the words so far are the same. Assumes nothing.
-use Rattle.std.proofs.Common.{◌≡◌, refl, ap, ◌∙◌, ◌&&◌, ◌-◌, ◌≤◌, le_antisymm, add-one, arith, eqb, bit_xor, length, get_or, rules}
+use Rattle.std.proofs.Common.{◌≡◌, ◌-◌, ◌≤◌, eqb, length, get_or}
 use Rattle.loops.specs.Count.{all}
-use Rattle.detours.specs.Detours.{same_front}
-use Rattle.detours.specs.Detours.Laws.{or_none, xor_same}
 use Rattle.detours.proofs.same_words.Given as goal
 
 abbrev pub invariant-loop-j : goal.invariant-loop-j
