@@ -1,6 +1,7 @@
 /* Plans the record on standard input, as the program `plan` does:
  *
- *     rt staticlib depot
+ *     (cd crates/depot_c && rt lib)
+ *     mkdir -p target/staticlib && cp crates/depot_c/out/libdepot_c.a target/staticlib/libdepot.a
  *     cc -O2 -Iinclude -o target/plan_c examples/plan.c target/staticlib/libdepot.a
  *     target/plan_c < examples/fetch.record
  */

@@ -13,7 +13,8 @@ fn main() {
     println!("cargo:rerun-if-changed={}", library.display());
     if !library.exists() {
         eprintln!("The proved library is missing: target/staticlib/libdepot.a");
-        eprintln!("Build it in the repository's folder with `rt staticlib depot`, or leave out `--features proved`.");
+        eprintln!("Build it with `rt lib` in the repository's folder crates/depot_c, and copy out/libdepot_c.a there to target/staticlib/libdepot.a,");
+        eprintln!("or leave out `--features proved`.");
         std::process::exit(1);
     }
     println!("cargo:rustc-link-search=native={}", folder.display());

@@ -1,4 +1,4 @@
-/* The depot planner, for controllers. Link with target/staticlib/libdepot.a (`rt staticlib depot`, x86-64).
+/* The depot planner, for controllers. Link with target/staticlib/libdepot.a, a copy of crates/depot_c/out/libdepot_c.a (`rt lib` there, x86-64).
  *
  * Every call returns, whatever the bytes, numbers and buffers are. A buffer is a pointer and a count of elements; the pointer is never null and never
  * dangling, also where the count is 0, buffers that are written do not overlap any other buffer, and 64-bit buffers are aligned to 8 bytes. Nothing is

@@ -34,8 +34,7 @@ fn write_answer(told: Told, answer: &mut [u64])
 
 // Plans: 0 for a plan, 255 for "unsolvable", else the refusal's number. Length, cost, expansions begun and nodes kept stand in the first four words
 // of `answer`, where it has four.
-#[unsafe(no_mangle)]
-pub extern "C" fn depot_plan(
+pub fn depot_plan(
     record: &[u8],
     nodes: u32,
     budget: u32,
@@ -58,8 +57,7 @@ pub extern "C" fn depot_plan(
 }
 
 // Prices after a path of centre actions: 0, or the refusal's number.
-#[unsafe(no_mangle)]
-pub extern "C" fn depot_prices(record: &[u8], path: &[u8], prices: &mut [u64]) -> u32
+pub fn depot_prices(record: &[u8], path: &[u8], prices: &mut [u64]) -> u32
     ensures number { result ≡ (price_told (prices_of «record».now path.now prices.old).answer).number }
     ensures words { prices.new ≡ (prices_of «record».now path.now prices.old).words }
     ensures demands { PathMeets (pathOn «record».now path.now prices.old) mark
@@ -111,8 +109,7 @@ fn sized(record: &[u8], nodes: u32, rows: u64, width: u64) -> u64
 }
 
 // The words that a table for this record and these nodes needs, 0 where the record or the number of nodes is refused.
-#[unsafe(no_mangle)]
-pub extern "C" fn depot_table_words(record: &[u8], nodes: u32) -> u64
+pub fn depot_table_words(record: &[u8], nodes: u32) -> u64
     ensures words { result ≡ for_record (words_for nodes) «record».now nodes }
     ensures just_enough { (budget : ℕ) (plan : List ℕ)
         → JustEnough result (λ table. (plan_told (record_plan «record».now nodes budget plan table).answer).number) }
@@ -122,8 +119,7 @@ pub extern "C" fn depot_table_words(record: &[u8], nodes: u32) -> u64
 
 // The bytes that a plan buffer for this record and these nodes needs at most, 0 where the record or the number of nodes is refused: with a buffer of
 // that many bytes no call with these nodes is answered 24.
-#[unsafe(no_mangle)]
-pub extern "C" fn depot_plan_bytes(record: &[u8], nodes: u32) -> u64
+pub fn depot_plan_bytes(record: &[u8], nodes: u32) -> u64
     ensures bytes { result ≡ for_record (bytes_for nodes) «record».now nodes }
     ensures enough { (budget : ℕ) (table : List ℕ)
         → Enough result (λ plan. (plan_told (record_plan «record».now nodes budget plan table).answer).number) }

@@ -7,16 +7,16 @@ use Rattle.depot.specs.Depot.Laws.{record_none, record_some}
 use Rattle.depot.proofs.states_for.Goals as goal
 
 pub task_states-requires : goal.task_states-requires
-task_states-requires c = c.read_record-r.ensures.valid (ap verdict_number c.enum_told-1.given.1)
+task_states-requires c = c.read_record-r.ensures.valid (ap verdict_number c.in-Accepted.is)
 
 pub returns-in-Refused : goal.returns-in-Refused
 returns-in-Refused c =
     let s = c.args in
-    record_none (λ s. s) s.«record».now s.nodes (sym (ap (λ r. r.verdict) c.read_record-r.ensures.answer) ∙ c.v-1.given.1)
+    record_none (λ s. s) s.«record».now s.nodes (sym (ap (λ r. r.verdict) c.read_record-r.ensures.answer) ∙ c.in-Refused.is)
 
 pub returns-in-Accepted : goal.returns-in-Accepted
 returns-in-Accepted c =
     let s = c.args in
     let read = c.read_record-r.ensures.answer in
-    record_some (λ s. s) s.«record».now s.nodes (sym (ap (λ r. r.verdict) read) ∙ c.enum_told-1.given.1)
+    record_some (λ s. s) s.«record».now s.nodes (sym (ap (λ r. r.verdict) read) ∙ c.in-Accepted.is)
     (c.task_states.ensures ∙ ap (λ r. for_nodes (λ s. s) (all_states r.task) s.nodes) read)

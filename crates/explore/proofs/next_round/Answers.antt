@@ -12,38 +12,38 @@ use Rattle.explore.proofs.next_round.Goals as goal
 
 pub choose-chosen-requires : goal.choose-chosen-requires
 choose-chosen-requires c =
-    let few : c.args.run.count ≤ 4096 = omega (arith, c.requires.1.1.1.0.count_few, c.requires.1.1.1.0.few_nodes) in
-    (c.requires.1.1.1.0.scan_long, few, omega (arith, c.well_formed.1.1.1.1.1.1.1.1.1.1.1.1.1.1.1.1.1.1.1.1.1.1.1.1.1.1.1.1.0), c.requires.1.1.1.0.chained.blocks)
+    let few : c.args.run.count ≤ 4096 = omega (arith, c.requires.room.count_few, c.requires.room.few_nodes) in
+    (c.requires.room.scan_long, few, omega (arith, c.well_formed.1.1.1.1.1.1.1.1.1.1.1.1.1.1.1.1.1.1.1.1.1.1.1.1.1.1.1.1.0), c.requires.room.chained.blocks)
 
 pub returns-then-chosen-eq0 : goal.returns-then-chosen-eq0
 returns-then-chosen-eq0 c =
-    record { rounded = (λ t f a. ahead_finished t f.valid c.args.nodes c.requires.1.1.1.0.few_nodes c.args.budget (all_states t) c.args.table.now c.args.scan.now c.args.run a (sym c.choose-chosen.ensures ∙ c.if-chosen-eq0.true)); known = c.requires.1.0.3 }
+    record { rounded = (λ t f a. ahead_finished t f.valid c.args.nodes c.requires.room.few_nodes c.args.budget (all_states t) c.args.table.now c.args.scan.now c.args.run a (sym c.choose-chosen.ensures ∙ c.if-chosen-eq0.true)); known = c.requires.still.3 }
 
 pub returns-then-run-budget : goal.returns-then-run-budget
 returns-then-run-budget c =
     let picked : let a = c.args in (choose_by a.run.best_cost a.scan.now a.run.count ≡ suc (c.choose-chosen.result - 1)) × (c.choose-chosen.result - 1 < a.run.count) = let a = c.args in let e : c.choose-chosen.result ≡ suc (c.choose-chosen.result - 1) = omega (arith, c.if-chosen-eq0.false) in (sym c.choose-chosen.ensures ∙ e, omega (arith, choice_in a.run.best_cost a.scan.now a.run.count, c.choose-chosen.ensures)) in
-    record { rounded = (λ t f a. ahead_spent t f.valid c.args.nodes c.requires.1.1.1.0.few_nodes c.args.budget (all_states t) c.args.table.now c.args.scan.now c.args.run a (c.choose-chosen.result - 1) picked.0 c.if-run-budget.true); known = c.requires.1.0.3 }
+    record { rounded = (λ t f a. ahead_spent t f.valid c.args.nodes c.requires.room.few_nodes c.args.budget (all_states t) c.args.table.now c.args.scan.now c.args.run a (c.choose-chosen.result - 1) picked.0 c.if-run-budget.true); known = c.requires.still.3 }
 
 pub offset_bounds-scan-u : goal.offset_bounds-scan-u
 offset_bounds-scan-u c =
     let picked : let a = c.args in (choose_by a.run.best_cost a.scan.now a.run.count ≡ suc (c.choose-chosen.result - 1)) × (c.choose-chosen.result - 1 < a.run.count) = let a = c.args in let e : c.choose-chosen.result ≡ suc (c.choose-chosen.result - 1) = omega (arith, c.if-chosen-eq0.false) in (sym c.choose-chosen.ensures ∙ e, omega (arith, choice_in a.run.best_cost a.scan.now a.run.count, c.choose-chosen.ensures)) in
-    let few : c.args.run.count ≤ 4096 = omega (arith, c.requires.1.1.1.0.count_few, c.requires.1.1.1.0.few_nodes) in
+    let few : c.args.run.count ≤ 4096 = omega (arith, c.requires.room.count_few, c.requires.room.few_nodes) in
     omega (arith, picked.1, few)
 
 pub bounds-scan-u : goal.bounds-scan-u
 bounds-scan-u c =
     let picked : let a = c.args in (choose_by a.run.best_cost a.scan.now a.run.count ≡ suc (c.choose-chosen.result - 1)) × (c.choose-chosen.result - 1 < a.run.count) = let a = c.args in let e : c.choose-chosen.result ≡ suc (c.choose-chosen.result - 1) = omega (arith, c.if-chosen-eq0.false) in (sym c.choose-chosen.ensures ∙ e, omega (arith, choice_in a.run.best_cost a.scan.now a.run.count, c.choose-chosen.ensures)) in
-    let long : c.args.run.count ≤ length c.args.scan.now = omega (arith, c.requires.1.1.1.0.scan_long, c.requires.1.1.1.0.count_few, c.requires.1.1.1.0.few_nodes) in
+    let long : c.args.run.count ≤ length c.args.scan.now = omega (arith, c.requires.room.scan_long, c.requires.room.count_few, c.requires.room.few_nodes) in
     omega (arith, picked.1, long)
 
 pub retire-requires : goal.retire-requires
 retire-requires c =
     let picked : let a = c.args in (choose_by a.run.best_cost a.scan.now a.run.count ≡ suc (c.choose-chosen.result - 1)) × (c.choose-chosen.result - 1 < a.run.count) = let a = c.args in let e : c.choose-chosen.result ≡ suc (c.choose-chosen.result - 1) = omega (arith, c.if-chosen-eq0.false) in (sym c.choose-chosen.ensures ∙ e, omega (arith, choice_in a.run.best_cost a.scan.now a.run.count, c.choose-chosen.ensures)) in
-    let few : c.args.run.count ≤ 4096 = omega (arith, c.requires.1.1.1.0.count_few, c.requires.1.1.1.0.few_nodes) in
-    (c.requires.1.1.1.0.scan_long, few, picked.1)
+    let few : c.args.run.count ≤ 4096 = omega (arith, c.requires.room.count_few, c.requires.room.few_nodes) in
+    (c.requires.room.scan_long, few, picked.1)
 
 pub overflow_add-more : goal.overflow_add-more
-overflow_add-more c = omega (arith, c.requires.1.1.0.2)
+overflow_add-more c = omega (arith, c.requires.effects_len.2)
 
 pub expand-r-requires : goal.expand-r-requires
 expand-r-requires c =
@@ -51,8 +51,8 @@ expand-r-requires c =
     let picked : let a = c.args in (choose_by a.run.best_cost a.scan.now a.run.count ≡ suc (c.choose-chosen.result - 1)) × (c.choose-chosen.result - 1 < a.run.count) = let a = c.args in let e : c.choose-chosen.result ≡ suc (c.choose-chosen.result - 1) = omega (arith, c.if-chosen-eq0.false) in (sym c.choose-chosen.ensures ∙ e, omega (arith, choice_in a.run.best_cost a.scan.now a.run.count, c.choose-chosen.ensures)) in
     let node : ℕ = c.choose-chosen.result - 1 in
     let words : List ℕ = c.retire.new.scan in
-    let room : let a = c.args in Room (row_on board) a.nodes a.table.now words (begun a.run) = let a = c.args in retired_room (row_on board) a.nodes a.table.now a.scan.now words a.run node c.requires.1.1.1.0 picked.1 c.retire.ensures in
-    record { sound = c.requires.0; still = c.requires.1.0; effects_len = (c.requires.1.1.0.0, c.requires.1.1.0.1, picked.1); room = room; len = c.requires.1.1.1.1 }
+    let room : let a = c.args in Room (row_on board) a.nodes a.table.now words (begun a.run) = let a = c.args in retired_room (row_on board) a.nodes a.table.now a.scan.now words a.run node c.requires.room picked.1 c.retire.ensures in
+    record { sound = c.requires.sound; still = c.requires.still; effects_len = (c.requires.effects_len.0, c.requires.effects_len.1, picked.1); room = room; len = c.requires.len }
 
 pub shape_of-table-then-r : goal.shape_of-table-then-r
 shape_of-table-then-r c = c.expand-r.auto.table
@@ -82,16 +82,16 @@ pub returns-then-r : goal.returns-then-r
 returns-then-r c =
     let board : Board = let a = c.args in board_of a.leaves a.actions a.bases.now a.moves.now a.costs.now a.kinds.now a.factors a.conditions.now in
     let picked : let a = c.args in (choose_by a.run.best_cost a.scan.now a.run.count ≡ suc (c.choose-chosen.result - 1)) × (c.choose-chosen.result - 1 < a.run.count) = let a = c.args in let e : c.choose-chosen.result ≡ suc (c.choose-chosen.result - 1) = omega (arith, c.if-chosen-eq0.false) in (sym c.choose-chosen.ensures ∙ e, omega (arith, choice_in a.run.best_cost a.scan.now a.run.count, c.choose-chosen.ensures)) in
-    let long : c.args.run.count ≤ length c.args.scan.now = omega (arith, c.requires.1.1.1.0.scan_long, c.requires.1.1.1.0.count_few, c.requires.1.1.1.0.few_nodes) in
+    let long : c.args.run.count ≤ length c.args.scan.now = omega (arith, c.requires.room.scan_long, c.requires.room.count_few, c.requires.room.few_nodes) in
     let node : ℕ = c.choose-chosen.result - 1 in
     let words : List ℕ = c.retire.new.scan in
-    let keyed : (v : ℕ) → v < c.args.run.count → get_or words v 0 ≡ get_or (set c.args.scan.now node mark) v 0 = let a = c.args in retired_keyed (row_on board) a.nodes a.table.now a.scan.now words a.run node c.requires.1.1.1.0 picked.1 c.retire.ensures in
+    let keyed : (v : ℕ) → v < c.args.run.count → get_or words v 0 ≡ get_or (set c.args.scan.now node mark) v 0 = let a = c.args in retired_keyed (row_on board) a.nodes a.table.now a.scan.now words a.run node c.requires.room picked.1 c.retire.ensures in
     let a = c.args in
     let w = c.expand-r in record {
-      rounded = (λ t f h. ahead_full t f.valid a.nodes c.requires.1.1.1.0.few_nodes a.budget (all_states t) a.table.now a.scan.now a.run h node
+      rounded = (λ t f h. ahead_full t f.valid a.nodes c.requires.room.few_nodes a.budget (all_states t) a.table.now a.scan.now a.run h node
           picked.0 long c.if-run-budget.false words keyed
-          w.result w.new.1.1.1.1.1.1.1.1.1.1.1.1.1.1.1.1.1.1.1.1.1.0 w.new.1.1.1.1.1.1.1.1.1.1.1.1.1.1.1.1.1.1.1.1.1.1.0 (w.ensures.1.0 t f) c.if-r.true);
-      known = w.ensures.1.1.0;
+          w.result w.new.table w.new.scan (w.ensures.expanded t f) c.if-r.true);
+      known = w.ensures.known;
     }
 
 pub shape_of-table : goal.shape_of-table
@@ -122,17 +122,17 @@ pub returns : goal.returns
 returns c =
     let board : Board = let a = c.args in board_of a.leaves a.actions a.bases.now a.moves.now a.costs.now a.kinds.now a.factors a.conditions.now in
     let picked : let a = c.args in (choose_by a.run.best_cost a.scan.now a.run.count ≡ suc (c.choose-chosen.result - 1)) × (c.choose-chosen.result - 1 < a.run.count) = let a = c.args in let e : c.choose-chosen.result ≡ suc (c.choose-chosen.result - 1) = omega (arith, c.if-chosen-eq0.false) in (sym c.choose-chosen.ensures ∙ e, omega (arith, choice_in a.run.best_cost a.scan.now a.run.count, c.choose-chosen.ensures)) in
-    let long : c.args.run.count ≤ length c.args.scan.now = omega (arith, c.requires.1.1.1.0.scan_long, c.requires.1.1.1.0.count_few, c.requires.1.1.1.0.few_nodes) in
+    let long : c.args.run.count ≤ length c.args.scan.now = omega (arith, c.requires.room.scan_long, c.requires.room.count_few, c.requires.room.few_nodes) in
     let node : ℕ = c.choose-chosen.result - 1 in
     let words : List ℕ = c.retire.new.scan in
-    let keyed : (v : ℕ) → v < c.args.run.count → get_or words v 0 ≡ get_or (set c.args.scan.now node mark) v 0 = let a = c.args in retired_keyed (row_on board) a.nodes a.table.now a.scan.now words a.run node c.requires.1.1.1.0 picked.1 c.retire.ensures in
+    let keyed : (v : ℕ) → v < c.args.run.count → get_or words v 0 ≡ get_or (set c.args.scan.now node mark) v 0 = let a = c.args in retired_keyed (row_on board) a.nodes a.table.now a.scan.now words a.run node c.requires.room picked.1 c.retire.ensures in
     let a = c.args in
     let w = c.expand-r in record {
       rounded = (λ t f h. (
-        ahead_on t f.valid a.nodes c.requires.1.1.1.0.few_nodes a.budget (all_states t) a.table.now a.scan.now a.run h node
+        ahead_on t f.valid a.nodes c.requires.room.few_nodes a.budget (all_states t) a.table.now a.scan.now a.run h node
             picked.0 long c.if-run-budget.false words keyed
-            w.result w.new.1.1.1.1.1.1.1.1.1.1.1.1.1.1.1.1.1.1.1.1.1.0 w.new.1.1.1.1.1.1.1.1.1.1.1.1.1.1.1.1.1.1.1.1.1.1.0 (w.ensures.1.0 t f) c.if-r.false w.ensures.0.2 (rw (row_on_lem t board f.fits) at w.ensures.0.3),
-        w.ensures.0.2,
+            w.result w.new.table w.new.scan (w.ensures.expanded t f) c.if-r.false w.ensures.grown.2 (rw (row_on_lem t board f.fits) at w.ensures.grown.3),
+        w.ensures.grown.2,
       ));
-      known = w.ensures.1.1.0;
+      known = w.ensures.known;
     }

@@ -19,15 +19,15 @@ pub first_layer-requires : goal.first_layer-requires
 first_layer-requires c =
     let board : Board = let a = c.args in board_of a.task.leaves a.task.actions a.bases.now a.moves.now a.costs.now a.kinds.now a.task.factors a.task.conditions in
     let lists : (length c.args.task.factors ≡ 32) × (length c.args.task.conditions ≡ 8192) = (search rules, search rules) in
-    let fit : Suits c.args.task board c.args.task.effects c.args.goals.now c.args.task.goal × Sound board = let a = c.args in tables_suit a.task c.requires.0 a.bases.now a.moves.now a.costs.now a.kinds.now a.starts.now a.goals.now c.requires.1.0.0 c.requires.1.0.1 lists.0 lists.1 in
+    let fit : Suits c.args.task board c.args.task.effects c.args.goals.now c.args.task.goal × Sound board = let a = c.args in tables_suit a.task c.requires.valid a.bases.now a.moves.now a.costs.now a.kinds.now a.starts.now a.goals.now c.requires.tabled.0 c.requires.tabled.1 lists.0 lists.1 in
     let t = c.args.task in
     let w = fit in
-    let h = c.requires.1.0.0.is_starts in
+    let h = c.requires.tabled.0.is_starts in
     let few = w.1.few_all in (
       w.1,
       few,
-      omega (arith, c.requires.0.fields.few_leaves, h.long),
-      start_in t c.requires.0 board w.0.fits c.args.starts.now h,
+      omega (arith, c.requires.valid.fields.few_leaves, h.long),
+      start_in t c.requires.valid board w.0.fits c.args.starts.now h,
       take_replicate _ 1024 mark few,
     )
 
@@ -35,7 +35,7 @@ pub key_of-key-requires : goal.key_of-key-requires
 key_of-key-requires c =
     let board : Board = let a = c.args in board_of a.task.leaves a.task.actions a.bases.now a.moves.now a.costs.now a.kinds.now a.task.factors a.task.conditions in
     let lists : (length c.args.task.factors ≡ 32) × (length c.args.task.conditions ≡ 8192) = (search rules, search rules) in
-    let fit : Suits c.args.task board c.args.task.effects c.args.goals.now c.args.task.goal × Sound board = let a = c.args in tables_suit a.task c.requires.0 a.bases.now a.moves.now a.costs.now a.kinds.now a.starts.now a.goals.now c.requires.1.0.0 c.requires.1.0.1 lists.0 lists.1 in
+    let fit : Suits c.args.task board c.args.task.effects c.args.goals.now c.args.task.goal × Sound board = let a = c.args in tables_suit a.task c.requires.valid a.bases.now a.moves.now a.costs.now a.kinds.now a.starts.now a.goals.now c.requires.tabled.0 c.requires.tabled.1 lists.0 lists.1 in
     let layer_cut : Cut c.args.task.leaves c.args.bases.now (length c.first_layer.new.new) = let kept : length c.first_layer.new.new ≡ 1024 = c.first_layer.auto.new in cut fit.1 (omega (arith, fit.1.few_all)) in
     layer_cut
 
@@ -43,15 +43,15 @@ pub keep-requires : goal.keep-requires
 keep-requires c =
     let board : Board = let a = c.args in board_of a.task.leaves a.task.actions a.bases.now a.moves.now a.costs.now a.kinds.now a.task.factors a.task.conditions in
     let lists : (length c.args.task.factors ≡ 32) × (length c.args.task.conditions ≡ 8192) = (search rules, search rules) in
-    let fit : Suits c.args.task board c.args.task.effects c.args.goals.now c.args.task.goal × Sound board = let a = c.args in tables_suit a.task c.requires.0 a.bases.now a.moves.now a.costs.now a.kinds.now a.starts.now a.goals.now c.requires.1.0.0 c.requires.1.0.1 lists.0 lists.1 in
-    let wide : length c.fresh.new.scan ≡ 17696 = let kept : length c.fresh.new.scan ≡ length c.args.scan.now = c.fresh.auto.scan in kept ∙ c.requires.1.1.1 in
+    let fit : Suits c.args.task board c.args.task.effects c.args.goals.now c.args.task.goal × Sound board = let a = c.args in tables_suit a.task c.requires.valid a.bases.now a.moves.now a.costs.now a.kinds.now a.starts.now a.goals.now c.requires.tabled.0 c.requires.tabled.1 lists.0 lists.1 in
+    let wide : length c.fresh.new.scan ≡ 17696 = let kept : length c.fresh.new.scan ≡ length c.args.scan.now = c.fresh.auto.scan in kept ∙ c.requires.task_in_bounds.1 in
     let layer_cut : Cut c.args.task.leaves c.args.bases.now (length c.first_layer.new.new) = let kept : length c.first_layer.new.new ≡ 1024 = c.first_layer.auto.new in cut fit.1 (omega (arith, fit.1.few_all)) in
-    let w = fit in record { cut = (layer_cut, cut {n = length c.args.goals.now} w.1 (omega (arith, w.1.few_all, c.requires.1.0.1.long))); leaves_bound = (w.1.few_all, omega arith, omega (arith, row_on_lem c.args.task board w.0.fits, c.requires.1.1.0), wide); sign_value = (λ e. absurd (true≢false e), c.class_of.ensures) }
+    let w = fit in record { cut = (layer_cut, cut {n = length c.args.goals.now} w.1 (omega (arith, w.1.few_all, c.requires.tabled.1.long))); leaves_bound = (w.1.few_all, omega arith, omega (arith, row_on_lem c.args.task board w.0.fits, c.requires.task_in_bounds.0), wide); sign_value = (λ e. absurd (true≢false e), c.class_of.ensures) }
 
 pub shape_of-scan : goal.shape_of-scan
 shape_of-scan c =
     let k = c.keep in
-    let linked : length k.new.1.1.1.1.1.1.1.1.1.1.1.1.1.1.1.0 ≡ length c.fresh.new.scan = k.auto.1.1.1.1.1.1.1.1.1.1.1.1.1.1.1.0 in
+    let linked : length k.new.scan ≡ length c.fresh.new.scan = k.auto.scan in
     let cleared : length c.fresh.new.scan ≡ length c.args.scan.now = c.fresh.auto.scan in
     linked ∙ cleared
 
@@ -59,12 +59,12 @@ pub returns : goal.returns
 returns c =
     let board : Board = let a = c.args in board_of a.task.leaves a.task.actions a.bases.now a.moves.now a.costs.now a.kinds.now a.task.factors a.task.conditions in
     let lists : (length c.args.task.factors ≡ 32) × (length c.args.task.conditions ≡ 8192) = (search rules, search rules) in
-    let fit : Suits c.args.task board c.args.task.effects c.args.goals.now c.args.task.goal × Sound board = let a = c.args in tables_suit a.task c.requires.0 a.bases.now a.moves.now a.costs.now a.kinds.now a.starts.now a.goals.now c.requires.1.0.0 c.requires.1.0.1 lists.0 lists.1 in
+    let fit : Suits c.args.task board c.args.task.effects c.args.goals.now c.args.task.goal × Sound board = let a = c.args in tables_suit a.task c.requires.valid a.bases.now a.moves.now a.costs.now a.kinds.now a.starts.now a.goals.now c.requires.tabled.0 c.requires.tabled.1 lists.0 lists.1 in
     let a = c.args in
     let t = a.task in
     let f = c.first_layer in
     let k = c.keep in
-    let spot = c.after-spot.ensures ∙ ap (centre_after (factor t) (initial t)) c.blank.ensures ∙ initial_centre t c.requires.0 in
-    start_is t board t.effects a.goals.now t.goal fit.0 a.starts.now c.requires.1.0.0.is_starts c.after-spot.result (drop (get_or a.bases.now t.leaves 0) (replicate 1024 mark)) f.new.1.1.1.1.1.1.1.1.1.1.0
-    spot f.ensures a.table.now a.scan.now c.fresh.new.scan k.new.1.1.1.1.1.1.1.1.1.1.1.1.1.1.0 k.new.1.1.1.1.1.1.1.1.1.1.1.1.1.1.1.0 k.result
-    c.key_of-key.result c.requires.1.1.1 c.requires.1.1.2 c.fresh.ensures c.key_of-key.ensures k.ensures
+    let spot = c.after-spot.ensures ∙ ap (centre_after (factor t) (initial t)) c.blank.ensures ∙ initial_centre t c.requires.valid in
+    start_is t board t.effects a.goals.now t.goal fit.0 a.starts.now c.requires.tabled.0.is_starts c.after-spot.result (drop (get_or a.bases.now t.leaves 0) (replicate 1024 mark)) f.new.new
+    spot f.ensures a.table.now a.scan.now c.fresh.new.scan k.new.table k.new.scan k.result
+    c.key_of-key.result c.requires.task_in_bounds.1 c.requires.task_in_bounds.2 c.fresh.ensures c.key_of-key.ensures k.ensures

@@ -6,19 +6,19 @@ use Rattle.planner.specs.Planner.Answers.{record_refused, record_accepted, outco
 use Rattle.planner.proofs.plan.Goals as goal
 
 pub plan_task-requires : goal.plan_task-requires
-plan_task-requires c = c.read_record-r.ensures.valid (ap verdict_number c.enum_told-1.given.1)
+plan_task-requires c = c.read_record-r.ensures.valid (ap verdict_number c.in-Accepted.is)
 
 pub returns-in-Refused : goal.returns-in-Refused
 returns-in-Refused c =
     let s = c.args in
     let read = c.read_record-r.ensures.answer in
     outcome_says s.«record».now s.nodes s.budget s.plan.now s.table.now _ _ _
-    (record_refused s.«record».now s.nodes s.budget s.plan.now s.table.now (sym (ap (λ r. r.verdict) read) ∙ c.v-1.given.1))
+    (record_refused s.«record».now s.nodes s.budget s.plan.now s.table.now (sym (ap (λ r. r.verdict) read) ∙ c.in-Refused.is))
 
 pub returns-in-Accepted : goal.returns-in-Accepted
 returns-in-Accepted c =
     let s = c.args in
     let read = c.read_record-r.ensures.answer in
     outcome_says s.«record».now s.nodes s.budget s.plan.now s.table.now _ _ _
-    (record_accepted s.«record».now s.nodes s.budget s.plan.now s.table.now (sym (ap (λ r. r.verdict) read) ∙ c.enum_told-1.given.1)
+    (record_accepted s.«record».now s.nodes s.budget s.plan.now s.table.now (sym (ap (λ r. r.verdict) read) ∙ c.in-Accepted.is)
     (c.plan_task.ensures ∙ ap (λ r. task_plan r.task s.nodes s.budget s.plan.now s.table.now) read))

@@ -14,9 +14,9 @@ tabled c =
     let c = c in
     let kept : length c.fill_moves.new.moves ≡ length c.args.moves.now = c.fill_moves.auto.moves in
     record {
-      is_bases = c.requires.1.0;
+      is_bases = c.requires.bases.0;
       is_moves = c.fill_moves.ensures.moves;
-      long_moves = omega (arith, kept, c.requires.1.4);
+      long_moves = omega (arith, kept, c.requires.bases.4);
       is_costs = c.action_costs-costs.ensures;
       is_kinds = c.action_kinds-kinds.ensures;
       is_starts = c.leaf_starts-starts.ensures;
@@ -28,24 +28,24 @@ sound c =
     let c = c in
     let kept : length c.explore-stop.new.table ≡ length c.args.table.now = c.explore-stop.ensures.lengths.0 in
     stop_sound c.args.task c.args.nodes c.args.budget c.explore-stop.new.table c.explore-stop.new.scan c.explore-stop.result c.explore-stop.ensures.searched.0
-    c.requires.1.1 c.requires.1.2 (omega (arith, kept, c.requires.1.3)) c.explore-stop.ensures.searched.1.some
+    c.requires.bases.1 c.requires.bases.2 (omega (arith, kept, c.requires.bases.3)) c.explore-stop.ensures.searched.1.some
 
 pub task_edges-requires : goal.task_edges-requires
 task_edges-requires c =
     let t = tabled (goal.at.task_edges-requires c).After-leaf_goals-goals in
-    record { valid = c.requires.0; bases = (t.is_bases, t.is_moves, t.is_costs, t.is_kinds); task_in_bounds = (t.long_moves, c.requires.1.5, omega (arith, length-replicate {A = ℕ} 1025 0)) }
+    record { valid = c.requires.valid; bases = (t.is_bases, t.is_moves, t.is_costs, t.is_kinds); task_in_bounds = (t.long_moves, c.requires.bases.5, omega (arith, length-replicate {A = ℕ} 1025 0)) }
 
 pub slice_bounds-explore-end : goal.slice_bounds-explore-end
-slice_bounds-explore-end c = sym c.requires.1.0.long
+slice_bounds-explore-end c = sym c.requires.bases.0.long
 
 pub explore-stop-requires : goal.explore-stop-requires
 unfolding table_words
 explore-stop-requires c =
     let e = c.task_edges.ensures in
-    record { valid = c.requires.0; tabled = (tabled (goal.at.explore-stop-requires c).After-leaf_goals-goals, c.leaf_goals-goals.ensures); edges = e; le_nodes = (c.requires.1.1, c.requires.1.2, c.requires.1.3, refl, λ h _. replicate_at 17696 0 (6144 + h)) }
+    record { valid = c.requires.valid; tabled = (tabled (goal.at.explore-stop-requires c).After-leaf_goals-goals, c.leaf_goals-goals.ensures); edges = e; le_nodes = (c.requires.bases.1, c.requires.bases.2, c.requires.bases.3, refl, λ h _. replicate_at 17696 0 (6144 + h)) }
 
 pub slice_bounds-answer_of-end : goal.slice_bounds-answer_of-end
-slice_bounds-answer_of-end c = sym c.requires.1.0.long
+slice_bounds-answer_of-end c = sym c.requires.bases.0.long
 
 pub slice_bounds-answer_of-end-2 : goal.slice_bounds-answer_of-end-2
 slice_bounds-answer_of-end-2 c = sym c.action_costs-costs.ensures.long
@@ -61,7 +61,7 @@ slice_bounds-answer_of-end-5 c = sym c.leaf_goals-goals.ensures.long
 
 pub answer_of-requires : goal.answer_of-requires
 answer_of-requires c =
-    record { valid = c.requires.0; tabled = (tabled (goal.at.answer_of-requires c).After-leaf_goals-goals, c.leaf_goals-goals.ensures); sound = (sound (goal.at.answer_of-requires c).After-explore-stop, c.task_edges.ensures) }
+    record { valid = c.requires.valid; tabled = (tabled (goal.at.answer_of-requires c).After-leaf_goals-goals, c.leaf_goals-goals.ensures); sound = (sound (goal.at.answer_of-requires c).After-explore-stop, c.task_edges.ensures) }
 
 pub shape_of-moves : goal.shape_of-moves
 shape_of-moves c = c.fill_moves.auto.moves

@@ -22,13 +22,13 @@ lists s = (search rules, search rules)
 fit : (s : Start) → Fits s.args.task (board s) × Sound (board s)
 fit s =
     let a = s.args in
-    let are = s.requires.1.0 in
-    tables_fit a.task s.requires.0 a.bases.now a.moves.now a.costs.now a.kinds.now are.0 are.1 are.2 are.3
-    s.requires.1.1.0 (lists s).0 (lists s).1
+    let are = s.requires.bases in
+    tables_fit a.task s.requires.valid a.bases.now a.moves.now a.costs.now a.kinds.now are.0 are.1 are.2 are.3
+    s.requires.task_in_bounds.0 (lists s).0 (lists s).1
 
 pub fill_edges-requires : goal.fill_edges-requires
 fill_edges-requires c =
     let t = c.args.task in
     let w = fit (goal.at.fill_edges-requires c).Start in
-    let room : all_states t * t.actions ≤ length c.args.edges.now = rw (mul_comm (all_states t) t.actions) c.requires.1.1.1 in
-    (w.1, rw (row_on_lem t (board (goal.at.fill_edges-requires c).Start) w.0) room, omega (arith, w.1.few_all, c.requires.1.1.2))
+    let room : all_states t * t.actions ≤ length c.args.edges.now = rw (mul_comm (all_states t) t.actions) c.requires.task_in_bounds.1 in
+    (w.1, rw (row_on_lem t (board (goal.at.fill_edges-requires c).Start) w.0) room, omega (arith, w.1.few_all, c.requires.task_in_bounds.2))
