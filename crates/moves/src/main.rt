@@ -11,9 +11,13 @@ ghost use Rattle.std.specs.Prelude.{◌≡◌, ◌+◌, ◌≤◌, length};
 ghost use Rattle.task.specs.Valid.{Valid};
 
 use answers::{PlanAnswer, PlanRefusal, Solution, plan_refusal_number};
-use libc::{STDIN_FILENO, STDOUT_FILENO};
 use planner::{fitting_nodes, plan};
 use record::read_record;
+use std::alloc::Alloc;
+use std::env::FillError;
+use std::io::Read;
+use std::rt::{Env, Files};
+use std::{fs, io, str};
 use steps::{holds, put};
 use task::{FREE, Task};
 use whole::Verdict;
@@ -65,41 +69,41 @@ fn names(factors: &[u8], effects: &[u8], action: u8, n: usize, leaf: u8) -> bool
 }
 
 // A value behind a comma, or without one if it is the first.
-fn print_value(value: u8, first: bool) {
+fn print_value(rt: &impl Print, value: u8, first: bool) -> io::Result<()> {
     if !first {
-        io::write_all(STDOUT_FILENO, b",");
+        print!(rt; ",")?;
     }
-    io::print_decimal(STDOUT_FILENO, value as u64);
+    print!(rt; "{value}")
 }
 
 // The values of the leaf's variables.
-fn print_values(factors: &[u8], values: &[u8], n: usize, leaf: u8)
+fn print_values(
+    rt: &impl Print,
+    factors: &[u8],
+    values: &[u8],
+    n: usize,
+    leaf: u8,
+) -> io::Result<()>
     requires { (n ≤ length factors.now) × (n ≤ length values.now) }
 {
     let mut first = true;
     for v in 0..n {
         if factors[v] == leaf {
-            print_value(values[v], first);
+            print_value(rt, values[v], first)?;
             first = false;
         }
     }
+    Ok(())
 }
 
 // An action's number, as wide as the first column.
-fn print_action(action: u8) {
-    io::write_all(STDOUT_FILENO, b"  ");
-    io::print_decimal(STDOUT_FILENO, action as u64);
-    if action < 100 {
-        io::write_all(STDOUT_FILENO, b" ");
-    }
-    if action < 10 {
-        io::write_all(STDOUT_FILENO, b" ");
-    }
-    io::write_all(STDOUT_FILENO, b"      ");
+fn print_action(rt: &impl Print, action: u8) -> io::Result<()> {
+    print!(rt; "  {action:<3}      ")
 }
 
 // The line of a move that is planned for the leaf, and the tally with it: made, with the leaf's values before and behind it, or not made.
 fn print_move(
+    rt: &impl Print,
     factors: &[u8],
     planned: bool,
     action: u8,
@@ -109,29 +113,29 @@ fn print_move(
     leaf: u8,
     made: bool,
     tally: Tally,
-) -> Tally
+) -> io::Result<Tally>
     requires { (n ≤ length factors.now) × (n ≤ length before.now) × (n ≤ length behind.now) }
 {
     if !planned {
-        return tally;
+        return Ok(tally);
     }
     let many = one_more(tally.planned);
-    print_action(action);
+    print_action(rt, action)?;
     if !made {
-        io::write_all(STDOUT_FILENO, b"not made\n");
-        return Tally {
+        println!(rt; "not made")?;
+        return Ok(Tally {
             planned: many,
             made: tally.made,
-        };
+        });
     }
-    print_values(factors, before, n, leaf);
-    io::write_all(STDOUT_FILENO, b" to ");
-    print_values(factors, behind, n, leaf);
-    io::write_all(STDOUT_FILENO, b"\n");
-    Tally {
+    print_values(rt, factors, before, n, leaf)?;
+    print!(rt; " to ")?;
+    print_values(rt, factors, behind, n, leaf)?;
+    println!(rt)?;
+    Ok(Tally {
         planned: many,
         made: one_more(tally.made),
-    }
+    })
 }
 
 // Whether the simulation goes on with the action: it has so far, and the action applies to the values, which are then those behind it.
@@ -162,6 +166,7 @@ fn stepped(
 
 // The plan carried out from the initial values: a line for each move of the leaf. An action that does not apply ends the simulation.
 fn carry_leaf(
+    rt: &impl Print,
     factors: &[u8],
     conditions: &[u8],
     effects: &[u8],
@@ -170,7 +175,7 @@ fn carry_leaf(
     actions: usize,
     plan: &[u8],
     leaf: u8,
-) -> Tally
+) -> io::Result<Tally>
     requires { (n ≤ 32) × (length factors.now ≡ 32) × (length conditions.now ≡ 8192) × (length effects.now ≡ 8192) }
 {
     let mut tally = Tally {
@@ -185,23 +190,21 @@ fn carry_leaf(
         let planned = names(factors, effects, action, n, leaf);
         going = stepped(going, conditions, effects, actions, n, action, &mut values);
         tally = print_move(
-            factors, planned, action, &before, &values, n, leaf, going, tally,
-        );
+            rt, factors, planned, action, &before, &values, n, leaf, going, tally,
+        )?;
     }
-    tally
+    Ok(tally)
 }
 
 // ---- all leaves
 
-fn print_tally(tally: Tally) {
-    io::write_all(STDOUT_FILENO, b"planned ");
-    io::print_decimal(STDOUT_FILENO, tally.planned);
-    io::write_all(STDOUT_FILENO, b" made ");
-    io::print_decimal(STDOUT_FILENO, tally.made);
+fn print_tally(rt: &impl Print, tally: Tally) -> io::Result<()> {
+    print!(rt; "planned {} made {}", tally.planned, tally.made)
 }
 
 // The columns of each leaf. The moves of all leaves together.
 fn print_leaves(
+    rt: &impl Print,
     factors: &[u8],
     conditions: &[u8],
     effects: &[u8],
@@ -210,7 +213,7 @@ fn print_leaves(
     actions: usize,
     leaves: u8,
     plan: &[u8],
-) -> Tally
+) -> io::Result<Tally>
     requires { (n ≤ 32) × (length factors.now ≡ 32) × (length conditions.now ≡ 8192) × (length effects.now ≡ 8192) }
 {
     let mut sum = Tally {
@@ -218,10 +221,10 @@ fn print_leaves(
         made: 0,
     };
     for i in 0..leaves {
-        io::write_all(STDOUT_FILENO, b"leaf ");
-        io::print_decimal(STDOUT_FILENO, i as u64 + 1);
-        io::write_all(STDOUT_FILENO, b"\n  planned  made\n");
+        let number = i as u64 + 1;
+        print!(rt; "leaf {number}\n  planned  made\n")?;
         let tally = carry_leaf(
+            rt,
             factors,
             conditions,
             effects,
@@ -230,16 +233,16 @@ fn print_leaves(
             actions,
             plan,
             i + 1,
-        );
-        io::write_all(STDOUT_FILENO, b"  ");
-        print_tally(tally);
-        io::write_all(STDOUT_FILENO, b"\n");
+        )?;
+        print!(rt; "  ")?;
+        print_tally(rt, tally)?;
+        println!(rt)?;
         sum = Tally {
             planned: together(sum.planned, tally.planned),
             made: together(sum.made, tally.made),
         };
     }
-    sum
+    Ok(sum)
 }
 
 // Whether each action of the plan applies in turn, and the goal holds of the values at the end.
@@ -264,7 +267,7 @@ fn arrives(
 }
 
 // The columns of a task's leaves.
-fn task_leaves(t: Task, plan: &[u8]) -> Tally
+fn task_leaves(rt: &impl Print, t: Task, plan: &[u8]) -> io::Result<Tally>
     requires { Valid t }
 {
     let factors = t.factors;
@@ -272,6 +275,7 @@ fn task_leaves(t: Task, plan: &[u8]) -> Tally
     let effects = t.effects;
     let initial = t.initial;
     print_leaves(
+        rt,
         &factors,
         &conditions,
         &effects,
@@ -303,50 +307,44 @@ fn task_arrives(t: Task, plan: &[u8]) -> bool
 }
 
 // The columns of a task's leaves, and the last line.
-fn print_moves(t: Task, plan: &[u8])
+fn print_moves(rt: &impl Print, t: Task, plan: &[u8]) -> io::Result<()>
     requires { Valid t }
 {
-    let sum = task_leaves(t, plan);
-    io::write_all(STDOUT_FILENO, b"all leaves ");
-    print_tally(sum);
+    let sum = task_leaves(rt, t, plan)?;
+    print!(rt; "all leaves ")?;
+    print_tally(rt, sum)?;
     if task_arrives(t, plan) {
-        io::write_all(STDOUT_FILENO, b" goal met\n");
+        println!(rt; " goal met")
     } else {
-        io::write_all(STDOUT_FILENO, b" goal not met\n");
+        println!(rt; " goal not met")
     }
 }
 
 // ---- a record
 
-fn print_refused(number: u8) {
-    io::write_all(STDOUT_FILENO, b"refused ");
-    io::print_decimal(STDOUT_FILENO, number as u64);
-    io::write_all(STDOUT_FILENO, b"\n");
+fn print_refused(rt: &impl Print, number: u8) -> io::Result<()> {
+    println!(rt; "refused {number}")
 }
 
 // The plan's length and cost.
-fn print_plan(s: Solution) {
-    io::write_all(STDOUT_FILENO, b"plan ");
-    io::print_decimal(STDOUT_FILENO, s.length as u64);
-    io::write_all(STDOUT_FILENO, b" cost ");
-    io::print_decimal(STDOUT_FILENO, s.cost);
-    io::write_all(STDOUT_FILENO, b"\n");
+fn print_plan(rt: &impl Print, s: Solution) -> io::Result<()> {
+    println!(rt; "plan {} cost {}", s.length, s.cost)
 }
 
 // The plan's length and cost, and its moves.
-fn print_solved(t: Task, s: Solution, bytes: &[u8])
+fn print_solved(rt: &impl Print, t: Task, s: Solution, bytes: &[u8]) -> io::Result<()>
     requires { Valid t }
 {
     let end = s.length;
     if end > bytes.len() {
-        return;
+        return Ok(());
     }
-    print_plan(s);
-    print_moves(t, &bytes[..end]);
+    print_plan(rt, s)?;
+    print_moves(rt, t, &bytes[..end])
 }
 
 // Plans the task and prints its moves, or why there are none.
-fn run_task(t: Task, rec: &[u8])
+fn run_task(rt: &impl Print, t: Task, rec: &[u8]) -> io::Result<()>
     requires { Valid t }
 {
     let mut bytes = [0u8; 8192];
@@ -359,58 +357,97 @@ fn run_task(t: Task, rec: &[u8])
         &mut table,
     );
     match answer {
-        PlanAnswer::Solved(s, _) => print_solved(t, s, &bytes),
-        PlanAnswer::Unsolvable(_) => {
-            io::write_all(STDOUT_FILENO, b"unsolvable\n");
-        }
-        PlanAnswer::Refused(why, _) => print_refused(plan_refusal_number(why)),
+        PlanAnswer::Solved(s, _) => print_solved(rt, t, s, &bytes),
+        PlanAnswer::Unsolvable(_) => println!(rt; "unsolvable"),
+        PlanAnswer::Refused(why, _) => print_refused(rt, plan_refusal_number(why)),
     }
 }
 
 // Reads the task that the record writes down and goes on with it.
-fn run_record(rec: &[u8]) {
+fn run_record(rt: &impl Print, rec: &[u8]) -> io::Result<()> {
     let r = read_record(rec);
     let v = r.verdict;
     let t = r.task;
     match v {
-        Verdict::Accepted => run_task(t, rec),
-        Verdict::Refused(why) => print_refused(fields::number(why)),
+        Verdict::Accepted => run_task(rt, t, rec),
+        Verdict::Refused(why) => print_refused(rt, fields::number(why)),
     }
+}
+
+// Reads until `buf` is full, the input ends or a read fails, and returns how many bytes it put at the start of `buf`.
+fn read_full(input: &mut impl Read, buf: &mut [u8]) -> usize
+    ensures { result ≤ length buf.new }
+{
+    let mut done = 0;
+    while done < buf.len() {
+        match input.read(&mut buf[done..]) {
+            Ok(0) | Err(_) => break,
+            Ok(n) => done += n,
+        }
+    }
+    done
 }
 
 // The longest record has 19,531 bytes: whatever is longer is refused whatever follows, so one byte more is read and no more.
-fn run_from(file: i32) {
+fn run_from(rt: &impl Print, file: &mut impl Read) -> io::Result<()> {
     let mut rec = [0u8; 19532];
-    let got = io::read_full(file, &mut rec);
-    run_record(&rec[..got]);
+    let got = read_full(file, &mut rec);
+    run_record(rt, &rec[..got])
 }
 
-// The record in the file that an argument names, behind a line with the name.
-fn run_argument(i: usize) {
-    let mut name = io::buffer();
-    let long = os::arg(i, &mut name);
-    if os::errno() != 0 {
-        os::fail(b"moves");
-        return;
+// ---- the files
+
+// Says on standard error what failed and why: the system's words, without the error's number behind them.
+fn fail<R: Eprint + Alloc>(rt: &R, what: &str, why: io::Error) -> io::Result<()> {
+    let text = why.to_string(rt.alloc())?;
+    if let Some((words, _)) = text.as_str().split_once(" (os error ") {
+        return eprintln!(rt; "{what}: {words}");
     }
-    let file = os::open_read(&name[..long]);
-    if file < 0 {
-        os::fail(&name[..long]);
-        return;
-    }
-    io::write_all(STDOUT_FILENO, &name[..long]);
-    io::write_all(STDOUT_FILENO, b"\n");
-    run_from(file);
-    libc::close(file);
+    eprintln!(rt; "{what}: {text}")
 }
 
-fn main() {
-    let many = os::arg_count();
+// The record in the file of this name, behind a line with the name.
+fn run_file<R: Files + Print + Eprint + Alloc>(rt: &R, name: &str) -> io::Result<()> {
+    match fs::open(rt, name) {
+        Ok(mut file) => {
+            println!(rt; "{name}")?;
+            run_from(rt, &mut file)
+        }
+        Err(why) => fail(rt, name, why),
+    }
+}
+
+// The record in the file that an argument names. A name has at most 4,096 bytes, and is text.
+fn run_argument<R: Files + Env + Print + Eprint + Alloc>(rt: &R, i: usize) -> io::Result<()> {
+    let mut name = [0u8; 4096];
+    match rt.arg(i, &mut name) {
+        Ok(long) => match str::from_utf8(&name[..long]) {
+            Ok(text) => run_file(rt, text),
+            Err(_) => eprintln!(rt; "moves: File name is not text"),
+        },
+        Err(FillError::TooLong) => eprintln!(rt; "moves: File name too long"),
+        Err(FillError::NotPresent) => eprintln!(rt; "moves: Invalid argument"),
+    }
+}
+
+// How many arguments there are, the program's name among them.
+fn arg_count(rt: &impl Env) -> usize {
+    let mut none = [0u8; 0];
+    for i in 0..usize::MAX {
+        if let Err(FillError::NotPresent) = rt.arg(i, &mut none) {
+            return i;
+        }
+    }
+    usize::MAX
+}
+
+fn main(rt: HostRuntime) -> io::Result<()> {
+    let many = arg_count(&rt);
     if many < 2 {
-        run_from(STDIN_FILENO);
-        return;
+        return run_from(&rt, &mut rt.reader());
     }
     for i in 1..many {
-        run_argument(i);
+        run_argument(&rt, i)?;
     }
+    Ok(())
 }

@@ -1,5 +1,5 @@
 -- `moves::arrives` is safe and ends. The measure is what is left of the plan. Assumes nothing.
-use Rattle.std.proofs.Common.{◌≤◌, ◌-◌, ◌≡◌, length, rules}
+use Rattle.std.proofs.Common.{◌≤◌, ◌-◌, ◌≡◌, length}
 use Rattle.moves.proofs.arrives.Given as goal
 
 abbrev pub invariant-loop-k : goal.invariant-loop-k

@@ -1,5 +1,5 @@
 -- `moves::main` is safe and ends. The measure is what is left of the arguments. Assumes nothing.
-use Rattle.std.proofs.Common.{◌≤◌, ◌-◌, rules}
+use Rattle.std.proofs.Common.{◌≤◌, ◌-◌}
 use Rattle.moves.proofs.main.Given as goal
 
 abbrev pub invariant-loop-i : goal.invariant-loop-i

@@ -1,5 +1,5 @@
 -- `moves::names` is safe and ends. The measure is what is left of the variables. Assumes nothing.
-use Rattle.std.proofs.Common.{◌≤◌, ◌-◌, rules}
+use Rattle.std.proofs.Common.{◌≤◌, ◌-◌}
 use Rattle.moves.proofs.names.Given as goal
 
 abbrev pub invariant-loop-v : goal.invariant-loop-v
