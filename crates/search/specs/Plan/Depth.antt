@@ -1,9 +1,8 @@
 -- "In a layer, a state's depth is the fewest leaf actions, since the layer began, that give its price": the law that depths are just that. It is
 -- what a reader has to know of the definition; no other law needs it. Assumes nothing.
 use Rattle.std.specs.Prelude.{◌≡◌, refl, List, length, get_or}
-use Prim.Native.Nat.{ℕ, zero, suc, ◌+◌, ◌≤◌, ◌<◌}
+use Prim.Native.Nat.{ℕ, suc, ◌+◌, ◌≤◌, ◌<◌}
 use native.Mathlib.Omega.{arith}
-use Rattle.std.proofs.Common.{length-append}
 use Rattle.task.specs.declared.Task.{Task}
 use Rattle.task.specs.declared.Centre.{Centre}
 use Rattle.task.specs.Meaning.{cost_of}

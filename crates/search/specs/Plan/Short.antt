@@ -1,11 +1,11 @@
 -- The plan of a goal node is short: a layer has no more actions than there are leaf states, a centre action stands between two layers, and there
 -- are no more layers than nodes up to this one. Assumes nothing.
-use Rattle.std.specs.Prelude.{◌≡◌, refl, true, List, length, get_or}
+use Rattle.std.specs.Prelude.{◌≡◌, true, length}
 use Rattle.std.proofs.Common.{sym, ap, ◌∙◌, suc-mul, le_trans, mul-le-mul_right, add-one, length-append}
 use Prim.Native.Nat.{ℕ, zero, suc, ◌+◌, ◌*◌, ◌≤◌, ◌<◌}
 use native.Mathlib.Omega.{arith}
 use Rattle.std.proofs.lemmas.List.{length-reverse}
-use Rattle.loops.specs.Count.{any, sum}
+use Rattle.loops.specs.Count.{sum}
 use Rattle.task.specs.declared.Task.{Task}
 use Rattle.task.specs.Factors.{states, all_states}
 use Rattle.task.specs.Valid.{Valid}
@@ -13,7 +13,7 @@ use Rattle.leaf.specs.Price.{mark}
 use Rattle.search.specs.Node.{is_goal}
 use Rattle.search.specs.Explore.{Search, node_at, explored}
 use Rattle.search.specs.Explore.Rounds.{explored_base}
-use Rattle.search.specs.Plan.{lowest, source, back, begins, back_in, goal_state, plan_of}
+use Rattle.search.specs.Plan.{begins, back_in, goal_state, plan_of}
 use Rattle.search.specs.Plan.Real.{Real, node_part, begins_length, begins_cap}
 use Rattle.search.specs.Plan.Depths.{depth_bound, depth_all}
 use Rattle.search.specs.Plan.WayBack.{back_count}
