@@ -6,6 +6,20 @@ use Rattle.wayback.specs.Woven.Laws.{woven_ways, woven_meant, woven_leading}
 use Rattle.wayback.specs.Least.{Guided}
 use Rattle.wayback.specs.Ready.{backed_length, backed_few, backed_guided, backed_way}
 use Rattle.wayback.proofs.tight_back.Goals as goal
+use Rattle.wayback.proofs.tight_back.Goals.{After-depths_of}
+
+-- what is lent
+abbrev Lent : (c : After-depths_of) → Type 0
+Lent c =
+    let a = c.args in
+    Backed a.moves.now a.row a.at a.acts.now a.index.now a.tight.now a.stops.now a.begins.now a.prices.now a.state
+
+-- the depths
+abbrev depths : (c : After-depths_of) → List ℕ
+depths c = c.depths_of.new.depths
+
+made : (c : After-depths_of) → (w : Lent c) → depths c ≡ depths_by w.woven.edges w.woven.count c.args.begins.now c.args.prices.now
+made c w = c.depths_of.ensures w.woven.count w.woven.edges (woven_meant _ _ _ _ _ _ _ _ w.woven)
 
 pub depths_of-requires : goal.depths_of-requires
 depths_of-requires c =
@@ -15,11 +29,8 @@ depths_of-requires c =
 
 pub sources_of-sources-requires : goal.sources_of-sources-requires
 sources_of-sources-requires c =
-    let Lent : Type 0 = let a = c.args in Backed a.moves.now a.row a.at a.acts.now a.index.now a.tight.now a.stops.now a.begins.now a.prices.now a.state in
-    let depths : List ℕ = c.depths_of.new.depths in
-    let made : (w : Lent) → depths ≡ depths_by w.woven.edges w.woven.count c.args.begins.now c.args.prices.now = λ w. c.depths_of.ensures w.woven.count w.woven.edges (woven_meant _ _ _ _ _ _ _ _ w.woven) in
     let w = c.requires.0 in
-    let long = backed_length _ _ _ _ _ _ _ _ _ _ w _ (made w) in
+    let long = backed_length _ _ _ _ _ _ _ _ _ _ w _ (made (goal.at.sources_of-sources-requires c).After-depths_of w) in
     rw long (
       w.woven.few_states,
       w.woven.stops_long,
@@ -29,24 +40,18 @@ sources_of-sources-requires c =
 
 pub walk-requires : goal.walk-requires
 walk-requires c =
-    let Lent : Type 0 = let a = c.args in Backed a.moves.now a.row a.at a.acts.now a.index.now a.tight.now a.stops.now a.begins.now a.prices.now a.state in
-    let depths : List ℕ = c.depths_of.new.depths in
-    let made : (w : Lent) → depths ≡ depths_by w.woven.edges w.woven.count c.args.begins.now c.args.prices.now = λ w. c.depths_of.ensures w.woven.count w.woven.edges (woven_meant _ _ _ _ _ _ _ _ w.woven) in
-    let guide : Lent → Guided c.args.acts.now depths c.sources_of-sources.result = λ w. backed_guided _ _ _ _ _ _ _ _ _ _ w _ (made w) _ c.sources_of-sources.ensures.1 in
+    let guide : Lent (goal.at.walk-requires c).After-depths_of → Guided c.args.acts.now (depths (goal.at.walk-requires c).After-depths_of) c.sources_of-sources.result = λ w. backed_guided _ _ _ _ _ _ _ _ _ _ w _ (made (goal.at.walk-requires c).After-depths_of w) _ c.sources_of-sources.ensures.1 in
     let w = c.requires.0 in
-    let long = backed_length _ _ _ _ _ _ _ _ _ _ w _ (made w) in (
+    let long = backed_length _ _ _ _ _ _ _ _ _ _ w _ (made (goal.at.walk-requires c).After-depths_of w) in (
       rw long w.inside,
       guide w,
       rw long (omega (arith, w.woven.few_states, c.sources_of-sources.ensures.0)),
-      backed_few _ _ _ _ _ _ _ _ _ _ w _ (made w),
+      backed_few _ _ _ _ _ _ _ _ _ _ w _ (made (goal.at.walk-requires c).After-depths_of w),
       c.requires.3,
       c.requires.4,
     )
 
 pub returns : goal.returns
 returns c w =
-    let Lent : Type 0 = let a = c.args in Backed a.moves.now a.row a.at a.acts.now a.index.now a.tight.now a.stops.now a.begins.now a.prices.now a.state in
-    let depths : List ℕ = c.depths_of.new.depths in
-    let made : (w : Lent) → depths ≡ depths_by w.woven.edges w.woven.count c.args.begins.now c.args.prices.now = λ w. c.depths_of.ensures w.woven.count w.woven.edges (woven_meant _ _ _ _ _ _ _ _ w.woven) in
-    let guide : Lent → Guided c.args.acts.now depths c.sources_of-sources.result = λ w. backed_guided _ _ _ _ _ _ _ _ _ _ w _ (made w) _ c.sources_of-sources.ensures.1 in
-    rw (backed_way _ _ _ _ _ _ _ _ _ _ w _ (made w)) at (c.walk.ensures (guide w))
+    let guide : Lent (goal.at.returns c).After-depths_of → Guided c.args.acts.now (depths (goal.at.returns c).After-depths_of) c.sources_of-sources.result = λ w. backed_guided _ _ _ _ _ _ _ _ _ _ w _ (made (goal.at.returns c).After-depths_of w) _ c.sources_of-sources.ensures.1 in
+    rw (backed_way _ _ _ _ _ _ _ _ _ _ w _ (made (goal.at.returns c).After-depths_of w)) at (c.walk.ensures (guide w))
