@@ -11,9 +11,10 @@ ghost use Rattle.std.specs.Prelude.{◌≡◌, ◌+◌, ◌<◌, ◌≤◌, leng
 ghost use Rattle.task.specs.Valid.{Valid};
 
 use answers::{PlanAnswer, Solution};
-use libc::{STDIN_FILENO, STDOUT_FILENO};
 use planner::plan;
 use record::read_record;
+use std::io;
+use std::io::Read;
 use steps::{holds, put};
 use task::Task;
 use whole::Verdict;
@@ -429,74 +430,73 @@ fn carries(t: Task, s: Solution, bytes: &[u8]) -> bool
 // ---- the lines
 
 // A space and a number.
-fn print_number(n: u64) {
-    io::write_all(STDOUT_FILENO, b" ");
-    io::print_decimal(STDOUT_FILENO, n);
+fn print_number(rt: &impl Print, n: u64) -> io::Result<()> {
+    print!(rt; " {n}")
 }
 
 // A space and a cost.
-fn print_cost(cost: u64) {
+fn print_cost(rt: &impl Print, cost: u64) -> io::Result<()> {
     if cost == NONE {
-        io::write_all(STDOUT_FILENO, b" none");
+        print!(rt; " none")
     } else {
-        print_number(cost);
+        print_number(rt, cost)
     }
 }
 
 // The end of a line, by whether the planners agree; answers that too.
-fn print_end(same: bool) -> bool {
+fn print_end(rt: &impl Print, same: bool) -> io::Result<bool> {
     if same {
-        io::write_all(STDOUT_FILENO, b"\n");
+        println!(rt)?;
     } else {
-        io::write_all(STDOUT_FILENO, b" DIFFERENT\n");
+        println!(rt; " DIFFERENT")?;
     }
-    same
+    Ok(same)
 }
 
 // The rest of the line of a task that the planner solved.
-fn print_solved(t: Task, plain: u64, s: Solution, bytes: &[u8]) -> bool
+fn print_solved(rt: &impl Print, t: Task, plain: u64, s: Solution, bytes: &[u8]) -> io::Result<bool>
     requires { Valid t }
 {
     let cost = s.cost;
-    print_cost(cost);
-    io::write_all(STDOUT_FILENO, b" plain");
-    print_cost(plain);
+    print_cost(rt, cost)?;
+    print!(rt; " plain")?;
+    print_cost(rt, plain)?;
     if carries(t, s, bytes) {
-        io::write_all(STDOUT_FILENO, b" carried yes");
-        return print_end(cost == plain);
+        print!(rt; " carried yes")?;
+        return print_end(rt, cost == plain);
     }
-    io::write_all(STDOUT_FILENO, b" carried no");
-    print_end(false)
+    print!(rt; " carried no")?;
+    print_end(rt, false)
 }
 
 // The rest of the line of a task that has no plan by the planner.
-fn print_unsolvable(plain: u64, bytes: &[u8]) -> bool {
-    io::write_all(STDOUT_FILENO, b" none plain");
-    print_cost(plain);
-    io::write_all(STDOUT_FILENO, b" carried none");
-    print_end(plain == NONE && is_blank(bytes))
+fn print_unsolvable(rt: &impl Print, plain: u64, bytes: &[u8]) -> io::Result<bool> {
+    print!(rt; " none plain")?;
+    print_cost(rt, plain)?;
+    print!(rt; " carried none")?;
+    print_end(rt, plain == NONE && is_blank(bytes))
 }
 
 // The rest of the line of a task that the planner refused.
-fn print_refused(plain: u64) -> bool {
-    io::write_all(STDOUT_FILENO, b" refused plain");
-    print_cost(plain);
-    io::write_all(STDOUT_FILENO, b" carried none");
-    print_end(false)
+fn print_refused(rt: &impl Print, plain: u64) -> io::Result<bool> {
+    print!(rt; " refused plain")?;
+    print_cost(rt, plain)?;
+    print!(rt; " carried none")?;
+    print_end(rt, false)
 }
 
 // Runs the planner on the task's record, and prints the rest of the line.
-fn run_planner(t: Task, rec: &[u8], plain: u64) -> bool
+fn run_planner(rt: &impl Print, t: Task, rec: &[u8], plain: u64) -> io::Result<bool>
     requires { Valid t }
 {
     let mut bytes = [BLANK; 4096];
     let mut table = [0u64; 65536];
     let answer = plan(rec, NODES, BUDGET, &mut bytes, &mut table);
-    io::write_all(STDOUT_FILENO, b" planner");
+    print!(rt; " planner")?;
     match answer {
-        PlanAnswer::Solved(s, _) => print_solved(t, plain, s, &bytes),
-        PlanAnswer::Unsolvable(_) => print_unsolvable(plain, &bytes),
-        PlanAnswer::Refused(_, _) => print_refused(plain),
+        PlanAnswer::Solved(s, _) => print_solved(rt, t, plain, s, &bytes),
+        PlanAnswer::Unsolvable(_) => print_unsolvable(rt, plain, &bytes),
+        PlanAnswer::Refused(_, _) => print_refused(rt, plain),
     }
 }
 
@@ -559,56 +559,75 @@ impl Totals {
     }
 
     // The last line.
-    fn print(self) {
-        io::write_all(STDOUT_FILENO, b"tasks");
-        print_number(self.tasks);
-        io::write_all(STDOUT_FILENO, b" solved");
-        print_number(self.solved);
-        io::write_all(STDOUT_FILENO, b" unsolvable");
-        print_number(self.unsolvable);
-        io::write_all(STDOUT_FILENO, b" differences");
-        print_number(self.differences);
-        io::write_all(STDOUT_FILENO, b"\n");
+    fn print(self, rt: &impl Print) -> io::Result<()> {
+        print!(rt; "tasks")?;
+        print_number(rt, self.tasks)?;
+        print!(rt; " solved")?;
+        print_number(rt, self.solved)?;
+        print!(rt; " unsolvable")?;
+        print_number(rt, self.unsolvable)?;
+        print!(rt; " differences")?;
+        print_number(rt, self.differences)?;
+        println!(rt)
     }
 }
 
 // Plans a task both ways, and prints the rest of its line.
-fn run_task(t: Task, rec: &[u8]) -> Outcome
+fn run_task(rt: &impl Print, t: Task, rec: &[u8]) -> io::Result<Outcome>
     requires { Valid t }
 {
     if task_states(t) > MOST {
-        io::write_all(STDOUT_FILENO, b" has more than 1024 states\n");
-        return Outcome::Left;
+        println!(rt; " has more than 1024 states")?;
+        return Ok(Outcome::Left);
     }
     let plain = plain_cost(t);
-    let same = run_planner(t, rec, plain);
+    let same = run_planner(rt, t, rec, plain)?;
     if plain == NONE {
-        return Outcome::Unsolvable(same);
+        return Ok(Outcome::Unsolvable(same));
     }
-    Outcome::Solved(same)
+    Ok(Outcome::Solved(same))
 }
 
 // Reads the task that the record writes down, plans it, and prints its line.
-fn run_record(number: u64, rec: &[u8]) -> Outcome {
-    io::print_decimal(STDOUT_FILENO, number);
+fn run_record(rt: &impl Print, number: u64, rec: &[u8]) -> io::Result<Outcome> {
+    print!(rt; "{number}")?;
     let r = read_record(rec);
     let v = r.verdict;
     let t = r.task;
     match v {
-        Verdict::Accepted => run_task(t, rec),
+        Verdict::Accepted => run_task(rt, t, rec),
         Verdict::Refused(_) => {
-            io::write_all(STDOUT_FILENO, b" refused by the reader\n");
-            Outcome::Left
+            println!(rt; " refused by the reader")?;
+            Ok(Outcome::Left)
         }
     }
 }
 
-// Fills `rec` from standard input and goes on with it.
-fn fill_record(number: u64, rec: &mut [u8]) -> Outcome {
-    if io::read_full(STDIN_FILENO, rec) < rec.len() {
-        return Outcome::End;
+// Reads until `buf` is full, the input ends or a read fails, and returns how many bytes it put at the start of `buf`.
+fn read_full(input: &mut impl Read, buf: &mut [u8]) -> usize
+    ensures { result ≤ length buf.new }
+{
+    let mut done = 0;
+    while done < buf.len() {
+        match input.read(&mut buf[done..]) {
+            Ok(0) | Err(_) => break,
+            Ok(n) => done += n,
+        }
     }
-    run_record(number, rec)
+    done
+}
+
+// Fills `rec` from the input and goes on with it.
+fn fill_record(
+    rt: &impl Print,
+    input: &mut impl Read,
+    number: u64,
+    rec: &mut [u8],
+) -> io::Result<Outcome> {
+    if read_full(input, rec) < rec.len() {
+        return Ok(Outcome::End);
+    }
+    run_record(rt, number, rec)
 }
 
 // The number that two bytes write, the more significant one first.
@@ -619,17 +638,18 @@ fn joined(high: u8, low: u8) -> usize
 }
 
 // Reads the length of a record and goes on with the record.
-fn run_case(number: u64) -> Outcome {
+fn run_case(rt: &impl Print, input: &mut impl Read, number: u64) -> io::Result<Outcome> {
     let mut two = [0u8; 2];
-    if io::read_full(STDIN_FILENO, &mut two) < 2 {
-        return Outcome::End;
+    if read_full(input, &mut two) < 2 {
+        return Ok(Outcome::End);
     }
     let length = joined(two[0], two[1]);
     let mut rec = [0u8; 65535];
-    fill_record(number, &mut rec[0..length])
+    fill_record(rt, input, number, &mut rec[0..length])
 }
 
-fn main() {
+fn main(rt: HostRuntime) -> io::Result<()> {
+    let mut input = rt.reader();
     let mut totals = Totals {
         tasks: 0,
         solved: 0,
@@ -637,12 +657,11 @@ fn main() {
         differences: 0,
     };
     for number in 1..1000000 {
-        let outcome = run_case(number);
+        let outcome = run_case(&rt, &mut input, number)?;
         if let Outcome::End = outcome {
-            totals.print();
-            return;
+            return totals.print(&rt);
         }
         totals = totals.with(outcome);
     }
-    totals.print();
+    totals.print(&rt)
 }

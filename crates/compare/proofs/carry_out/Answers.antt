@@ -1,4 +1,4 @@
-use Rattle.std.proofs.Common.{rules, ◌≤◌, ◌-◌, ◌≡◌, arith, length}
+use Rattle.std.proofs.Common.{◌-◌, arith}
 use Rattle.compare.proofs.carry_out.Goals as goal
 
 pub overflow_cast-a : goal.overflow_cast-a

@@ -1,5 +1,5 @@
 -- `compare::carry_out` is safe and ends. The measure is what is left of the plan. Assumes nothing.
-use Rattle.std.proofs.Common.{rules, ◌≤◌, ◌-◌, ◌≡◌, arith, length}
+use Rattle.std.proofs.Common.{◌≤◌, ◌-◌, ◌≡◌, length}
 use Rattle.compare.proofs.carry_out.Given as goal
 
 abbrev pub invariant-loop-k : goal.invariant-loop-k

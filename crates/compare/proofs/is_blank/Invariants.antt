@@ -1,5 +1,5 @@
 -- `compare::is_blank` is safe and ends. The measure is what is left of the bytes. Assumes nothing.
-use Rattle.std.proofs.Common.{rules, ◌≤◌, ◌-◌, length}
+use Rattle.std.proofs.Common.{◌≤◌, ◌-◌, length}
 use Rattle.compare.proofs.is_blank.Given as goal
 
 abbrev pub invariant-loop-k : goal.invariant-loop-k

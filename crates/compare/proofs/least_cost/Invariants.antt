@@ -1,5 +1,5 @@
 -- `compare::least_cost` is safe and ends. The measure is what is left of the turns, one for each state. Assumes nothing.
-use Rattle.std.proofs.Common.{rules, ◌≤◌, ◌-◌, ◌≡◌, length}
+use Rattle.std.proofs.Common.{◌≤◌, ◌-◌, ◌≡◌, length}
 use Rattle.compare.proofs.least_cost.Given as goal
 
 abbrev pub invariant-loop-turn : goal.invariant-loop-turn

@@ -1,5 +1,5 @@
 -- `compare::lower_next` is safe and ends. The measure is what is left of the actions. Assumes nothing.
-use Rattle.std.proofs.Common.{rules, ◌≤◌, ◌-◌, ◌≡◌, length}
+use Rattle.std.proofs.Common.{◌≤◌, ◌-◌, ◌≡◌, length}
 use Rattle.compare.proofs.lower_next.Given as goal
 
 abbrev pub invariant-loop-a : goal.invariant-loop-a

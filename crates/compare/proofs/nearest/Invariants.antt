@@ -1,5 +1,5 @@
 -- `compare::nearest` is safe and ends. The measure is what is left of the states. Assumes nothing.
-use Rattle.std.proofs.Common.{rules, ◌≤◌, ◌-◌}
+use Rattle.std.proofs.Common.{◌≤◌, ◌-◌}
 use Rattle.compare.proofs.nearest.Given as goal
 
 abbrev pub invariant-loop-state : goal.invariant-loop-state

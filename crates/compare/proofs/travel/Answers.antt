@@ -1,4 +1,4 @@
-use Rattle.std.proofs.Common.{rules, ◌≤◌, ◌-◌, mul-le-mul, arith}
+use Rattle.std.proofs.Common.{◌-◌, mul-le-mul, arith}
 use Rattle.compare.proofs.travel.Goals as goal
 
 pub overflow_mul-t : goal.overflow_mul-t

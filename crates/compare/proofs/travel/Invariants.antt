@@ -1,5 +1,5 @@
 -- `compare::travel` is safe and ends. The measure is what is left up to 400. Assumes nothing.
-use Rattle.std.proofs.Common.{rules, ◌≤◌, ◌-◌, mul-le-mul, arith}
+use Rattle.std.proofs.Common.{◌≤◌, ◌-◌}
 use Rattle.compare.proofs.travel.Given as goal
 
 abbrev pub invariant-loop-t : goal.invariant-loop-t

@@ -1,5 +1,5 @@
 -- `compare::with_digit` is safe. A product of at most 1,025 and a byte fits. Assumes nothing.
-use Rattle.std.proofs.Common.{rules, mul-le-mul, arith}
+use Rattle.std.proofs.Common.{mul-le-mul, arith}
 use Rattle.compare.proofs.with_digit.Goals as goal
 
 pub overflow_mul-longer : goal.overflow_mul-longer

@@ -1,5 +1,5 @@
 -- `compare::write_values` is safe and ends. The measure is what is left of the variables. Assumes nothing.
-use Rattle.std.proofs.Common.{rules, ◌≤◌, ◌-◌, ◌≡◌, length}
+use Rattle.std.proofs.Common.{◌≤◌, ◌-◌, ◌≡◌, length}
 use Rattle.compare.proofs.write_values.Given as goal
 
 abbrev pub invariant-loop-k : goal.invariant-loop-k
