@@ -12,13 +12,15 @@ pub returns-in-Refused : goal.returns-in-Refused
 returns-in-Refused c =
     let s = c.args in
     let read = c.read_record-r.ensures.answer in
-    outcome_says s.«record».now s.nodes s.budget s.plan.now s.table.now _ _ _
-    (record_refused s.«record».now s.nodes s.budget s.plan.now s.table.now (sym (ap (λ r. r.verdict) read) ∙ c.in-Refused.is))
+    let m = outcome_says s.«record».now s.nodes s.budget s.plan.now s.table.now _ _ _
+    (record_refused s.«record».now s.nodes s.budget s.plan.now s.table.now (sym (ap (λ r. r.verdict) read) ∙ c.in-Refused.is)) in
+    record { answer = m.0; carries_out = m.1.0; least_cost = m.1.1.0; decided = m.1.1.1.0; untouched = m.1.1.1.1.0; zeroed = m.1.1.1.1.1 }
 
 pub returns-in-Accepted : goal.returns-in-Accepted
 returns-in-Accepted c =
     let s = c.args in
     let read = c.read_record-r.ensures.answer in
-    outcome_says s.«record».now s.nodes s.budget s.plan.now s.table.now _ _ _
+    let m = outcome_says s.«record».now s.nodes s.budget s.plan.now s.table.now _ _ _
     (record_accepted s.«record».now s.nodes s.budget s.plan.now s.table.now (sym (ap (λ r. r.verdict) read) ∙ c.in-Accepted.is)
-    (c.plan_task.ensures ∙ ap (λ r. task_plan r.task s.nodes s.budget s.plan.now s.table.now) read))
+    (c.plan_task.ensures ∙ ap (λ r. task_plan r.task s.nodes s.budget s.plan.now s.table.now) read)) in
+    record { answer = m.0; carries_out = m.1.0; least_cost = m.1.1.0; decided = m.1.1.1.0; untouched = m.1.1.1.1.0; zeroed = m.1.1.1.1.1 }
