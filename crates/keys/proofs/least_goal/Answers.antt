@@ -5,7 +5,6 @@ use Rattle.search.specs.Node.Laws.{least_of_cap}
 use Rattle.keys.specs.Scan.{goals_by}
 use Rattle.keys.specs.Scan.Laws.{goal_by, least_list_more, goal_here, goal_not}
 use Rattle.keys.proofs.least_goal.Goals as goal
-use Rattle.keys.proofs.least_goal.Goals.{then-goals-k-ne0+then-prices-k, then-goals-k-ne0+else-prices-k, else-goals-k-ne0}
 
 pub loop-k-init : goal.loop-k-init
 unfolding least_of list
@@ -18,13 +17,8 @@ loop-k-preserved c =
     let f = goal_by a.goals.now a.prices.now in
     let more = least_list_more f l.k in
     let here = goal_here a.goals.now a.prices.now l.k (omega arith) in
-    elim c.if-goals-k-ne0.branch [
-      | then-goals-k-ne0+then-prices-k w ↦ (refl, omega arith, omega (arith, more, here w.if-goals-k-ne0.true, l.invariant.2))
-      | then-goals-k-ne0+else-prices-k w ↦ (refl, omega arith, omega (arith, more, here w.if-goals-k-ne0.true, l.invariant.2))
-      | else-goals-k-ne0 w ↦
-          let none = goal_not a.goals.now a.prices.now l.k w.if-goals-k-ne0.false in
-          (refl, omega arith, omega (arith, more, none, l.invariant.2, least_of_cap (list l.k f)))
-    ]
+    let none = goal_not a.goals.now a.prices.now l.k in
+    (refl, omega arith, grind (arith, more, here, none, l.invariant.2, least_of_cap (list l.k f)))
 
 pub returns : goal.returns
 unfolding goals_by
