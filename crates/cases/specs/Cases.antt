@@ -63,7 +63,7 @@ pub record Cases : Type 0 where
   pub prices : List Priced
   pub times : List ℕ
 
-pub p-table :
+pub p_table :
     ◌≡◌ {A = Cases}
     (record {
       tasks = read_record fetch_record ∷ read_record without_take ∷ read_record empty_goal ∷ read_record wax_record ∷ [];
@@ -94,4 +94,4 @@ pub p-table :
       times = 54 ∷ 425 ∷ 737 ∷ [];
     })
 unfolding fetch record_plan task_plan searched with_plan table_words prices_of task_prices path_fits walk next_layer plan_of goal_state path_to stages over back_in begins back source depths tight_to tight lowest weave explored explore expand begin turn offer choose waits start keep best_with below_best dominates goal_cost is_goal goal_prices key least_of next_node first_node first_prices next_prices applies_to joined leaf_part base passes pass_leaf start_leaf settle_leaf enabled_to pass settled settle relax pick key_of key_at priceKey lower read_record filled_of whole_of factors_used states_few all_star task_of lists_of action_of costs_of effect_pairs counted_pairs pairs_from pair_of variable_of head_of next_field field_of bit_of turns centre_meets centre_after centre_of to meets_in values_of all_states states number leaf_action centre_action digit_to states_to number_to star_pairs leaf_pairs holds_in within touches cost drive_time travel_time root_from all any sum list
-p-table = refl
+p_table = refl

@@ -116,7 +116,7 @@ fn ends_at(rec: &[u8], at: usize) -> bool
 
 // A bit reader: the record it was given and the bit it has reached. Each function over one takes it apart and leaves the work to a
 // function on the slice and the number.
-#[derive(Drop)]
+#[derive(Clone, Copy)]
 pub struct BitReader<'a> {
     pub bytes: &'a [u8],
     pub at: usize,

@@ -1,10 +1,18 @@
-use Rattle.std.proofs.Common.{◌≡◌, refl, ap, ◌∙◌, Bool, cond, not, List, ℕ, ◌+◌, ◌≤◌, ◌<◌, le_antisymm, arith, length, get_or, rules, w8, Fits}
+use Rattle.std.proofs.Common.{◌≡◌, refl, ap, ◌∙◌, Bool, cond, not, true, false, List, set, ℕ, ◌+◌, ◌≤◌, ◌<◌, le_antisymm, arith, length, get_or, rules, w8, Fits}
 use Rattle.loops.specs.Count.{sum}
-use Rattle.loops.specs.Count.Laws.{told}
 use Rattle.detours.specs.Detours.{detours, kept_of, kept_in}
 use Rattle.detours.specs.Detours.Laws.{detours_told, kept_turn, kept_few, kept_long, kept_behind}
 use Rattle.detours.proofs.drop_detours.Goals as goal
-use Rattle.detours.proofs.drop_detours.Goals.{then-not-is_detour, else-not-is_detour}
+
+-- one more where the test fails
+count_turn : (b b' : Bool) (n n' : ℕ) → b ≡ b' → (b ≡ false → n' ≡ n + 1) → (b ≡ true → n' ≡ n) → n' ≡ n + cond (not b') 1 0
+count_turn false b' n n' q f t = rw (← q) (f refl)
+count_turn true b' n n' q f t = rw (← q) (omega (arith, t refl))
+
+-- the list, whether the number stays or not
+kept_listed_turn : (d : ℕ → Bool) (xs : List ℕ) (j : ℕ) (ys : List ℕ) (i k : ℕ) → i ≡ kept_of d xs j → ys ≡ kept_in d xs j → k ≡ get_or xs j 0
+    → set ys i k ≡ kept_in d xs (j + 1)
+kept_listed_turn d xs j ys i k isI isYs isK = (kept_turn d xs j ys i (i + cond (not (d (get_or xs j 0))) 1 0) k isI isYs isK refl).1
 
 pub loop-j-init : goal.loop-j-init
 unfolding kept_of kept_in sum
@@ -47,18 +55,17 @@ pub loop-j-preserved : goal.loop-j-preserved
 loop-j-preserved c =
     let drops : ℕ → Bool = λ k. let a = c.args in detours a.hops.now a.ways.now a.costs.now a.word a.c k in
     let read : get_or c.loop-j.list c.loop-j.j 0 ≡ get_or c.args.list.now c.loop-j.j 0 = let l = c.loop-j in ap (λ (xs : List ℕ). get_or xs l.j 0) l.invariant.2 ∙ kept_behind drops c.args.list.now l.j l.j (omega arith) in
-    let many : let l = c.loop-j in c.if-not-is_detour.kept ≡ l.kept + cond (not (drops (get_or c.args.list.now l.j 0))) 1 0 = let l = c.loop-j in
+    let l = c.loop-j in
     let a = c.args in
     let is : c.is_detour.result ≡ drops (get_or a.list.now l.j 0) =
     detours_told c.is_detour.result a.hops.now a.ways.now a.costs.now a.word a.c (get_or l.list l.j 0)
     (get_or a.list.now l.j 0) c.is_detour.ensures read in
-    elim c.if-not-is_detour.branch [
-      | then-not-is_detour w ↦ rw (told is w.if-not-is_detour.true) w.kept-is
-      | else-not-is_detour w ↦ rw (told is w.if-not-is_detour.false) (omega (arith, w.kept-is))
-    ] in
-    let l = c.loop-j in
-    let next = kept_turn drops c.args.list.now l.j l.list l.kept c.if-not-is_detour.kept (get_or l.list l.j 0) l.invariant.1 l.invariant.2 read many in
-    (omega (arith, c.loop-j-test.true), next.0, next.1)
+    let next = λ (kept' : ℕ) (more : kept' ≡ l.kept + cond (not (drops (get_or a.list.now l.j 0))) 1 0).
+    kept_turn drops a.list.now l.j l.list l.kept kept' (get_or l.list l.j 0) l.invariant.1 l.invariant.2 read more in (
+      omega (arith, c.loop-j-test.true),
+      (next _ (count_turn c.is_detour.result (drops (get_or a.list.now l.j 0)) l.kept _ is (λ e. grind arith) (λ e. grind arith))).0,
+      kept_listed_turn drops a.list.now l.j l.list l.kept (get_or l.list l.j 0) l.invariant.1 l.invariant.2 read,
+    )
 
 pub shape_of-list : goal.shape_of-list
 shape_of-list c =

@@ -1,7 +1,17 @@
-use Rattle.std.proofs.Common.{◌≡◌, refl, ◌∙◌, ◌+◌, ◌<◌, arith, length, set, length-set}
+use Rattle.std.proofs.Common.{◌≡◌, refl, ◌∙◌, List, ℕ, ◌+◌, ◌<◌, ◌≤◌, arith, length, get_or, set, length-set}
+use Rattle.std.proofs.Math.Decide.{dec_lt}
+use Rattle.leaf.specs.Price.{mark}
 use Rattle.rows.specs.Reach.{ReachesIn, reaches_more, reaches_skip}
 use Rattle.dominance.proofs.list_from.Goals as goal
-use Rattle.dominance.proofs.list_from.Goals.{then-prices-x-lt-MARK, else-prices-x-lt-MARK}
+
+-- a state more, counted where its price is below the mark
+listed_turn : (P L : List ℕ) (x n n' : ℕ) → ReachesIn x P L n → n < length L → (get_or P x 0 < mark → n' ≡ n + 1) → (mark ≤ get_or P x 0 → n' ≡ n)
+    → ReachesIn (x + 1) P (set L n x) n'
+listed_turn P L x n n' r room here far = go (dec_lt (get_or P x 0) mark)
+  where
+    go : Dec (get_or P x 0 < mark) → ReachesIn (x + 1) P (set L n x) n'
+    go (yes l) = rw (here l) (reaches_more P L x n r room l)
+    go (no d) = let m : mark ≤ get_or P x 0 = omega arith in rw (far m) (reaches_skip P L x n r x m)
 
 pub loop-x-init : goal.loop-x-init
 loop-x-init c = (c.requires.1, refl, c.requires.4)
@@ -19,15 +29,9 @@ overflow_add-n c = omega (arith, c.loop-x.invariant.2.few)
 
 pub loop-x-preserved : goal.loop-x-preserved
 loop-x-preserved c =
-    let room : c.loop-x.n < length c.loop-x.list = let l = c.loop-x in omega (arith, l.invariant.2.few, l.invariant.1, c.requires.0, c.requires.2, c.loop-x-test.true) in
-    let P = c.args.prices.now in
-    let listed : let l = c.loop-x in ReachesIn (l.x + 1) c.args.prices.now (set l.list l.n l.x) c.if-prices-x-lt-MARK.n = let l = c.loop-x in
-    elim c.if-prices-x-lt-MARK.branch [
-      | then-prices-x-lt-MARK w ↦ rw w.n-is (reaches_more P l.list l.x l.n l.invariant.2 room w.if-prices-x-lt-MARK.true)
-      | else-prices-x-lt-MARK w ↦ rw w.n-is (reaches_skip P l.list l.x l.n l.invariant.2 l.x w.if-prices-x-lt-MARK.false)
-    ] in
     let l = c.loop-x in
-    (omega arith, length-set l.list l.n l.x ∙ l.invariant.1, listed)
+    let room : l.n < length l.list = omega (arith, l.invariant.2.few, l.invariant.1, c.requires.0, c.requires.2, c.loop-x-test.true) in
+    (omega arith, length-set l.list l.n l.x ∙ l.invariant.1, listed_turn c.args.prices.now l.list l.x l.n _ l.invariant.2 room (λ h. grind arith) (λ h. grind arith))
 
 pub shape_of-list : goal.shape_of-list
 shape_of-list c = c.loop-x.invariant.1

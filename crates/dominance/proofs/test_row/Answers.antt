@@ -20,7 +20,7 @@ returns-then-same_spot c =
     let a = c.args in
     let r = c.place_above-place.ensures in
     let e : c.place_above-place.result ≡ a.states = omega (arith, r.inside, c.if-place-states.false) in
-    test_found a.states a.paid a.row.now a.prices.now a.spot c.requires.1 c.requires.2 c.if-row-paid.false (r.none e)
+    test_found a.states a.paid a.row.now a.prices.now a.spot c.requires.1 c.requires.2 (omega arith) (r.none e)
     (told c.same_spot.ensures c.if-same_spot.true)
 
 pub returns : goal.returns

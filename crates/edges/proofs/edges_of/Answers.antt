@@ -1,13 +1,31 @@
-use Rattle.std.proofs.Common.{refl, ap, ◌∙◌, not, ◌+◌, ◌*◌, ◌-◌, ◌<◌, le_antisymm, arith, length, get_or, length-set, eq-eqb, ne_eqb}
+use Rattle.std.proofs.Common.{◌≡◌, refl, ap, ◌∙◌, Bool, not, List, ℕ, ◌+◌, ◌*◌, ◌-◌, ◌<◌, ◌≤◌, le_antisymm, arith, length, get_or, set, length-set, eq-eqb, ne_eqb}
+use Rattle.std.proofs.Math.Decide.{ℕ_discrete}
+use Rattle.layer.specs.Lent.{Front}
 use Rattle.edges.specs.Edges.{picked, moved_by}
 use Rattle.edges.specs.Edges.Those.{picked_here, picked_not, front_more}
 use Rattle.edges.proofs.edges_of.Goals as goal
-use Rattle.edges.proofs.edges_of.Goals.{In-loop-j, then-moves-a-ne0, else-moves-a-ne0}
+use Rattle.edges.proofs.edges_of.Goals.{In-loop-j}
 
 -- the action's move of the state lies within the table
 inside : (c : In-loop-j) → let a = c.args in
     get_or a.own.now c.loop-j.j 0 * a.row + a.s < length a.moves.now
 inside c = c.requires.1 c.loop-j.j c.loop-j-test.true
+
+-- an action more, listed where its move of the state is not 0
+edge_turn : (M own before acts acts' : List ℕ) (row s j n n' : ℕ) → n < length before → Front (picked (moved_by M row s) own j) before n acts
+    → ((get_or M (get_or own j 0 * row + s) 0 ≡ 0 → ⊥) → acts' ≡ set acts n (get_or own j 0)) → ((get_or M (get_or own j 0 * row + s) 0 ≡ 0 → ⊥) → n' ≡ n + 1)
+    → (get_or M (get_or own j 0 * row + s) 0 ≡ 0 → acts' ≡ acts) → (get_or M (get_or own j 0 * row + s) 0 ≡ 0 → n' ≡ n)
+    → (n' ≤ n + 1) × (length acts' ≡ length acts) × Front (picked (moved_by M row s) own (j + 1)) before n' acts'
+edge_turn M own before acts acts' row s j n n' room f a b c d = go (ℕ_discrete (get_or M (get_or own j 0 * row + s) 0) 0)
+  where
+    go : Dec (get_or M (get_or own j 0 * row + s) 0 ≡ 0)
+        → (n' ≤ n + 1) × (length acts' ≡ length acts) × Front (picked (moved_by M row s) own (j + 1)) before n' acts'
+    go (yes e) = (omega (arith, d e), ap length (c e), rw (picked_not (moved_by M row s) own j (ap not (eq-eqb _ _ e)), c e, d e) f)
+    go (no ne) = (
+      omega (arith, b ne),
+      ap length (a ne) ∙ length-set acts n (get_or own j 0),
+      rw (picked_here (moved_by M row s) own j (ap not (ne_eqb _ _ ne)), a ne, b ne) (front_more (get_or own j 0) room f),
+    )
 
 pub loop-j-init : goal.loop-j-init
 unfolding picked
@@ -32,17 +50,9 @@ pub loop-j-preserved : goal.loop-j-preserved
 loop-j-preserved c =
     let l = c.loop-j in
     let s = c.args in
-    let p = moved_by s.moves.now s.row s.s in
-    elim c.if-moves-a-ne0.branch [
-      | then-moves-a-ne0 w ↦ let e = picked_here p s.own.now l.j (ap not (ne_eqb _ _ w.if-moves-a-ne0.true)) in (
-        omega arith,
-        omega (arith, w.count-is),
-        ap length w.acts-is ∙ simp length-set l.invariant.2,
-        rw (e, w.acts-is, w.count-is) (front_more (get_or s.own.now l.j 0) (omega arith) l.invariant.3),
-      )
-      | else-moves-a-ne0 w ↦ let e = picked_not p s.own.now l.j (ap not (eq-eqb _ _ w.if-moves-a-ne0.false)) in
-          (omega arith, omega (arith, w.count-is), ap length w.acts-is ∙ l.invariant.2, rw (e, w.acts-is, w.count-is) l.invariant.3)
-    ]
+    let t = edge_turn s.moves.now s.own.now s.acts.now l.acts _ s.row s.s l.j l.count _ (omega arith) l.invariant.3
+    (λ d. grind arith) (λ d. grind arith) (λ e. grind arith) (λ e. grind arith) in
+    (omega arith, omega (arith, t.0), t.1 ∙ l.invariant.2, t.2)
 
 pub shape_of-acts : goal.shape_of-acts
 shape_of-acts c = c.loop-j.invariant.2

@@ -2,7 +2,6 @@ use Rattle.std.proofs.Common.{refl, ap, ◌∙◌, le_antisymm, arith, length}
 use Rattle.hops.specs.Hops.{ways_by}
 use Rattle.hops.specs.Hops.Laws.{ways_right, way_pass, way_more}
 use Rattle.hops.proofs.list_ways.Goals as goal
-use Rattle.hops.proofs.list_ways.Goals.{then-word-ne0, else-word-ne0}
 
 pub loop-a-init : goal.loop-a-init
 unfolding ways_by
@@ -24,13 +23,10 @@ bounds-ways-word c =
 pub loop-a-preserved : goal.loop-a-preserved
 loop-a-preserved c =
     let l = c.loop-a in
-    let H = c.args.hops.now in (
-      omega arith,
-      elim c.if-word-ne0.branch [
-        | then-word-ne0 w ↦ w.ways-is ∙ rw l.invariant.1 (way_more H l.a w.if-word-ne0.true)
-        | else-word-ne0 w ↦ w.ways-is ∙ l.invariant.1 ∙ way_pass H l.a w.if-word-ne0.false
-      ],
-    )
+    let H = c.args.hops.now in
+    let more = way_more H l.a in
+    let pass = way_pass H l.a in
+    (omega arith, grind (arith, more, pass, l.invariant.1))
 
 pub returns : goal.returns
 returns c = let l = c.loop-a in l.invariant.1 ∙ rw (le_antisymm l.invariant.0 c.loop-a-test.false)

@@ -1,5 +1,5 @@
 -- `planner::fitting_nodes` meets its contract: as many nodes as fit a task that the reader accepted. Assumes nothing.
-use Rattle.std.proofs.Common.{ap, sym, ◌∙◌, rules}
+use Rattle.std.proofs.Common.{ap, sym, ◌∙◌}
 use Rattle.record.specs.Record.{verdict_number}
 use Rattle.planner.specs.Planner.{fitting_nodes}
 use Rattle.planner.specs.Planner.Answers.{nodes_refused, nodes_accepted}

@@ -1,5 +1,5 @@
 -- `planner::plan` meets its contract: what the reader accepts is planned, and what the answer says of sequences follows. Assumes nothing.
-use Rattle.std.proofs.Common.{ap, sym, ◌∙◌, rules}
+use Rattle.std.proofs.Common.{ap, sym, ◌∙◌}
 use Rattle.record.specs.Record.{verdict_number}
 use Rattle.planner.specs.Planner.{task_plan}
 use Rattle.planner.specs.Planner.Answers.{record_refused, record_accepted, outcome_says}

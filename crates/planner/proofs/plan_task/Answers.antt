@@ -1,5 +1,5 @@
 -- `planner::plan_task` meets its contract: 20, then 21, then the search. Assumes nothing.
-use Rattle.std.proofs.Common.{◌≡◌, arith, ◌+◌, ◌*◌, ◌≤◌, get_or, rules}
+use Rattle.std.proofs.Common.{◌≡◌, arith, ◌+◌, ◌*◌, ◌≤◌, get_or}
 use Rattle.task.specs.Factors.{all_states}
 use Rattle.tables.specs.Fit.{row_of}
 use Rattle.solve.specs.Solve.{table_words}
@@ -10,10 +10,10 @@ use Rattle.planner.proofs.plan_task.Goals.{After-leaf_bases-bases}
 
 -- the nodes are 1 to 4,096
 some : (c : After-leaf_bases-bases) → 1 ≤ c.args.nodes
-some c = omega (arith, c.if-nodes-eq0.false)
+some c = omega arith
 
 few : (c : After-leaf_bases-bases) → c.args.nodes ≤ 4096
-few c = omega (arith, c.if-nodes-gt4096.false)
+few c = omega arith
 
 -- the words that the nodes need
 words : (c : After-leaf_bases-bases) → (c.args.nodes + 1) * (40 + get_or c.leaf_bases-bases.result c.args.task.leaves 0) ≡ table_words c.args.task c.args.nodes

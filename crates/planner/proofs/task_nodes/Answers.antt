@@ -1,5 +1,5 @@
 -- `planner::task_nodes` meets its contract: one row more than nodes. Assumes nothing.
-use Rattle.std.proofs.Common.{◌≡◌, arith, ◌+◌, ◌/◌, get_or, rules}
+use Rattle.std.proofs.Common.{◌≡◌, arith, ◌+◌, ◌/◌, get_or}
 use Rattle.task.specs.Factors.{all_states}
 use Rattle.tables.specs.Fit.{row_of}
 use Rattle.planner.specs.Planner.Answers.{nodes_none, nodes_most, nodes_some}

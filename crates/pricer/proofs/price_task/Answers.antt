@@ -1,5 +1,5 @@
 -- `pricer::price_task` meets its contract: 12, then 21, then what the walk says. Assumes nothing.
-use Rattle.std.proofs.Common.{◌≡◌, sym, ◌∙◌, arith, get_or}
+use Rattle.std.proofs.Common.{◌≡◌, true, sym, ◌∙◌, arith, get_or}
 use Rattle.task.specs.Factors.{all_states}
 use Rattle.tables.specs.Fit.{row_of}
 use Rattle.pricer.specs.Pricer.{path_fits}
@@ -28,14 +28,17 @@ returns-then-not-fits c =
 pub returns-then-out-states : goal.returns-then-out-states
 returns-then-out-states c =
     let a = c.args in
-    task_short a.task a.path.now a.out.now (fitting (goal.at.returns-then-out-states c).After-path_fits-fits ∙ c.if-not-fits.false) (omega (arith, row (goal.at.returns-then-out-states c).After-path_fits-fits, c.if-out-states.true))
+    let fits : c.path_fits-fits.result ≡ true = cc in
+    task_short a.task a.path.now a.out.now (fitting (goal.at.returns-then-out-states c).After-path_fits-fits ∙ fits) (omega (arith, row (goal.at.returns-then-out-states c).After-path_fits-fits))
 
 pub price_path-requires : goal.price_path-requires
 price_path-requires c =
-    let f = fitting (goal.at.price_path-requires c).After-path_fits-fits ∙ c.if-not-fits.false in record { valid = c.requires; kinds = (c.action_kinds-kinds.ensures, c.leaf_bases-bases.ensures); by_index = (λ k l. (fits_centred c.args.task c.args.path.now f k l).0, omega (arith, row (goal.at.price_path-requires c).After-path_fits-fits, c.if-out-states.false)) }
+    let fits : c.path_fits-fits.result ≡ true = cc in
+    let f = fitting (goal.at.price_path-requires c).After-path_fits-fits ∙ fits in record { valid = c.requires; kinds = (c.action_kinds-kinds.ensures, c.leaf_bases-bases.ensures); by_index = (λ k l. (fits_centred c.args.task c.args.path.now f k l).0, omega (arith, row (goal.at.price_path-requires c).After-path_fits-fits)) }
 
 pub returns : goal.returns
 returns c =
     let a = c.args in
-    task_end a.task a.path.now a.out.now (fitting (goal.at.returns c).After-path_fits-fits ∙ c.if-not-fits.false)
-    (omega (arith, row (goal.at.returns c).After-path_fits-fits, c.if-out-states.false)) c.price_path.ensures
+    let fits : c.path_fits-fits.result ≡ true = cc in
+    task_end a.task a.path.now a.out.now (fitting (goal.at.returns c).After-path_fits-fits ∙ fits)
+    (omega (arith, row (goal.at.returns c).After-path_fits-fits)) c.price_path.ensures
