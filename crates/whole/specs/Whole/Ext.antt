@@ -95,3 +95,26 @@ module _ (t : Task) (n leaves : ℕ) (l : n ≤ length t.factors) (same : n ≡ 
       → states_few (length (take n t.factors)) leaves (front t.sizes) (front t.factors) ≡ true
       → all_star (length (take n t.factors)) leaves actions (front t.factors) (condition t) (effect t) ≡ true → Accepted ≡ whole_task t
   passed_task actions e a b d = sym (whole_passed _ _ _ _ _ _ _ (sym used ∙ a) (sym few ∙ b) (sym (star actions e) ∙ d))
+
+-- ---- what the tests of a row's slices say of the whole tables
+
+module _ (n : ℕ) (factors : List ℕ) (l : n ≤ length factors) where
+  front_of : Agree n (λ v. get_or (take n factors) v 0) (λ v. get_or factors v 0)
+  front_of v m = get_or-take n factors v 0 m
+
+  pub states_row : (sizes : List ℕ) (g : ℕ) → states_to (λ v. get_or (take n factors) v 0) (λ v. get_or (take n sizes) v 0) g (length (take n factors))
+      ≡ states_to (λ v. get_or factors v 0) (λ v. get_or sizes v 0) g n
+  states_row sizes g = rw (length-take-le n factors l) (states_ext n _ _ _ _ g front_of (λ v m. get_or-take n sizes v 0 m))
+
+  module _ (row : ℕ) where
+    part_of : (xs : List ℕ) → Agree n (λ v. get_or (slice_range xs row (row + n)) v 0) (λ v. get_or xs (row + v) 0)
+    part_of xs v m = slice_at xs row (row + n) v (omega arith)
+
+    pub touches_row : (es : List ℕ) → touches (length (take n factors)) (λ v. get_or (take n factors) v 0) 0 (λ v. get_or (slice_range es row (row + n)) v 0)
+        ≡ touches n (λ v. get_or factors v 0) 0 (λ v. get_or es (row + v) 0)
+    touches_row es = rw (length-take-le n factors l) (touches_ext n _ _ front_of 0 _ _ (part_of es))
+
+    pub leaf_pairs_row : (cs es : List ℕ) (leaf : ℕ)
+        → leaf_pairs (length (take n factors)) (λ v. get_or (take n factors) v 0) (λ v. get_or (slice_range cs row (row + n)) v 0) (λ v. get_or (slice_range es row (row + n)) v 0) leaf
+        ≡ leaf_pairs n (λ v. get_or factors v 0) (λ v. get_or cs (row + v) 0) (λ v. get_or es (row + v) 0) leaf
+    leaf_pairs_row cs es leaf = rw (length-take-le n factors l) (leaf_pairs_ext n _ _ front_of _ _ _ _ leaf (part_of cs) (part_of es))
