@@ -1,7 +1,7 @@
 // The fields of a task record, most significant bit first, and what a record can be refused for.
 #![tactic(auto)]
 
-ghost use Rattle.std.specs.Prelude.{◌≡◌, ◌&&◌, ◌+◌, ◌*◌, ◌<◌, ◌≤◌, ◌^◌, eqb, length, OnErr};
+ghost use Rattle.std.specs.Prelude.{◌≡◌, ◌&&◌, ◌+◌, ◌*◌, ◌<◌, ◌≤◌, ◌^◌, eqb, length, IfOk, OnErr};
 ghost use Rattle.fields.specs.Fields.{width, field_of, next_field, ends_at, fill_of, number_of_field};
 ghost use Rattle.fields.specs.Answers.{number_of, told};
 
@@ -113,6 +113,8 @@ impl<'a> BitReader<'a> {
     pub fn read(&mut self, field: Field) -> Result<u16, Refusal>
         requires { self.old.at < 2 ^ 32 }
         ensures told { next_field self.old.bytes.now (number_of_field field) self.old.at ≡ told result self.new.at }
+        ensures small { IfOk result (λ value. value < 2 ^ width (number_of_field field)) }
+        ensures moves { IfOk result (λ _. self.new.at ≡ self.old.at + width (number_of_field field)) }
         ensures stays { OnErr result (self.new.at ≡ self.old.at) }
         ensures same_record { self.new.bytes ≡ self.old.bytes }
     {
