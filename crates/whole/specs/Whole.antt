@@ -8,8 +8,7 @@ use Rattle.task.specs.Meaning.{Partial, size, factor, condition, effect}
 use Rattle.task.specs.Factors.{states_to, star_pairs}
 use Rattle.fields.specs.declared.Refusal.{Refusal}
 use Rattle.fields.specs.declared.Refusal.TheVariants.{FactorEmpty, TooManyStates, NotStar}
-use Rattle.whole.specs.declared.Verdict.{Verdict}
-use Rattle.whole.specs.declared.Verdict.TheVariants.{Accepted, Refused}
+use Rattle.whole.specs.Verdict.{Verdict, Accepted, Refused}
 
 -- the centre and each leaf have a variable
 unfoldable pub factors_used : ℕ → ℕ → (ℕ → ℕ) → Bool
