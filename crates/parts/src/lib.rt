@@ -1,11 +1,12 @@
 // The first parts of a task record, field by field: head and variables, with the grammar of all parts. Refusals 1 to 4 come here, each at its field.
 #![tactic(auto)]
 
-ghost use Rattle.std.specs.Prelude.{◌≡◌, ◌+◌, ◌*◌, ◌<◌, ◌≤◌, ◌^◌, length};
+ghost use Rattle.std.specs.Prelude.{◌≡◌, ◌+◌, ◌*◌, ◌<◌, ◌≤◌, ◌^◌, length, IfOk};
 ghost use Rattle.fields.specs.Answers.{told, told_in};
 ghost use Rattle.fields.specs.Fields.{next_field};
 ghost use Rattle.parts.specs.Elsewhere.{Elsewhere};
 ghost use Rattle.parts.specs.Grammar.{head_of, variable_of, variables_from};
+ghost use Rattle.parts.specs.Grammar.Filled.{HeadIn};
 
 use fields::{BitReader, Field, Refusal};
 
@@ -63,11 +64,12 @@ pub struct Lists {
     pub actions: Actions,
 }
 
-// Where the record ends or is refused, the reader is at most behind the head.
+// The counts. Where the record ends, the reader is at most behind the head.
 #[tactic(auto, unfolding(crate::specs::Grammar::head_of))]
 pub fn read_head(r: &mut BitReader<'_>) -> Result<Head, Refusal>
     requires { r.old.at < 2 ^ 31 }
     ensures told { head_of (next_field r.old.bytes.now) r.old.at ≡ told result r.new.at }
+    ensures in_bounds { IfOk result HeadIn }
     ensures near { r.new.at ≤ r.old.at + 16 }
     ensures same_record { r.new.bytes ≡ r.old.bytes }
 {
