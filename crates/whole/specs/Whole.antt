@@ -1,6 +1,7 @@
 -- What is tested over the whole of a task. Follows "Refused because of the input": "Then over the whole: 9 centre or a leaf without variables,
 -- 10 too many leaf states, 11 an action that is neither centre nor leaf action."
 pub mod Laws
+pub mod Ext
 use Rattle.std.specs.Prelude.{Bool, true, false, ◌&&◌, List, [], ◌∷◌, ℕ, suc, ◌+◌, leb, eqb}
 use Rattle.loops.specs.Count.{all, any, sum}
 use Rattle.task.specs.declared.Task.{Task}

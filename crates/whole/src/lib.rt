@@ -83,7 +83,10 @@ fn names_within(factors: &[u8], pairs: &[u8], g: usize, h: usize) -> bool
     requires { length pairs.now ≡ length factors.now }
     ensures { result ≡ within (length factors.now) (λ v. get_or factors.now v 0) g h (λ v. get_or pairs.now v 0) }
 {
-    factors.iter().zip(pairs.iter()).all(|(&f, &x)| entry_within(x, f, g, h))
+    factors
+        .iter()
+        .zip(pairs.iter())
+        .all(|(&f, &x)| entry_within(x, f, g, h))
 }
 
 // Whether an entry x names a centre variable: the variable's factor is f.
@@ -98,7 +101,10 @@ pub fn touches_centre(factors: &[u8], pairs: &[u8]) -> bool
     requires { length pairs.now ≡ length factors.now }
     ensures { result ≡ touches (length factors.now) (λ v. get_or factors.now v 0) 0 (λ v. get_or pairs.now v 0) }
 {
-    factors.iter().zip(pairs.iter()).any(|(&f, &x)| names_centre(x, f))
+    factors
+        .iter()
+        .zip(pairs.iter())
+        .any(|(&f, &x)| names_centre(x, f))
 }
 
 // Whether the pairs are those of a leaf action: effects on the leaf alone, conditions on it and the centre alone.
@@ -119,7 +125,13 @@ fn is_star(factors: &[u8], conditions: &[u8], effects: &[u8], leaves: usize) -> 
 }
 
 // Whether each action is a centre action or a leaf action.
-fn all_star(factors: &[u8], conditions: &[u8], effects: &[u8], leaves: usize, actions: usize) -> bool
+fn all_star(
+    factors: &[u8],
+    conditions: &[u8],
+    effects: &[u8],
+    leaves: usize,
+    actions: usize,
+) -> bool
     requires n_bound { (length factors.now ≤ 32) × (leaves ≤ 8) × (actions ≤ 255) }
     requires in_bounds { (8192 ≤ length conditions.now) × (8192 ≤ length effects.now) }
     ensures { result ≡ all_star (length factors.now) leaves actions (λ v. get_or factors.now v 0) (λ a v. get_or conditions.now (a * 32 + v) 0) (λ a v. get_or effects.now (a * 32 + v) 0) }
@@ -127,7 +139,12 @@ fn all_star(factors: &[u8], conditions: &[u8], effects: &[u8], leaves: usize, ac
     let n = factors.len();
     (0..actions).all(|a| {
         let row = a * 32;
-        is_star(factors, &conditions[row..row + n], &effects[row..row + n], leaves)
+        is_star(
+            factors,
+            &conditions[row..row + n],
+            &effects[row..row + n],
+            leaves,
+        )
     })
 }
 
@@ -138,6 +155,7 @@ pub fn whole(task: &Task) -> Result<(), Refusal>
 {
     let n = usize::from(task.variables);
     let leaves = usize::from(task.leaves);
+    let actions = usize::from(task.actions);
     let factors = &task.factors[..n];
     if !factors_used(factors, leaves) {
         return Err(Refusal::FactorEmpty);
@@ -145,7 +163,6 @@ pub fn whole(task: &Task) -> Result<(), Refusal>
     if !states_few(&task.sizes[..n], factors, leaves) {
         return Err(Refusal::TooManyStates);
     }
-    let actions = usize::from(task.actions);
     if !all_star(factors, &task.conditions, &task.effects, leaves, actions) {
         return Err(Refusal::NotStar);
     }

@@ -15,4 +15,4 @@ returns c =
     let n = c.args.leaves + 1 in
     rw (all_numbers (λ g. any (length factors) (λ v. eqb (get_or factors v 0) g)) n)
     (all_from_yields_List (λ g. any (length factors) (λ v. eqb (get_or factors v 0) g)) _ _ c.all.result c.all.ensures.ran
-      (YieldsList-from_range 0 n n (cc) (omega arith)) (λ x b q k. search (rules, tests)))
+    (YieldsList-from_range 0 n n (cc) (omega arith)) (λ x b q k. search (rules, tests)))

@@ -17,4 +17,4 @@ returns-else-touches_centre c =
     let a = c.args in
     rw (told c.touches_centre.ensures c.if-touches_centre.false, any_number (λ i. leaf_pairs (length a.factors.now) (λ v. get_or a.factors.now v 0) (λ v. get_or a.conditions.now v 0) (λ v. get_or a.effects.now v 0) (suc i)) a.leaves)
     (any_from_yields_List (λ i. leaf_pairs (length a.factors.now) (λ v. get_or a.factors.now v 0) (λ v. get_or a.conditions.now v 0) (λ v. get_or a.effects.now v 0) (suc i)) _ _ c.any.result c.any.ensures.ran
-      (YieldsList-from_range 0 a.leaves a.leaves (cc) (omega arith)) (λ x b q k. rw (← add-one) (search (rules, tests))))
+    (YieldsList-from_range 0 a.leaves a.leaves (cc) (omega arith)) (λ x b q k. rw (← add-one) (search (rules, tests))))

@@ -13,4 +13,4 @@ returns c =
     let a = c.args in
     rw (all_pairs (λ w. not (named w.1) || (eqb w.0 a.g || eqb w.0 a.h)) a.factors.now a.pairs.now c.requires)
     (all_from_yields_List (λ w. not (named w.1) || (eqb w.0 a.g || eqb w.0 a.h)) c.all.new.self _ c.all.result c.all.ensures.ran
-      (YieldsList-from_zip (YieldsList-from_slice a.factors.now cc) (YieldsList-from_slice a.pairs.now cc)) (λ x b q k. search (rules, tests)))
+    (YieldsList-from_zip (YieldsList-from_slice a.factors.now cc) (YieldsList-from_slice a.pairs.now cc)) (λ x b q k. search (rules, tests)))

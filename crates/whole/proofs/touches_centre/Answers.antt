@@ -13,4 +13,4 @@ returns c =
     let a = c.args in
     rw (any_pair (λ w. eqb w.0 0 && named w.1) a.factors.now a.pairs.now c.requires)
     (any_from_yields_List (λ w. eqb w.0 0 && named w.1) c.any.new.self _ c.any.result c.any.ensures.ran
-      (YieldsList-from_zip (YieldsList-from_slice a.factors.now cc) (YieldsList-from_slice a.pairs.now cc)) (λ x b q k. search (rules, tests)))
+    (YieldsList-from_zip (YieldsList-from_slice a.factors.now cc) (YieldsList-from_slice a.pairs.now cc)) (λ x b q k. search (rules, tests)))
