@@ -25,11 +25,11 @@ fn read_task(r: &mut BitReader<'_>) -> Result<Task, Refusal>
     let n = head.variables as usize;
     let mut variables = Variables::blank();
     read_variables(r, head.leaves, n, &mut variables)?;
-    let own = &variables.sizes[..n];
+    let own_sizes = &variables.sizes[..n];
     let mut goal = [FREE; 32];
-    read_list(r, own, 0, &mut goal)?;
+    read_list(r, own_sizes, 0, &mut goal)?;
     let mut actions = Actions::blank();
-    read_actions(r, own, head.actions as usize, &mut actions)?;
+    read_actions(r, own_sizes, head.actions as usize, &mut actions)?;
     let Variables {
         sizes,
         factors,

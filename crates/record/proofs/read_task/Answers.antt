@@ -23,8 +23,8 @@ goal_pairs : (c : In_ok-read_variables) {p : Reading (List ℕ)}
     → counted_pairs (next_field c.args.r.now.bytes.now) c.read_variables.new.into.sizes c.in_ok-head.head.variables 0 (no_pairs 32) c.read_variables.new.r.at ≡ p
 goal_pairs c e =
     sym (counted_taken (next_field c.args.r.now.bytes.now) c.read_variables.new.into.sizes c.in_ok-head.head.variables
-        (omega (arith, c.in_ok-head.ensures.in_bounds)) 0 _ _)
-        ∙ rw (← c.in_ok-head.ensures.same_record, ← c.in_ok-read_variables.ensures.same_record) e
+    (omega (arith, c.in_ok-head.ensures.in_bounds)) 0 _ _)
+    ∙ rw (← c.in_ok-head.ensures.same_record, ← c.in_ok-read_variables.ensures.same_record) e
 
 -- what is read of the actions
 actions : (c : In_ok-read_list) {p : Reading Actions}
@@ -34,8 +34,8 @@ actions : (c : In_ok-read_list) {p : Reading Actions}
     c.read_list.new.r.at ≡ p
 actions c e =
     sym (actions_taken (next_field c.args.r.now.bytes.now) c.read_variables.new.into.sizes c.in_ok-head.head.variables
-        (omega (arith, c.in_ok-head.ensures.in_bounds)) _ _ _)
-        ∙ rw (← c.in_ok-head.ensures.same_record, ← c.in_ok-read_variables.ensures.same_record, ← c.in_ok-read_list.ensures.same_record) e
+    (omega (arith, c.in_ok-head.ensures.in_bounds)) _ _ _)
+    ∙ rw (← c.in_ok-head.ensures.same_record, ← c.in_ok-read_variables.ensures.same_record, ← c.in_ok-read_list.ensures.same_record) e
 
 pub returns-in_err-head-clause-told : goal.returns-in_err-head-clause-told
 unfolding task_of
@@ -47,8 +47,8 @@ pub returns-in_err-read_variables-clause-told : goal.returns-in_err-read_variabl
 unfolding task_of lists_of
 returns-in_err-read_variables-clause-told c =
     let v : variables_from (next_field c.args.r.now.bytes.now) c.in_ok-head.head.leaves c.in_ok-head.head.variables 0 no_variables c.read_head.new.r.at
-        ≡ refused c.in_err-read_variables.field-0.0 =
-        rw (← c.in_ok-head.ensures.same_record, ← c.blank-variables.ensures) c.in_err-read_variables.ensures.told in
+    ≡ refused c.in_err-read_variables.field-0.0 =
+    rw (← c.in_ok-head.ensures.same_record, ← c.blank-variables.ensures) c.in_err-read_variables.ensures.told in
     let p = err_from_is_err_and c.from_residual-in_err-read_variables.result c.from_residual-in_err-read_variables.ensures.1 in
     rw (p.1, p.2) (simp (c.in_ok-head.ensures.told, v))
 
