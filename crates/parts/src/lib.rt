@@ -5,10 +5,11 @@ ghost use Rattle.std.specs.Prelude.{◌≡◌, ◌+◌, ◌*◌, ◌<◌, ◌≤
 ghost use Rattle.fields.specs.Answers.{told, told_in};
 ghost use Rattle.fields.specs.Fields.{next_field};
 ghost use Rattle.parts.specs.Elsewhere.{Elsewhere};
-ghost use Rattle.parts.specs.Grammar.{head_of, variable_of, variables_from};
+ghost use Rattle.parts.specs.Grammar.{no_variables, no_actions, head_of, variable_of, variables_from};
 ghost use Rattle.parts.specs.Grammar.Filled.{HeadIn};
 
 use fields::{BitReader, Field, Refusal};
+use task::FREE;
 
 // How many variables, leaves and actions there are.
 #[derive(Clone, Copy)]
@@ -31,6 +32,19 @@ pub struct Variables {
     pub sizes: [u8; 32],
     pub factors: [u8; 32],
     pub initial: [u8; 32],
+}
+
+impl Variables {
+    // No variable yet: factors hold 16, which is no factor.
+    pub fn blank() -> Variables
+        ensures { result ≡ no_variables }
+    {
+        Variables {
+            sizes: [0; 32],
+            factors: [FREE; 32],
+            initial: [0; 32],
+        }
+    }
 }
 
 // A variable, and the value that a condition, an effect or the goal names of it.
@@ -56,12 +70,18 @@ pub struct Actions {
     pub effects: [u8; 8192],
 }
 
-// The lists of a task.
-#[derive(Drop)]
-pub struct Lists {
-    pub variables: Variables,
-    pub goal: [u8; 32],
-    pub actions: Actions,
+impl Actions {
+    // No action yet: conditions and effects name no variable.
+    pub fn blank() -> Actions
+        ensures { result ≡ no_actions }
+    {
+        Actions {
+            handling: [0; 256],
+            distance: [0; 256],
+            conditions: [FREE; 8192],
+            effects: [FREE; 8192],
+        }
+    }
 }
 
 // The counts. Where the record ends, the reader is at most behind the head.

@@ -2,78 +2,45 @@
 #![tactic(auto)]
 
 ghost use Rattle.std.specs.Prelude.{◌≡◌, ◌<◌, ◌≤◌, ◌^◌, IfOk};
-ghost use Rattle.task.specs.Valid.{FieldsValid, Valid};
-ghost use Rattle.fields.specs.Answers.{told, told_in};
+ghost use Rattle.task.specs.Valid.{Valid};
+ghost use Rattle.fields.specs.Answers.{told};
 ghost use Rattle.fields.specs.Fields.{next_field};
-ghost use Rattle.parts.specs.Grammar.{no_lists, task_with, lists_of, task_of};
-ghost use Rattle.parts.specs.Grammar.Filled.{HeadIn};
+ghost use Rattle.parts.specs.Grammar.{task_of};
 ghost use Rattle.record.specs.Record.{verdict_number, read_told, read_record};
 
 use fields::{BitReader, Refusal};
 use lists::{read_actions, read_list};
-use parts::{Actions, Head, Lists, Variables, read_head, read_variables};
+use parts::{Actions, Variables, read_head, read_variables};
 use task::{FREE, Task};
 use whole::whole;
 
-// Nothing read yet: entries that no variable or action has keep these values.
-fn blank_lists() -> Lists
-    ensures { result ≡ no_lists }
-{
-    Lists {
-        variables: Variables {
-            sizes: [0; 32],
-            factors: [FREE; 32],
-            initial: [0; 32],
-        },
-        goal: [FREE; 32],
-        actions: Actions {
-            handling: [0; 256],
-            distance: [0; 256],
-            conditions: [FREE; 8192],
-            effects: [FREE; 8192],
-        },
-    }
-}
-
-// Variables, goal and actions, one behind the other.
-#[tactic(auto, unfolding(parts::specs::Grammar::lists_of))]
-fn read_lists(r: &mut BitReader<'_>, head: Head, into: &mut Lists) -> Result<(), Refusal>
-    requires { (r.old.at < 2 ^ 20) × HeadIn head }
-    ensures told { lists_of (next_field r.old.bytes.now) head.variables head.leaves head.actions into.old r.old.at
-        ≡ told_in into.new result r.new.at }
-    ensures near { r.new.at < 2 ^ 31 }
-    ensures same_record { r.new.bytes ≡ r.old.bytes }
-{
-    let n = head.variables as usize;
-    read_variables(r, head.leaves, n, &mut into.variables)?;
-    let sizes = &into.variables.sizes[..n];
-    read_list(r, sizes, 0, &mut into.goal)?;
-    read_actions(r, sizes, head.actions as usize, &mut into.actions)
-}
-
 // A whole task, field by field.
-#[tactic(auto, unfolding(parts::specs::Grammar::task_of))]
 fn read_task(r: &mut BitReader<'_>) -> Result<Task, Refusal>
     requires { r.old.at < 2 ^ 10 }
     ensures told { task_of (next_field r.old.bytes.now) r.old.at ≡ told result r.new.at }
-    ensures valid { IfOk result FieldsValid }
     ensures near { r.new.at < 2 ^ 31 }
     ensures same_record { r.new.bytes ≡ r.old.bytes }
 {
     let head = read_head(r)?;
-    let mut lists = blank_lists();
-    read_lists(r, head, &mut lists)?;
+    let n = head.variables as usize;
+    let mut variables = Variables::blank();
+    read_variables(r, head.leaves, n, &mut variables)?;
+    let own_sizes = &variables.sizes[..n];
+    let mut goal = [FREE; 32];
+    read_list(r, own_sizes, 0, &mut goal)?;
+    let mut actions = Actions::blank();
+    read_actions(r, own_sizes, head.actions as usize, &mut actions)?;
     let Variables {
         sizes,
         factors,
         initial,
-    } = lists.variables;
+    } = variables;
     let Actions {
         handling,
         distance,
         conditions,
         effects,
-    } = lists.actions;
+    } = actions;
     Ok(Task {
         variables: head.variables,
         leaves: head.leaves,
@@ -81,7 +48,7 @@ fn read_task(r: &mut BitReader<'_>) -> Result<Task, Refusal>
         sizes,
         factors,
         initial,
-        goal: lists.goal,
+        goal,
         handling,
         distance,
         conditions,

@@ -1,9 +1,9 @@
--- Laws of reading a record: what is accepted is valid. Assumes nothing.
+-- Laws of reading a record: in its written order, and what is accepted is valid. Assumes nothing.
 use Rattle.std.specs.Prelude.{◌≡◌, refl, Bool, true, false, cond, List, ℕ}
 use Rattle.std.proofs.Common.{arith}
-use Rattle.loops.specs.Parsed.{got, refused, and_then}
+use Rattle.loops.specs.Parsed.{got, refused}
 use Rattle.task.specs.declared.Task.{Task}
-use Rattle.task.specs.Valid.{Valid}
+use Rattle.task.specs.Valid.{FieldsValid, Valid}
 use Rattle.fields.specs.declared.Refusal.{Refusal}
 use Rattle.fields.specs.declared.Refusal.TheVariants.{NotFilled}
 use Rattle.fields.specs.Answers.{Reading}
@@ -15,7 +15,29 @@ use Rattle.parts.specs.Grammar.Laws.{task_fields}
 use Rattle.whole.specs.Verdict.{Verdict, Accepted, Refused}
 use Rattle.whole.specs.Whole.{whole_task}
 use Rattle.whole.specs.Whole.Laws.{whole_valid}
-use Rattle.record.specs.Record.{verdict_number, filled_of, task_verdict, answer_of, answer_for, answer_at, read_record}
+use Rattle.record.specs.Record.{verdict_number, filled_of, task_verdict, refused_for, answer_of, answer_for, answer_at, read_record}
+
+-- ---- read_record
+
+module _ (rec : List ℕ) where
+  -- a field, a variable, a pair or an action is refused
+  pub record_refused : {why : Refusal} → task_of (next_field rec) 0 ≡ refused why → read_record rec ≡ refused_for why
+  unfolding read_record
+  record_refused e = rw e
+
+  -- the record is not filled
+  pub record_open : {t : Task} {k : ℕ} → task_of (next_field rec) 0 ≡ got t k → filled_of rec k ≡ false → read_record rec ≡ refused_for NotFilled
+  unfolding read_record
+  record_open e f = rw (e, f)
+
+  -- else the tests over the whole decide
+  pub record_filled : {t : Task} {k : ℕ} → task_of (next_field rec) 0 ≡ got t k → filled_of rec k ≡ true → read_record rec ≡ answer_for (whole_task t) t
+  unfolding read_record
+  record_filled e f = rw (e, f)
+
+  -- a task that is read is valid as far as the fields go
+  pub fields_valid : {t : Task} {k : ℕ} → task_of (next_field rec) 0 ≡ got t k → FieldsValid t
+  fields_valid e = task_fields (next_field rec) (λ kind s v s' r. (next_is rec kind s r).small) 0 e
 
 -- ---- what is accepted
 
@@ -47,5 +69,5 @@ accepted_valid rec = go (task_of (next_field rec) 0) refl
     go (got t k) e h =
         let a = for_accepted (task_verdict rec k t) t h in
         let w : whole_task t ≡ Accepted = filled_accepted (filled_of rec k) (whole_task t) NotFilled a.0 in
-        rw a.1 (record { fields = task_fields (next_field rec) (λ kind s v s' r. (next_is rec kind s r).small) 0 e; whole = whole_valid t w })
+        rw a.1 (record { fields = fields_valid rec e; whole = whole_valid t w })
     go (refused why) e h = not_both h
