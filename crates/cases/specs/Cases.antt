@@ -11,7 +11,7 @@ use Rattle.task.specs.Factors.{touches, within, holds_in, leaf_pairs, star_pairs
 use Rattle.task.specs.Centre.{centre_of, centre_after, centre_meets}
 use Rattle.fields.specs.Fields.{bit_of, field_of, next_field}
 use Rattle.parts.specs.Grammar.{head_of, variable_of, pair_of, pairs_from, counted_pairs, effect_pairs, costs_of, action_of, lists_of, task_of}
-use Rattle.whole.specs.declared.Verdict.TheVariants.{Accepted}
+use Rattle.whole.specs.Verdict.{Accepted}
 use Rattle.whole.specs.Whole.{factors_used, states_few, all_star, whole_of}
 use Rattle.record.specs.Example.{fetch_record, without_take, empty_goal, wax_record}
 use Rattle.record.specs.declared.TaskRead.{TaskRead}

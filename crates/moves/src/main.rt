@@ -10,7 +10,8 @@
 ghost use Rattle.std.specs.Prelude.{◌≡◌, ◌+◌, ◌≤◌, length};
 ghost use Rattle.task.specs.Valid.{Valid};
 
-use answers::{PlanAnswer, PlanRefusal, Solution, plan_refusal_number};
+use answers::{PlanAnswer, Solution};
+use input::read_full;
 use planner::{fitting_nodes, plan};
 use record::read_record;
 use std::alloc::Alloc;
@@ -20,7 +21,6 @@ use std::rt::{Env, Files};
 use std::{fs, io, str};
 use steps::{holds, put};
 use task::{FREE, Task};
-use whole::Verdict;
 
 // How many words the planner's table has.
 const WORDS: usize = 131072;
@@ -37,18 +37,12 @@ struct Tally {
 
 // A count with one more, as far as there is room.
 fn one_more(count: u64) -> u64 {
-    if count == 18446744073709551615 {
-        return count;
-    }
-    count + 1
+    count.saturating_add(1)
 }
 
 // Two counts together, as far as there is room.
 fn together(count: u64, more: u64) -> u64 {
-    if count > 18446744073709551615 - more {
-        return count;
-    }
-    count + more
+    count.checked_add(more).unwrap_or(count)
 }
 
 // ---- one leaf
@@ -359,33 +353,16 @@ fn run_task(rt: &impl Print, t: Task, rec: &[u8]) -> io::Result<()>
     match answer {
         PlanAnswer::Solved(s, _) => print_solved(rt, t, s, &bytes),
         PlanAnswer::Unsolvable(_) => println!(rt; "unsolvable"),
-        PlanAnswer::Refused(why, _) => print_refused(rt, plan_refusal_number(why)),
+        PlanAnswer::Refused(why, _) => print_refused(rt, u8::from(why)),
     }
 }
 
 // Reads the task that the record writes down and goes on with it.
 fn run_record(rt: &impl Print, rec: &[u8]) -> io::Result<()> {
-    let r = read_record(rec);
-    let v = r.verdict;
-    let t = r.task;
-    match v {
-        Verdict::Accepted => run_task(rt, t, rec),
-        Verdict::Refused(why) => print_refused(rt, fields::number(why)),
+    match read_record(rec) {
+        Ok(task) => run_task(rt, task, rec),
+        Err(why) => print_refused(rt, u8::from(why)),
     }
-}
-
-// Reads until `buf` is full, the input ends or a read fails, and returns how many bytes it put at the start of `buf`.
-fn read_full(input: &mut impl Read, buf: &mut [u8]) -> usize
-    ensures { result ≤ length buf.new }
-{
-    let mut done = 0;
-    while done < buf.len() {
-        match input.read(&mut buf[done..]) {
-            Ok(0) | Err(_) => break,
-            Ok(n) => done += n,
-        }
-    }
-    done
 }
 
 // The longest record has 19,531 bytes: whatever is longer is refused whatever follows, so one byte more is read and no more.
