@@ -4,8 +4,8 @@
 ghost use Rattle.std.specs.Prelude.{◌≡◌, ◌++◌, ℕ, ◌+◌, ◌*◌, ◌≤◌, ◌<◌, length, get_or, take, drop};
 ghost use Rattle.leaf.specs.Price.{mark};
 ghost use Rattle.leaf.specs.Pass.{pass};
-ghost use Rattle.layer.specs.Board.{Sound, begin_on};
-ghost use Rattle.layer.specs.Lent.{board_of};
+ghost use Rattle.layer.specs.Board.{base_on, row_on, states_on, begin_on};
+ghost use Rattle.layer.specs.Held.{board_in};
 ghost use Rattle.search.specs.Node.{least_of};
 ghost use Rattle.rows.specs.Begun.{begun_words};
 ghost use Rattle.rows.specs.Sign.{sign_of};
@@ -47,30 +47,16 @@ fn is_stuck_in(
 }
 
 // Whether an action, whose centre conditions hold, moves leaf states and is stuck: in some leaf that it moves no state that is reached passes.
-pub fn is_stuck(
-    leaves: usize,
-    actions: usize,
-    bases: &[usize],
-    moves: &[u16],
-    costs: &[u16],
-    kinds: &[u8],
-    factors: [u8; 32],
-    conditions: &[u8],
-    still: &[u8],
-    stills: &[u8],
-    old: &[u64],
-    a: usize,
-) -> bool
-    requires sound { Sound (board_of leaves actions bases.now moves.now costs.now kinds.now factors conditions.now) }
-    requires still_len { (length still.now ≡ 256) × (length stills.now ≡ 2048) × (a < actions) × (get_or bases.now leaves 0 ≤ length old.now) }
-    ensures { result ≡ stuck_by leaves bases.now moves.now still.now stills.now old.now a }
+pub fn is_stuck(board: &Board<'_>, still: &[u8], stills: &[u8], old: &[u64], a: usize) -> bool
+    requires still_len { (length still.now ≡ 256) × (length stills.now ≡ 2048) × (a < board.now.actions) × (row_on (board_in board.now) ≤ length old.now) }
+    ensures { result ≡ stuck_by board.now.leaves board.now.bases.now board.now.moves.now still.now stills.now old.now a }
 {
     if still[a] != 0 {
         return false;
     }
-    let row = bases[leaves];
-    for i in 0..leaves {
-        if is_stuck_in(bases, moves, a * row, stills[a * 8 + i], old, i) {
+    let row = board.states();
+    for i in 0..board.leaves {
+        if is_stuck_in(board.bases, board.moves, a * row, stills[a * 8 + i], old, i) {
             return true;
         }
     }
@@ -99,39 +85,29 @@ fn carry(old: &[u64], moves: &[u16], at: usize, still: u8, new: &mut [u64]) -> u
 // The begin of the layer behind a centre action, at the front of `new`, as in `layer::begin_layer`: all prices are copied at once, and only the leaves
 // that it moves pass. The key there: it rises from `low`, the key with the prices of `old`, with the least prices of the leaves.
 fn begin_moved(
-    leaves: usize,
-    actions: usize,
-    bases: &[usize],
-    moves: &[u16],
-    costs: &[u16],
-    kinds: &[u8],
-    factors: [u8; 32],
-    conditions: &[u8],
+    board: &Board<'_>,
     stills: &[u8],
     action: usize,
     old: &[u64],
     low: u64,
     new: &mut [u64],
 ) -> u64
-    requires { Sound (board_of leaves actions bases.now moves.now costs.now kinds.now factors conditions.now)
-        × Stills leaves actions bases.now moves.now stills.now
-        × (action < actions) × (get_or bases.now leaves 0 ≤ length old.now) × (get_or bases.now leaves 0 ≤ length new.old) }
-    ensures { (new.new ≡ begin_on (board_of leaves actions bases.now moves.now costs.now kinds.now
-        factors conditions.now) action old.now ++ drop (get_or bases.now leaves 0) new.old)
-        × Risen (leasts bases.now old.now) (leasts bases.now new.new) leaves low result }
+    requires { Stills board.now.leaves board.now.actions board.now.bases.now board.now.moves.now stills.now
+        × (action < board.now.actions) × (row_on (board_in board.now) ≤ length old.now) × (row_on (board_in board.now) ≤ length new.old) }
+    ensures { (new.new ≡ begin_on (board_in board.now) action old.now ++ drop (row_on (board_in board.now)) new.old)
+        × Risen (leasts board.now.bases.now old.now) (leasts board.now.bases.now new.new) board.now.leaves low result }
 {
-    let row = bases[leaves];
+    let row = board.states();
     copy_words(old, new, row);
     let mut key = low;
-    for i in 0..leaves {
-        let from = bases[i];
-        let to = bases[i + 1];
+    for i in 0..board.leaves {
+        let states = board.leaf(i);
         let rise = carry(
             &old[from..to],
-            moves,
+            board.moves,
             action * row + from,
             stills[action * 8 + i],
-            &mut new[from..to],
+            &mut new[states],
         );
         key = add_price(key, rise);
     }
@@ -141,14 +117,7 @@ fn begin_moved(
 // The begin of the layer behind centre action a, at the front of `next`, with its key and signature. Where the action moves no leaf state it is the
 // old layer, and nothing is written; `low` is the key that this would have, `sign` its signature.
 pub fn begin_of(
-    leaves: usize,
-    actions: usize,
-    bases: &[usize],
-    moves: &[u16],
-    costs: &[u16],
-    kinds: &[u8],
-    factors: [u8; 32],
-    conditions: &[u8],
+    board: &Board<'_>,
     still: &[u8],
     stills: &[u8],
     a: usize,
@@ -157,26 +126,22 @@ pub fn begin_of(
     sign: u64,
     next: &mut [u64],
 ) -> Begun
-    requires sound { Sound (board_of leaves actions bases.now moves.now costs.now kinds.now factors conditions.now) }
-    requires still { Still leaves actions bases.now moves.now still.now × Stills leaves actions bases.now moves.now stills.now }
-    requires a_lt_actions { (a < actions) × (get_or bases.now leaves 0 ≤ length old.now) × (get_or bases.now leaves 0 ≤ length next.old) }
-    requires sign_value { sign ≡ sign_of (take (get_or bases.now leaves 0) old.now) }
-    ensures { (begun_words (get_or still.now a 0) (get_or bases.now leaves 0) old.now next.new
-        ≡ begin_on (board_of leaves actions bases.now moves.now costs.now kinds.now
-        factors conditions.now) a old.now ++ drop (get_or bases.now leaves 0) next.old)
-        × Risen (leasts bases.now old.now) (leasts bases.now
-        (begun_words (get_or still.now a 0) (get_or bases.now leaves 0) old.now next.new)) leaves low result.key
-        × (result.sign ≡ sign_of (take (get_or bases.now leaves 0)
-        (begun_words (get_or still.now a 0) (get_or bases.now leaves 0) old.now next.new)))
+    requires still { Still board.now.leaves board.now.actions board.now.bases.now board.now.moves.now still.now × Stills board.now.leaves board.now.actions board.now.bases.now board.now.moves.now stills.now }
+    requires a_lt_actions { (a < board.now.actions) × (row_on (board_in board.now) ≤ length old.now) × (row_on (board_in board.now) ≤ length next.old) }
+    requires sign_value { sign ≡ sign_of (take (row_on (board_in board.now)) old.now) }
+    ensures { (begun_words (get_or still.now a 0) (row_on (board_in board.now)) old.now next.new
+        ≡ begin_on (board_in board.now) a old.now ++ drop (row_on (board_in board.now)) next.old)
+        × Risen (leasts board.now.bases.now old.now) (leasts board.now.bases.now
+        (begun_words (get_or still.now a 0) (row_on (board_in board.now)) old.now next.new)) board.now.leaves low result.key
+        × (result.sign ≡ sign_of (take (row_on (board_in board.now))
+        (begun_words (get_or still.now a 0) (row_on (board_in board.now)) old.now next.new)))
         × ((get_or still.now a 0 ≡ 0 → ⊥) → next.new ≡ next.old) }
 {
-    let states = bases[leaves];
+    let states = board.states();
     if still[a] != 0 {
         return Begun { key: low, sign };
     }
-    let key = begin_moved(
-        leaves, actions, bases, moves, costs, kinds, factors, conditions, stills, a, old, low, next,
-    );
+    let key = begin_moved(board, stills, a, old, low, next);
     let made = sign_of(&next[..states]);
     Begun { key, sign: made }
 }

@@ -2,9 +2,27 @@
 #![tactic(auto)]
 
 ghost use Rattle.std.specs.Prelude.{◌≡◌, ℕ, ◌+◌, ◌*◌, ◌<◌, ◌≤◌, length, get_or, set};
-ghost use Rattle.layer.specs.Board.{Sound};
-ghost use Rattle.layer.specs.Lent.{Front, board_of};
-ghost use Rattle.edges.specs.Edges.{those, of_leaf, edges_in, EdgesTo, Edges, Wrote};
+ghost use Rattle.layer.specs.Board.{base_on, row_on, states_on};
+ghost use Rattle.layer.specs.Held.{board_in};
+ghost use Rattle.layer.specs.Lent.{Front};
+ghost use Rattle.edges.specs.Edges.{edges_at, those, of_leaf, edges_in, EdgesTo, Edges, Wrote};
+
+use layer::Board;
+
+mod held;
+
+pub use held::EdgeTable;
+
+impl<'a> EdgeTable<'a> {
+    // The edges of state s.
+    pub fn of(&self, s: usize) -> &'a [u8]
+        requires starts { get_or self.now.ends.now s 0 ≤ get_or self.now.ends.now (s + 1) 0 }
+        requires stops { (s + 1 < length self.now.ends.now) × (get_or self.now.ends.now (s + 1) 0 ≤ length self.now.list.now) }
+        ensures { result.now ≡ edges_at self.now.list.now self.now.ends.now s }
+    {
+        &self.list[self.ends[s]..self.ends[s + 1]]
+    }
+}
 
 // The leaf actions of the leaf behind i leaves, at the front of `acts`. How many there are.
 fn actions_of(kinds: &[u8], actions: usize, i: usize, acts: &mut [u8]) -> usize
@@ -53,96 +71,41 @@ fn fill_state(moves: &[u16], row: usize, own: &[u8], s: usize, edges: &mut [u8],
 }
 
 // The edges of the states of the leaf behind i leaves, whose actions are `own`, stand in the table.
-fn fill_states(
-    leaves: usize,
-    actions: usize,
-    bases: &[usize],
-    moves: &[u16],
-    costs: &[u16],
-    kinds: &[u8],
-    factors: [u8; 32],
-    conditions: &[u8],
-    i: usize,
-    own: &[u8],
-    edges: &mut [u8],
-    ends: &mut [usize],
-)
-    requires { Sound (board_of leaves actions bases.now moves.now costs.now kinds.now factors conditions.now) × (i < leaves)
-        × EdgesTo (board_of leaves actions bases.now moves.now costs.now kinds.now factors conditions.now)
-        (get_or bases.now i 0) edges.old ends.old × (own.now ≡ those (of_leaf kinds.now i) actions) }
-    ensures { EdgesTo (board_of leaves actions bases.now moves.now costs.now kinds.now
-        factors conditions.now) (get_or bases.now (i + 1) 0) edges.new ends.new }
+fn fill_states(board: &Board<'_>, i: usize, own: &[u8], edges: &mut [u8], ends: &mut [usize])
+    requires { (i < board.now.leaves)
+        × EdgesTo (board_in board.now)
+        (base_on (board_in board.now) i) edges.old ends.old × (own.now ≡ those (of_leaf board.now.kinds.now i) board.now.actions) }
+    ensures { EdgesTo (board_in board.now) (base_on (board_in board.now) (i + 1)) edges.new ends.new }
 {
-    let row = bases[leaves];
-    let from = bases[i];
-    let to = bases[i + 1];
+    let row = board.states();
+    let from = board.bases[i];
+    let to = board.bases[i + 1];
     for s in from..to {
-        fill_state(moves, row, own, s, edges, ends);
+        fill_state(board.moves, row, own, s, edges, ends);
     }
 }
 
 // The edges of the states of the leaf behind i leaves stand in the table. Its actions are listed once, so that no state looks at all actions.
-fn fill_leaf(
-    leaves: usize,
-    actions: usize,
-    bases: &[usize],
-    moves: &[u16],
-    costs: &[u16],
-    kinds: &[u8],
-    factors: [u8; 32],
-    conditions: &[u8],
-    i: usize,
-    edges: &mut [u8],
-    ends: &mut [usize],
-)
-    requires { Sound (board_of leaves actions bases.now moves.now costs.now kinds.now factors conditions.now) × (i < leaves)
-        × EdgesTo (board_of leaves actions bases.now moves.now costs.now kinds.now factors conditions.now)
-        (get_or bases.now i 0) edges.old ends.old }
-    ensures { EdgesTo (board_of leaves actions bases.now moves.now costs.now kinds.now
-        factors conditions.now) (get_or bases.now (i + 1) 0) edges.new ends.new }
+fn fill_leaf(board: &Board<'_>, i: usize, edges: &mut [u8], ends: &mut [usize])
+    requires { (i < board.now.leaves)
+        × EdgesTo (board_in board.now)
+        (base_on (board_in board.now) i) edges.old ends.old }
+    ensures { EdgesTo (board_in board.now) (base_on (board_in board.now) (i + 1)) edges.new ends.new }
 {
     let mut own = [0u8; 256];
-    let count = actions_of(kinds, actions, i, &mut own);
-    fill_states(
-        leaves,
-        actions,
-        bases,
-        moves,
-        costs,
-        kinds,
-        factors,
-        conditions,
-        i,
-        &own[..count],
-        edges,
-        ends,
-    );
+    let count = actions_of(board.kinds, board.actions, i, &mut own);
+    fill_states(board, i, &own[..count], edges, ends);
 }
 
 // The table of the edges of all leaf states. The edges of state s stand from `ends[s]` to `ends[s + 1]`. Where the first begin, and the words of both slices
 // that stand for no state, are left to the program; the lengths stay.
-pub fn fill_edges(
-    leaves: usize,
-    actions: usize,
-    bases: &[usize],
-    moves: &[u16],
-    costs: &[u16],
-    kinds: &[u8],
-    factors: [u8; 32],
-    conditions: &[u8],
-    edges: &mut [u8],
-    ends: &mut [usize],
-)
-    requires { Sound (board_of leaves actions bases.now moves.now costs.now kinds.now factors conditions.now)
-        × (get_or bases.now leaves 0 * actions ≤ length edges.old) × (get_or bases.now leaves 0 < length ends.old) }
-    ensures filled { Edges (board_of leaves actions bases.now moves.now costs.now kinds.now
-        factors conditions.now) edges.new ends.new }
+pub fn fill_edges(board: &Board<'_>, edges: &mut [u8], ends: &mut [usize])
+    requires { (row_on (board_in board.now) * board.now.actions ≤ length edges.old) × (row_on (board_in board.now) < length ends.old) }
+    ensures filled { Edges (board_in board.now) edges.new ends.new }
     ensures lengths { (length edges.new ≡ length edges.old) × (length ends.new ≡ length ends.old) }
 {
     ends[0] = 0;
-    for i in 0..leaves {
-        fill_leaf(
-            leaves, actions, bases, moves, costs, kinds, factors, conditions, i, edges, ends,
-        );
+    for i in 0..board.leaves {
+        fill_leaf(board, i, edges, ends);
     }
 }

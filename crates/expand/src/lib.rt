@@ -2,9 +2,9 @@
 #![tactic(auto)]
 
 ghost use Rattle.std.specs.Prelude.{◌≡◌, true, ◌+◌, ◌*◌, ◌≤◌, ◌<◌, length, get_or, take};
-ghost use Rattle.layer.specs.Board.{Sound, met_on};
+ghost use Rattle.layer.specs.Board.{base_on, row_on, states_on, met_on};
 ghost use Rattle.layer.specs.First.{Firsts};
-ghost use Rattle.layer.specs.Lent.{board_of};
+ghost use Rattle.layer.specs.Held.{board_in};
 ghost use Rattle.mets.specs.Known.{Known};
 ghost use Rattle.edges.specs.Edges.{Edges};
 ghost use Rattle.rows.specs.Reach.{Reaches};
@@ -29,19 +29,11 @@ use words::copy_words;
 // Action a, whose centre conditions hold, at node u, whose parts, key, signature and list of reached states are given: a centre action has its layer's begin
 // offered. No leaf's least price falls over it, so nothing is made where the key and the action's cost are not below best, nor where it does not apply.
 fn turn(
-    leaves: usize,
-    actions: usize,
-    bases: &[usize],
-    moves: &[u16],
-    costs: &[u16],
-    kinds: &[u8],
-    factors: [u8; 32],
-    conditions: &[u8],
+    board: &Board<'_>,
     still: &[u8],
     stills: &[u8],
     firsts: &[u8],
-    edges: &[u8],
-    ends: &[usize],
+    edges: &EdgeTable<'_>,
     effects: &[u8],
     goals: &[u16],
     goal: [u8; 32],
@@ -61,64 +53,47 @@ fn turn(
     room: &mut [u16],
     run: Run,
 ) -> Turned
-    requires sound { Sound (board_of leaves actions bases.now moves.now costs.now kinds.now factors conditions.now) }
-    requires still { Still leaves actions bases.now moves.now still.now
-        × Firsts (board_of leaves actions bases.now moves.now costs.now kinds.now factors conditions.now) firsts.now
-        × Edges (board_of leaves actions bases.now moves.now costs.now kinds.now factors conditions.now) edges.now ends.now
-        × Known (board_of leaves actions bases.now moves.now costs.now kinds.now factors conditions.now) known.old
-        × (met_on (board_of leaves actions bases.now moves.now costs.now kinds.now factors conditions.now) spot a ≡ true)
-        × Stills leaves actions bases.now moves.now stills.now }
-    requires effects_len { (length effects.now ≡ 8192) × (length goals.now ≡ 1024) × (length old.now ≡ 1024) × (length next.old ≡ 1024) × (u < run.count) × (a < actions)
-        × (128 ≤ get_or bases.now leaves 0 → Reaches (get_or bases.now leaves 0) old.now list.now) × (5120 ≤ length room.old) }
-    requires sign_value { sign ≡ sign_of (take (get_or bases.now leaves 0) old.now) }
-    requires room { Room (get_or bases.now leaves 0) nodes table.old scan.old run }
-    ensures moved { Moved (board_of leaves actions bases.now moves.now costs.now kinds.now factors
-        conditions.now) effects.now goals.now goal nodes spot paid old.now key u a
+    requires still { Still board.now.leaves board.now.actions board.now.bases.now board.now.moves.now still.now
+        × Firsts (board_in board.now) firsts.now
+        × Edges (board_in board.now) edges.now.list.now edges.now.ends.now
+        × Known (board_in board.now) known.old
+        × (met_on (board_in board.now) spot a ≡ true)
+        × Stills board.now.leaves board.now.actions board.now.bases.now board.now.moves.now stills.now }
+    requires effects_len { (length effects.now ≡ 8192) × (length goals.now ≡ 1024) × (length old.now ≡ 1024) × (length next.old ≡ 1024) × (u < run.count) × (a < board.now.actions)
+        × (128 ≤ row_on (board_in board.now) → Reaches (row_on (board_in board.now)) old.now list.now) × (5120 ≤ length room.old) }
+    requires sign_value { sign ≡ sign_of (take (row_on (board_in board.now)) old.now) }
+    requires room { Room (row_on (board_in board.now)) nodes table.old scan.old run }
+    ensures moved { Moved (board_in board.now) effects.now goals.now goal nodes spot paid old.now key u a
         table.old scan.old run table.new scan.new result }
-    ensures known { Known (board_of leaves actions bases.now moves.now costs.now kinds.now factors
-        conditions.now) known.new }
+    ensures known { Known (board_in board.now) known.new }
 {
-    if kinds[a] != 0 {
+    if board.kinds[a] != 0 {
         return Turned { full: false, run };
     }
-    let cost = costs[a] as u64;
+    let cost = board.costs[a] as u64;
     let low = add_price(key, cost);
     if low >= run.best_cost {
         return Turned { full: false, run };
     }
-    if is_stuck(
-        leaves, actions, bases, moves, costs, kinds, factors, conditions, still, stills, old, a,
-    ) {
+    if is_stuck(board, still, stills, old, a) {
         return Turned { full: false, run };
     }
-    let behind = spot.after(factors, pairs_of(effects, a));
+    let behind = spot.after(board.factors, pairs_of(effects, a));
     let spent = add_price(paid, cost);
-    let begun = begin_of(
-        leaves, actions, bases, moves, costs, kinds, factors, conditions, still, stills, a, old,
-        low, sign, next,
-    );
+    let begun = begin_of(board, still, stills, a, old, low, sign, next);
     offer(
-        leaves, actions, bases, moves, costs, kinds, factors, conditions, firsts, edges, ends,
-        goals, goal, nodes, behind, spent, u, a, begun.key, begun.sign, still[a], old, next, table,
-        scan, known, list, room, run,
+        board, firsts, edges, goals, goal, nodes, behind, spent, u, a, begun.key, begun.sign,
+        still[a], old, next, table, scan, known, list, room, run,
     )
 }
 
 // All actions of node u that need a turn, which `mets` lists by rising number; the node's parts, key, signature and list of reached states are given.
 fn turns(
-    leaves: usize,
-    actions: usize,
-    bases: &[usize],
-    moves: &[u16],
-    costs: &[u16],
-    kinds: &[u8],
-    factors: [u8; 32],
-    conditions: &[u8],
+    board: &Board<'_>,
     still: &[u8],
     stills: &[u8],
     firsts: &[u8],
-    edges: &[u8],
-    ends: &[usize],
+    edges: &EdgeTable<'_>,
     effects: &[u8],
     goals: &[u16],
     goal: [u8; 32],
@@ -138,34 +113,29 @@ fn turns(
     room: &mut [u16],
     run: Run,
 ) -> Turned
-    requires sound { Sound (board_of leaves actions bases.now moves.now costs.now kinds.now factors conditions.now) }
-    requires still { Still leaves actions bases.now moves.now still.now
-        × Firsts (board_of leaves actions bases.now moves.now costs.now kinds.now factors conditions.now) firsts.now
-        × Edges (board_of leaves actions bases.now moves.now costs.now kinds.now factors conditions.now) edges.now ends.now
-        × Known (board_of leaves actions bases.now moves.now costs.now kinds.now factors conditions.now) known.old
-        × Useful (board_of leaves actions bases.now moves.now costs.now kinds.now factors conditions.now) effects.now spot table.old u old.now
+    requires still { Still board.now.leaves board.now.actions board.now.bases.now board.now.moves.now still.now
+        × Firsts (board_in board.now) firsts.now
+        × Edges (board_in board.now) edges.now.list.now edges.now.ends.now
+        × Known (board_in board.now) known.old
+        × Useful (board_in board.now) effects.now spot table.old u old.now
         (length mets.now) (λ j. get_or mets.now j 0)
-        × Stills leaves actions bases.now moves.now stills.now }
+        × Stills board.now.leaves board.now.actions board.now.bases.now board.now.moves.now stills.now }
     requires effects_len { (length effects.now ≡ 8192) × (length goals.now ≡ 1024) × (length old.now ≡ 1024) × (length next.old ≡ 1024) × (u < run.count)
-        × (128 ≤ get_or bases.now leaves 0 → Reaches (get_or bases.now leaves 0) old.now list.now) × (5120 ≤ length room.old) }
-    requires sign_value { (sign ≡ sign_of (take (get_or bases.now leaves 0) old.now))
-        × Has (node_in (get_or bases.now leaves 0) table.old u) spot paid (take (get_or bases.now leaves 0) old.now) }
-    requires room { Room (get_or bases.now leaves 0) nodes table.old scan.old run }
-    ensures grown { Grown (board_of leaves actions bases.now moves.now costs.now kinds.now factors
-        conditions.now) nodes run table.new scan.new result }
-    ensures expanded { Done (board_of leaves actions bases.now moves.now costs.now kinds.now factors
-        conditions.now) effects.now goals.now goal nodes u key table.old scan.old run
+        × (128 ≤ row_on (board_in board.now) → Reaches (row_on (board_in board.now)) old.now list.now) × (5120 ≤ length room.old) }
+    requires sign_value { (sign ≡ sign_of (take (row_on (board_in board.now)) old.now))
+        × Has (node_in (row_on (board_in board.now)) table.old u) spot paid (take (row_on (board_in board.now)) old.now) }
+    requires room { Room (row_on (board_in board.now)) nodes table.old scan.old run }
+    ensures grown { Grown (board_in board.now) nodes run table.new scan.new result }
+    ensures expanded { Done (board_in board.now) effects.now goals.now goal nodes u key table.old scan.old run
         table.new scan.new result }
-    ensures known { Known (board_of leaves actions bases.now moves.now costs.now kinds.now factors
-        conditions.now) known.new }
+    ensures known { Known (board_in board.now) known.new }
 {
     let mut going = run;
     for j in 0..mets.len() {
         let a = mets[j] as usize;
         let r = turn(
-            leaves, actions, bases, moves, costs, kinds, factors, conditions, still, stills,
-            firsts, edges, ends, effects, goals, goal, nodes, spot, paid, key, sign, old, u, a,
-            next, table, scan, known, list, room, going,
+            board, still, stills, firsts, edges, effects, goals, goal, nodes, spot, paid,
+            key, sign, old, u, a, next, table, scan, known, list, room, going,
         );
         if r.full {
             return r;
@@ -181,14 +151,7 @@ fn turns(
 // The actions of node u that need a turn, by rising number, at the front of `mets`: those whose centre conditions hold, but for detours behind the hop that
 // made the node, if it has its parent's prices, which `old` begins with. How many.
 fn list_turns(
-    leaves: usize,
-    actions: usize,
-    bases: &[usize],
-    moves: &[u16],
-    costs: &[u16],
-    kinds: &[u8],
-    factors: [u8; 32],
-    conditions: &[u8],
+    board: &Board<'_>,
     effects: &[u8],
     firsts: &[u8],
     hops: &[u16],
@@ -200,55 +163,52 @@ fn list_turns(
     known: &mut [u8],
     mets: &mut [u8],
 ) -> usize
-    requires sound { Sound (board_of leaves actions bases.now moves.now costs.now kinds.now factors conditions.now) }
-    requires firsts { Firsts (board_of leaves actions bases.now moves.now costs.now kinds.now factors conditions.now) firsts.now
-        × Known (board_of leaves actions bases.now moves.now costs.now kinds.now factors conditions.now) known.old
-        × Hops actions (board_of leaves actions bases.now moves.now costs.now kinds.now factors conditions.now) effects.now hops.now
-        × Ways actions hops.now ways.now }
+    requires firsts { Firsts (board_in board.now) firsts.now
+        × Known (board_in board.now) known.old
+        × Hops board.now.actions (board_in board.now) effects.now hops.now
+        × Ways board.now.actions hops.now ways.now }
     requires mets_len { (length mets.old ≡ 256) × (length old.now ≡ 1024) × (u < 4096)
-        × (u * (40 + get_or bases.now leaves 0) + (40 + get_or bases.now leaves 0) ≤ length table.now) }
-    ensures { Known (board_of leaves actions bases.now moves.now costs.now kinds.now factors
-        conditions.now) known.new × (result ≤ 256)
-        × Useful (board_of leaves actions bases.now moves.now costs.now kinds.now factors
-        conditions.now) effects.now spot table.now u old.now result (λ j. get_or mets.new j 0) }
+        × (u * (40 + row_on (board_in board.now)) + (40 + row_on (board_in board.now)) ≤ length table.now) }
+    ensures { Known (board_in board.now) known.new × (result ≤ 256)
+        × Useful (board_in board.now) effects.now spot table.now u old.now result (λ j. get_or mets.new j 0) }
 {
-    let states = bases[leaves];
+    let states = board.states();
     let many = list_mets(
-        actions,
+        board.actions,
         firsts,
-        factors,
-        conditions,
+        board.factors,
+        board.conditions,
         spot,
         class_of(spot),
         known,
         mets,
     );
-    let word = hop_behind(table, states, actions, hops, u, old);
+    let word = hop_behind(table, states, board.actions, hops, u, old);
     if word == 0 {
         return many;
     }
     let wide = 40 + states;
     let made_by = table[u * wide + 34] as usize;
-    drop_detours(hops, ways, costs, word, costs[made_by], mets, many)
+    drop_detours(
+        hops,
+        ways,
+        board.costs,
+        word,
+        board.costs[made_by],
+        mets,
+        many,
+    )
 }
 
 // All actions of node u, whose key is given, by rising number; `mets`, `old`, `next` and `list` are lent to work in, and `room` has recent numbers behind
 // 1,024 words to work in (`offers::offer`). The words of these five afterwards are left to the program, their lengths stay; those of `known` too, of which
 // `Known` holds.
 pub fn expand(
-    leaves: usize,
-    actions: usize,
-    bases: &[usize],
-    moves: &[u16],
-    costs: &[u16],
-    kinds: &[u8],
-    factors: [u8; 32],
-    conditions: &[u8],
+    board: &Board<'_>,
     still: &[u8],
     stills: &[u8],
     firsts: &[u8],
-    edges: &[u8],
-    ends: &[usize],
+    edges: &EdgeTable<'_>,
     hops: &[u16],
     ways: &[u8],
     effects: &[u8],
@@ -267,28 +227,24 @@ pub fn expand(
     room: &mut [u16],
     run: Run,
 ) -> Turned
-    requires sound { Sound (board_of leaves actions bases.now moves.now costs.now kinds.now factors conditions.now) }
-    requires still { Still leaves actions bases.now moves.now still.now
-        × Firsts (board_of leaves actions bases.now moves.now costs.now kinds.now factors conditions.now) firsts.now
-        × Edges (board_of leaves actions bases.now moves.now costs.now kinds.now factors conditions.now) edges.now ends.now
-        × Known (board_of leaves actions bases.now moves.now costs.now kinds.now factors conditions.now) known.old
-        × (length mets.old ≡ 256) × Stills leaves actions bases.now moves.now stills.now
-        × Hops actions (board_of leaves actions bases.now moves.now costs.now kinds.now factors conditions.now) effects.now hops.now
-        × Ways actions hops.now ways.now }
+    requires still { Still board.now.leaves board.now.actions board.now.bases.now board.now.moves.now still.now
+        × Firsts (board_in board.now) firsts.now
+        × Edges (board_in board.now) edges.now.list.now edges.now.ends.now
+        × Known (board_in board.now) known.old
+        × (length mets.old ≡ 256) × Stills board.now.leaves board.now.actions board.now.bases.now board.now.moves.now stills.now
+        × Hops board.now.actions (board_in board.now) effects.now hops.now
+        × Ways board.now.actions hops.now ways.now }
     requires effects_len { (length effects.now ≡ 8192) × (length goals.now ≡ 1024) × (u < run.count) }
-    requires room { Room (get_or bases.now leaves 0) nodes table.old scan.old run }
+    requires room { Room (row_on (board_in board.now)) nodes table.old scan.old run }
     requires len { (length old.old ≡ 1024) × (length next.old ≡ 1024) × (1024 ≤ length list.old) × (5120 ≤ length room.old) }
-    ensures grown { Grown (board_of leaves actions bases.now moves.now costs.now kinds.now factors
-        conditions.now) nodes run table.new scan.new result }
-    ensures expanded { Done (board_of leaves actions bases.now moves.now costs.now kinds.now factors
-        conditions.now) effects.now goals.now goal nodes u key table.old scan.old run
+    ensures grown { Grown (board_in board.now) nodes run table.new scan.new result }
+    ensures expanded { Done (board_in board.now) effects.now goals.now goal nodes u key table.old scan.old run
         table.new scan.new result }
-    ensures known { Known (board_of leaves actions bases.now moves.now costs.now kinds.now factors
-        conditions.now) known.new }
+    ensures known { Known (board_in board.now) known.new }
     ensures lengths { (length mets.new ≡ length mets.old) × (length old.new ≡ length old.old) × (length next.new ≡ length next.old)
         × (length list.new ≡ length list.old) × (length room.new ≡ length room.old) }
 {
-    let states = bases[leaves];
+    let states = board.states();
     let wide = 40 + states;
     let at = u * wide;
     let end = at + wide;
@@ -297,14 +253,7 @@ pub fn expand(
     let sign = table[at + 39];
     copy_words(&table[at + 40..end], old, states);
     let many = list_turns(
-        leaves,
-        actions,
-        bases,
-        moves,
-        costs,
-        kinds,
-        factors,
-        conditions,
+        board,
         effects,
         firsts,
         hops,
@@ -318,19 +267,11 @@ pub fn expand(
     );
     let reached = list_reached(states, &old[..], list);
     turns(
-        leaves,
-        actions,
-        bases,
-        moves,
-        costs,
-        kinds,
-        factors,
-        conditions,
+        board,
         still,
         stills,
         firsts,
         edges,
-        ends,
         effects,
         goals,
         goal,

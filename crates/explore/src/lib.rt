@@ -5,9 +5,9 @@ ghost use Rattle.std.specs.Prelude.{◌≡◌, ℕ, ◌+◌, ◌*◌, ◌≤◌,
 ghost use Rattle.task.specs.declared.Task.{Task};
 ghost use Rattle.task.specs.Factors.{all_states};
 ghost use Rattle.task.specs.Valid.{Valid};
-ghost use Rattle.layer.specs.Board.{Sound};
+ghost use Rattle.layer.specs.Board.{base_on, row_on, states_on};
 ghost use Rattle.layer.specs.First.{Firsts};
-ghost use Rattle.layer.specs.Lent.{board_of};
+ghost use Rattle.layer.specs.Held.{board_in};
 ghost use Rattle.mets.specs.Known.{Known};
 ghost use Rattle.edges.specs.Edges.{Edges};
 ghost use Rattle.tables.specs.Tables.{Tabled, Goals};
@@ -54,30 +54,25 @@ pub enum Round {
 
 // The block words are set to the mark, and node 0 is made and kept: the search at its start.
 fn start(
-    task: Task,
-    bases: &[usize],
-    moves: &[u16],
-    costs: &[u16],
-    kinds: &[u8],
-    starts: &[usize],
+    tables: &TaskTables<'_>,
     goals: &[u16],
     table: &mut [u64],
     scan: &mut [u64],
 ) -> Run
-    requires valid { Valid task }
-    requires tabled { Tabled task bases.now moves.now costs.now kinds.now starts.now × Goals task goals.now }
-    requires task_in_bounds { (40 + all_states task ≤ length table.old) × (length scan.old ≡ 17696)
+    requires valid { Valid tables.now.task.now }
+    requires tabled { Goals tables.now.task.now goals.now }
+    requires task_in_bounds { (40 + all_states tables.now.task.now ≤ length table.old) × (length scan.old ≡ 17696)
         × ((h : ℕ) → h < 1025 → get_or scan.old (6144 + h) 0 ≡ 0) }
-    ensures { (search_of (all_states task) table.new scan.new result ≡ start task)
-        × Cached task (all_states task) table.new scan.new result
-        × Chained (all_states task) table.new scan.new result.count }
+    ensures { (search_of (all_states tables.now.task.now) table.new scan.new result ≡ start tables.now.task.now)
+        × Cached tables.now.task.now (all_states tables.now.task.now) table.new scan.new result
+        × Chained (all_states tables.now.task.now) table.new scan.new result.count }
 {
     fresh(scan);
-    let leaves = task.leaves as usize;
-    let actions = task.actions as usize;
-    let factors = task.factors;
-    let initial = task.initial;
-    let goal = task.goal;
+    let leaves = tables.task.leaves as usize;
+    let actions = tables.task.actions as usize;
+    let factors = tables.task.factors;
+    let initial = tables.task.initial;
+    let goal = tables.task.goal;
     let spot = Centre::blank().after(factors, initial);
     let mut prices = [MARK; 1024];
     first_layer(
@@ -88,7 +83,7 @@ fn start(
         costs,
         kinds,
         factors,
-        &task.conditions,
+        &tables.task.conditions,
         spot,
         starts,
         &mut prices,
@@ -123,20 +118,12 @@ fn start(
 
 // One round: the least key is chosen, and where the budget is not used up its node is expanded, with `mets`, `old`, `next` and `list` to work in and `room`,
 // whose recent numbers stay from round to round.
-fn next_round<'a>(
-    leaves: usize,
-    actions: usize,
-    bases: &[usize],
-    moves: &[u16],
-    costs: &[u16],
-    kinds: &[u8],
-    factors: [u8; 32],
-    conditions: &'a [u8],
+fn next_round(
+    board: &Board<'_>,
     still: &[u8],
     stills: &[u8],
     firsts: &[u8],
-    edges: &[u8],
-    ends: &[usize],
+    edges: &EdgeTable<'_>,
     hops: &[u16],
     ways: &[u8],
     effects: &'a [u8],
@@ -154,23 +141,20 @@ fn next_round<'a>(
     room: &mut [u16],
     run: Run,
 ) -> Round
-    requires sound { Sound (board_of leaves actions bases.now moves.now costs.now kinds.now factors conditions.now) }
-    requires still { Still leaves actions bases.now moves.now still.now
-        × Firsts (board_of leaves actions bases.now moves.now costs.now kinds.now factors conditions.now) firsts.now
-        × Edges (board_of leaves actions bases.now moves.now costs.now kinds.now factors conditions.now) edges.now ends.now
-        × Known (board_of leaves actions bases.now moves.now costs.now kinds.now factors conditions.now) known.old
-        × (length mets.old ≡ 256) × Stills leaves actions bases.now moves.now stills.now
-        × Hops actions (board_of leaves actions bases.now moves.now costs.now kinds.now factors conditions.now) effects.now hops.now
-        × Ways actions hops.now ways.now }
+    requires still { Still board.now.leaves board.now.actions board.now.bases.now board.now.moves.now still.now
+        × Firsts (board_in board.now) firsts.now
+        × Edges (board_in board.now) edges.now.list.now edges.now.ends.now
+        × Known (board_in board.now) known.old
+        × (length mets.old ≡ 256) × Stills board.now.leaves board.now.actions board.now.bases.now board.now.moves.now stills.now
+        × Hops board.now.actions (board_in board.now) effects.now hops.now
+        × Ways board.now.actions hops.now ways.now }
     requires effects_len { (length effects.now ≡ 8192) × (length goals.now ≡ 1024) × (run.begun ≤ 4096) }
-    requires room { Room (get_or bases.now leaves 0) nodes table.old scan.old run }
+    requires room { Room (row_on (board_in board.now)) nodes table.old scan.old run }
     requires len { (length old.old ≡ 1024) × (length next.old ≡ 1024) × (1024 ≤ length list.old) × (5120 ≤ length room.old) }
-    ensures rounded { (t : Task) → Suits t (board_of leaves actions bases.now moves.now costs.now kinds.now factors
-        conditions.now) effects.now goals.now goal
+    ensures rounded { (t : Task) → Suits t (board_in board.now) effects.now goals.now goal
         → Ahead t nodes budget (all_states t) table.old scan.old run
         → Rounded t nodes budget run.begun (all_states t) table.new scan.new result }
-    ensures known { Known (board_of leaves actions bases.now moves.now costs.now kinds.now factors
-        conditions.now) known.new }
+    ensures known { Known (board_in board.now) known.new }
 {
     let chosen = choose(scan, run.count, run.best_cost);
     if chosen == 0 {
@@ -196,9 +180,8 @@ fn next_round<'a>(
         best_cost: run.best_cost,
     };
     let r = expand(
-        leaves, actions, bases, moves, costs, kinds, factors, conditions, still, stills, firsts,
-        edges, ends, hops, ways, effects, goals, goal, nodes, u, key, table, scan, known, mets,
-        old, next, list, room, begun,
+        board, still, stills, firsts, edges, hops, ways, effects, goals, goal, nodes, u, key,
+        table, scan, known, mets, old, next, list, room, begun,
     );
     let after = r.run;
     if r.full {
@@ -213,37 +196,31 @@ fn next_round<'a>(
 // The whole exploration of a task that the reader accepted. The table and the scan words hold the search it ends with; what else stands in them is left to the
 // program, their lengths stay.
 pub fn explore(
-    task: Task,
-    bases: &[usize],
-    moves: &[u16],
-    costs: &[u16],
-    kinds: &[u8],
-    starts: &[usize],
+    tables: &TaskTables<'_>,
     goals: &[u16],
     nodes: usize,
     budget: u32,
-    edges: &[u8],
-    ends: &[usize],
+    edges: &EdgeTable<'_>,
     table: &mut [u64],
     scan: &mut [u64],
 ) -> Stop
-    requires valid { Valid task }
-    requires tabled { Tabled task bases.now moves.now costs.now kinds.now starts.now × Goals task goals.now }
-    requires edges { Edges (board_of task.leaves task.actions bases.now moves.now costs.now kinds.now task.factors task.conditions)
-        edges.now ends.now }
-    requires le_nodes { (1 ≤ nodes) × (nodes ≤ 4096) × ((nodes + 1) * (40 + all_states task) ≤ length table.old) × (length scan.old ≡ 17696)
+    requires valid { Valid tables.now.task.now }
+    requires tabled { Goals tables.now.task.now goals.now }
+    requires edges { Edges (board_in tables.now.board)
+        edges.now.list.now edges.now.ends.now }
+    requires le_nodes { (1 ≤ nodes) × (nodes ≤ 4096) × ((nodes + 1) * (40 + all_states tables.now.task.now) ≤ length table.old) × (length scan.old ≡ 17696)
         × ((h : ℕ) → h < 1025 → get_or scan.old (6144 + h) 0 ≡ 0) }
-    ensures searched { (stopped_of (all_states task) table.new scan.new result ≡ explored task nodes budget)
-        × Cached task (all_states task) table.new scan.new result.run }
+    ensures searched { (stopped_of (all_states tables.now.task.now) table.new scan.new result ≡ explored tables.now.task.now nodes budget)
+        × Cached tables.now.task.now (all_states tables.now.task.now) table.new scan.new result.run }
     ensures lengths { (length table.new ≡ length table.old) × (length scan.new ≡ length scan.old) }
 {
-    let leaves = task.leaves as usize;
-    let actions = task.actions as usize;
-    let factors = task.factors;
-    let goal = task.goal;
+    let leaves = tables.task.leaves as usize;
+    let actions = tables.task.actions as usize;
+    let factors = tables.task.factors;
+    let goal = tables.task.goal;
     let stills = still_leaves(leaves, actions, bases, moves);
     let still = still_actions(leaves, actions, &stills);
-    let firsts = first_conditions(factors, &task.conditions, actions);
+    let firsts = first_conditions(factors, &tables.task.conditions, actions);
     let hops = list_hops(
         leaves,
         actions,
@@ -252,13 +229,13 @@ pub fn explore(
         costs,
         kinds,
         factors,
-        &task.conditions,
-        &task.effects,
+        &tables.task.conditions,
+        &tables.task.effects,
         &firsts,
         &still,
     );
     let ways = list_ways(actions, &hops);
-    let mut run = start(task, bases, moves, costs, kinds, starts, goals, table, scan);
+    let mut run = start(tables, goals, table, scan);
     let mut known = [0u8; 36864];
     let mut mets = [0u8; 256];
     let mut old = [MARK; 1024];
@@ -274,15 +251,14 @@ pub fn explore(
             costs,
             kinds,
             factors,
-            &task.conditions,
+            &tables.task.conditions,
             &still,
             &stills,
             &firsts,
             edges,
-            ends,
             &hops,
             &ways,
-            &task.effects,
+            &tables.task.effects,
             goals,
             goal,
             nodes,

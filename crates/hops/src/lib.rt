@@ -2,9 +2,9 @@
 #![tactic(auto)]
 
 ghost use Rattle.std.specs.Prelude.{◌≡◌, ℕ, ◌+◌, ◌*◌, ◌≤◌, ◌<◌, length, get_or};
-ghost use Rattle.layer.specs.Board.{Sound};
+ghost use Rattle.layer.specs.Board.{base_on, row_on, states_on};
 ghost use Rattle.layer.specs.First.{Firsts};
-ghost use Rattle.layer.specs.Lent.{board_of};
+ghost use Rattle.layer.specs.Held.{board_in};
 ghost use Rattle.stills.specs.Still.{Still};
 ghost use Rattle.hops.specs.Hops.{names_only, pair_word, hop_word, hops_by, ways_by};
 
@@ -45,27 +45,13 @@ fn pair_word(conditions: &[u8], effects: &[u8], a: usize, v: usize) -> u16
 }
 
 // Action a's word: 0, or that of a hop.
-fn hop_word(
-    leaves: usize,
-    actions: usize,
-    bases: &[usize],
-    moves: &[u16],
-    costs: &[u16],
-    kinds: &[u8],
-    factors: [u8; 32],
-    conditions: &[u8],
-    effects: &[u8],
-    firsts: &[u8],
-    still: &[u8],
-    a: usize,
-) -> u16
-    requires sound { Sound (board_of leaves actions bases.now moves.now costs.now kinds.now factors conditions.now)
-        × (length effects.now ≡ 8192) × (a < actions) }
-    requires still { Still leaves actions bases.now moves.now still.now
-        × Firsts (board_of leaves actions bases.now moves.now costs.now kinds.now factors conditions.now) firsts.now }
-    ensures { result ≡ hop_word kinds.now conditions.now effects.now firsts.now still.now a }
+fn hop_word(board: &Board<'_>, effects: &[u8], firsts: &[u8], still: &[u8], a: usize) -> u16
+    requires sound { (length effects.now ≡ 8192) × (a < board.now.actions) }
+    requires still { Still board.now.leaves board.now.actions board.now.bases.now board.now.moves.now still.now
+        × Firsts (board_in board.now) firsts.now }
+    ensures { result ≡ hop_word board.now.kinds.now board.now.conditions.now effects.now firsts.now still.now a }
 {
-    if kinds[a] != 0 {
+    if board.kinds[a] != 0 {
         return 0;
     }
     if still[a] == 0 {
@@ -75,34 +61,19 @@ fn hop_word(
     if v >= 32 {
         return 0;
     }
-    pair_word(conditions, effects, a, v)
+    pair_word(board.conditions, effects, a, v)
 }
 
 // The word of each action.
-pub fn list_hops<'a>(
-    leaves: usize,
-    actions: usize,
-    bases: &[usize],
-    moves: &[u16],
-    costs: &[u16],
-    kinds: &[u8],
-    factors: [u8; 32],
-    conditions: &'a [u8],
-    effects: &'a [u8],
-    firsts: &[u8],
-    still: &[u8],
-) -> [u16; 256]
-    requires sound { Sound (board_of leaves actions bases.now moves.now costs.now kinds.now factors conditions.now) × (length effects.now ≡ 8192) }
-    requires still { Still leaves actions bases.now moves.now still.now
-        × Firsts (board_of leaves actions bases.now moves.now costs.now kinds.now factors conditions.now) firsts.now }
-    ensures { result ≡ hops_by actions kinds.now conditions.now effects.now firsts.now still.now }
+pub fn list_hops(board: &Board<'_>, effects: &'a [u8], firsts: &[u8], still: &[u8]) -> [u16; 256]
+    requires sound { (length effects.now ≡ 8192) }
+    requires still { Still board.now.leaves board.now.actions board.now.bases.now board.now.moves.now still.now
+        × Firsts (board_in board.now) firsts.now }
+    ensures { result ≡ hops_by board.now.actions board.now.kinds.now board.now.conditions.now effects.now firsts.now still.now }
 {
     let mut hops = [0u16; 256];
-    for a in 0..actions {
-        let word = hop_word(
-            leaves, actions, bases, moves, costs, kinds, factors, conditions, effects, firsts,
-            still, a,
-        );
+    for a in 0..board.actions {
+        let word = hop_word(board, effects, firsts, still, a);
         hops[a] = word;
     }
     hops

@@ -2,9 +2,9 @@
 #![tactic(auto)]
 
 ghost use Rattle.std.specs.Prelude.{◌≡◌, false, ◌++◌, ◌+◌, ◌*◌, ◌≤◌, ◌<◌, length, get_or, take, drop};
-ghost use Rattle.layer.specs.Board.{Sound, settled_on};
+ghost use Rattle.layer.specs.Board.{base_on, row_on, states_on, settled_on};
 ghost use Rattle.layer.specs.First.{Firsts};
-ghost use Rattle.layer.specs.Lent.{board_of};
+ghost use Rattle.layer.specs.Held.{board_in};
 ghost use Rattle.mets.specs.Known.{Known};
 ghost use Rattle.edges.specs.Edges.{Edges};
 ghost use Rattle.rows.specs.Begun.{read_from, begun_words};
@@ -117,50 +117,33 @@ pub fn keep(
 
 // A layer's begin settles; `spot` is its centre state, of this class. Whether a leaf was swept: else all is as it was.
 fn settle_begin(
-    leaves: usize,
-    actions: usize,
-    bases: &[usize],
-    moves: &[u16],
-    costs: &[u16],
-    kinds: &[u8],
-    factors: [u8; 32],
-    conditions: &[u8],
+    board: &Board<'_>,
     firsts: &[u8],
-    edges: &[u8],
-    ends: &[usize],
+    edges: &EdgeTable<'_>,
     spot: Centre,
     class: usize,
     begin: &mut [u64],
     known: &mut [u8],
 ) -> bool
-    requires sound { Sound (board_of leaves actions bases.now moves.now costs.now kinds.now factors conditions.now) }
-    requires firsts { Firsts (board_of leaves actions bases.now moves.now costs.now kinds.now factors conditions.now) firsts.now
-        × Edges (board_of leaves actions bases.now moves.now costs.now kinds.now factors conditions.now) edges.now ends.now
-        × Known (board_of leaves actions bases.now moves.now costs.now kinds.now factors conditions.now) known.old
-        × (class < 4096) × (get_or bases.now leaves 0 ≤ length begin.old) }
-    ensures { (begin.new ≡ settled_on (board_of leaves actions bases.now moves.now costs.now kinds.now factors
-        conditions.now) spot begin.old ++ drop (get_or bases.now leaves 0) begin.old)
-        × Known (board_of leaves actions bases.now moves.now costs.now kinds.now factors
-        conditions.now) known.new
+    requires firsts { Firsts (board_in board.now) firsts.now
+        × Edges (board_in board.now) edges.now.list.now edges.now.ends.now
+        × Known (board_in board.now) known.old
+        × (class < 4096) × (row_on (board_in board.now) ≤ length begin.old) }
+    ensures { (begin.new ≡ settled_on (board_in board.now) spot begin.old ++ drop (row_on (board_in board.now)) begin.old)
+        × Known (board_in board.now) known.new
         × (result ≡ false → begin.new ≡ begin.old) }
 {
-    let slot = slot_for(actions, firsts, factors, conditions, spot, class, known);
-    let end = slot + 256;
-    settle_edges(
-        leaves,
-        actions,
-        bases,
-        moves,
-        costs,
-        kinds,
-        factors,
-        conditions,
-        &known[slot..end],
-        edges,
-        ends,
+    let slot = slot_for(
+        board.actions,
+        firsts,
+        board.factors,
+        board.conditions,
         spot,
-        begin,
-    )
+        class,
+        known,
+    );
+    let end = slot + 256;
+    settle_edges(board, &known[slot..end], edges, spot, begin)
 }
 
 // Where the prices of a layer's begin are read: in the layer before, where the action is still, else where they were made.
@@ -221,17 +204,9 @@ fn fill_begin(old: &[u64], begin: &mut [u64], still: u8, states: usize)
 // has the recent numbers behind its first 1,024 words. The words of `begin` and `room` afterwards are left to the program, their lengths stay; those of
 // `known` too, of which `Known` holds.
 pub fn offer(
-    leaves: usize,
-    actions: usize,
-    bases: &[usize],
-    moves: &[u16],
-    costs: &[u16],
-    kinds: &[u8],
-    factors: [u8; 32],
-    conditions: &[u8],
+    board: &Board<'_>,
     firsts: &[u8],
-    edges: &[u8],
-    ends: &[usize],
+    edges: &EdgeTable<'_>,
     goals: &[u16],
     goal: [u8; 32],
     nodes: usize,
@@ -251,24 +226,21 @@ pub fn offer(
     room: &mut [u16],
     run: Run,
 ) -> Turned
-    requires sound { Sound (board_of leaves actions bases.now moves.now costs.now kinds.now factors conditions.now) }
-    requires firsts { Firsts (board_of leaves actions bases.now moves.now costs.now kinds.now factors conditions.now) firsts.now
-        × Edges (board_of leaves actions bases.now moves.now costs.now kinds.now factors conditions.now) edges.now ends.now
-        × Known (board_of leaves actions bases.now moves.now costs.now kinds.now factors conditions.now) known.old }
-    requires cut { Cut leaves bases.now (length begin.old) × Cut leaves bases.now (length goals.now) }
-    requires sign_value { (sign ≡ sign_of (take (get_or bases.now leaves 0) (begun_words still (get_or bases.now leaves 0) old.now begin.old)))
-        × (get_or bases.now leaves 0 ≤ length old.now)
-        × (128 ≤ get_or bases.now leaves 0 → Reaches (get_or bases.now leaves 0) old.now list.now) × (5120 ≤ length room.old) }
-    requires room { Room (get_or bases.now leaves 0) nodes table.old scan.old run }
-    ensures offered { Offered (board_of leaves actions bases.now moves.now costs.now kinds.now factors
-        conditions.now) goals.now goal nodes table.old scan.old run spot paid
-        (begun_words still (get_or bases.now leaves 0) old.now begin.old) parent action key
+    requires firsts { Firsts (board_in board.now) firsts.now
+        × Edges (board_in board.now) edges.now.list.now edges.now.ends.now
+        × Known (board_in board.now) known.old }
+    requires cut { Cut board.now.leaves board.now.bases.now (length begin.old) × Cut board.now.leaves board.now.bases.now (length goals.now) }
+    requires sign_value { (sign ≡ sign_of (take (row_on (board_in board.now)) (begun_words still (row_on (board_in board.now)) old.now begin.old)))
+        × (row_on (board_in board.now) ≤ length old.now)
+        × (128 ≤ row_on (board_in board.now) → Reaches (row_on (board_in board.now)) old.now list.now) × (5120 ≤ length room.old) }
+    requires room { Room (row_on (board_in board.now)) nodes table.old scan.old run }
+    ensures offered { Offered (board_in board.now) goals.now goal nodes table.old scan.old run spot paid
+        (begun_words still (row_on (board_in board.now)) old.now begin.old) parent action key
         table.new scan.new result }
-    ensures known { Known (board_of leaves actions bases.now moves.now costs.now kinds.now factors
-        conditions.now) known.new }
+    ensures known { Known (board_in board.now) known.new }
     ensures lengths { (length begin.new ≡ length begin.old) × (length room.new ≡ length room.old) }
 {
-    let states = bases[leaves];
+    let states = board.states();
     let count = run.count;
     if key >= run.best_cost {
         return Turned { full: false, run };
@@ -298,15 +270,12 @@ pub fn offer(
         return Turned { full: true, run };
     }
     fill_begin(old, begin, still, states);
-    let swept = settle_begin(
-        leaves, actions, bases, moves, costs, kinds, factors, conditions, firsts, edges, ends,
-        spot, class, begin, known,
-    );
+    let swept = settle_begin(board, firsts, edges, spot, class, begin, known);
     let more = keep(
-        leaves,
-        bases,
+        board.leaves,
+        board.bases,
         goals,
-        factors,
+        board.factors,
         goal,
         spot,
         class,

@@ -5,8 +5,8 @@ ghost use Rattle.std.specs.Prelude.{◌≡◌, ℕ, ◌<◌, ◌≤◌, length, 
 ghost use Rattle.task.specs.Factors.{all_states};
 ghost use Rattle.task.specs.Valid.{Valid};
 ghost use Rattle.leaf.specs.Price.{mark};
-ghost use Rattle.layer.specs.Board.{Sound};
-ghost use Rattle.layer.specs.Lent.{board_of};
+ghost use Rattle.layer.specs.Board.{base_on, row_on, states_on};
+ghost use Rattle.layer.specs.Held.{board_in};
 ghost use Rattle.tables.specs.Tables.{Bases, Kinds, Tabled};
 ghost use Rattle.price.specs.Path.{first_layer, walk};
 ghost use Rattle.paths.specs.Paths.{walked, fits_by, Stepped};
@@ -46,37 +46,24 @@ pub fn path_fits(path: &[u8], kinds: &[u8], actions: usize) -> bool
 
 // One centre action of the walk: whether it applies, and where it does the centre state behind it, with the prices behind it at the front of `layer`.
 fn advance(
-    leaves: usize,
-    actions: usize,
-    bases: &[usize],
-    moves: &[u16],
-    costs: &[u16],
-    kinds: &[u8],
-    factors: [u8; 32],
-    conditions: &[u8],
+    board: &Board<'_>,
     effects: &[u8],
     spot: Centre,
     action: usize,
     layer: &mut [u64],
 ) -> Walked
-    requires { Sound (board_of leaves actions bases.now moves.now costs.now kinds.now factors conditions.now)
-        × (action < actions) × (length effects.now ≡ 8192) × (length layer.old ≡ 1024) }
+    requires { (action < board.now.actions) × (length effects.now ≡ 8192) × (length layer.old ≡ 1024) }
     ensures { Stepped
-        (board_of leaves actions bases.now moves.now costs.now kinds.now factors conditions.now)
+        (board_in board.now)
         effects.now spot action layer.old result layer.new }
 {
-    if !applies(
-        leaves, actions, bases, moves, costs, kinds, factors, conditions, spot, layer, action,
-    ) {
+    if !applies(board, spot, layer, action) {
         return Walked { ends: false, spot };
     }
     let mut next = [MARK; 1024];
-    let behind = spot.after(factors, pairs_of(effects, action));
-    next_layer(
-        leaves, actions, bases, moves, costs, kinds, factors, conditions, behind, action, layer,
-        &mut next,
-    );
-    let states = bases[leaves];
+    let behind = spot.after(board.factors, pairs_of(effects, action));
+    next_layer(board, behind, action, layer, &mut next);
+    let states = board.states();
     copy_words(&next, layer, states);
     Walked {
         ends: true,
@@ -86,27 +73,21 @@ fn advance(
 
 // The layers along the path: where it ends, with the last layer's prices at the front of `layer`, where every state starts as unreachable.
 fn walk_path(
-    task: Task,
-    bases: &[usize],
-    moves: &[u16],
-    costs: &[u16],
-    kinds: &[u8],
-    starts: &[usize],
+    tables: &TaskTables<'_>,
     path: &[u8],
     layer: &mut [u64],
 ) -> Walked
-    requires valid { Valid task }
-    requires tabled { Tabled task bases.now moves.now costs.now kinds.now starts.now }
-    requires by_index { (k : ℕ) → k < length path.now → get_or path.now k 0 < task.actions }
+    requires valid { Valid tables.now.task.now }
+    requires by_index { (k : ℕ) → k < length path.now → get_or path.now k 0 < tables.now.task.now.actions }
     requires layer_value { layer.old ≡ replicate 1024 mark }
-    ensures { walked result (take (all_states task) layer.new) ≡ walk task (first_layer task) path.now }
+    ensures { walked result (take (all_states tables.now.task.now) layer.new) ≡ walk tables.now.task.now (first_layer tables.now.task.now) path.now }
 {
-    let leaves = task.leaves as usize;
-    let actions = task.actions as usize;
-    let factors = task.factors;
-    let initial = task.initial;
-    let conditions = task.conditions;
-    let effects = task.effects;
+    let leaves = tables.task.leaves as usize;
+    let actions = tables.task.actions as usize;
+    let factors = tables.task.factors;
+    let initial = tables.task.initial;
+    let conditions = tables.task.conditions;
+    let effects = tables.task.effects;
     let mut spot = Centre::blank().after(factors, initial);
     first_layer(
         leaves,

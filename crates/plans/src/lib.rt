@@ -5,8 +5,8 @@ ghost use Rattle.std.specs.Prelude.{◌≡◌, cond, true, ◌++◌, reverse, �
 ghost use Rattle.task.specs.Factors.{all_states};
 ghost use Rattle.task.specs.Valid.{Valid};
 ghost use Rattle.leaf.specs.Price.{mark};
-ghost use Rattle.layer.specs.Board.{Sound};
-ghost use Rattle.layer.specs.Lent.{board_of};
+ghost use Rattle.layer.specs.Board.{base_on, row_on, states_on};
+ghost use Rattle.layer.specs.Held.{board_in};
 ghost use Rattle.edges.specs.Edges.{Edges};
 ghost use Rattle.digits.specs.Digits.{Filled};
 ghost use Rattle.tables.specs.Tables.{Goals, Tabled};
@@ -90,37 +90,29 @@ fn action_of(table: &[u64], states: usize, node: usize) -> usize
 
 // The prices that a node's layer began with, in the leaf behind i leaves; `out` has the mark everywhere.
 fn layer_begin(
-    leaves: usize,
-    actions: usize,
-    bases: &[usize],
-    moves: &[u16],
-    costs: &[u16],
-    kinds: &[u8],
-    factors: [u8; 32],
-    conditions: &[u8],
+    board: &Board<'_>,
     starts: &[usize],
     table: &[u64],
     node: usize,
     i: usize,
     out: &mut [u64],
 )
-    requires { Standing (board_of leaves actions bases.now moves.now costs.now kinds.now factors conditions.now) starts.now table.now node
-        × (i < leaves) × (out.old ≡ replicate (get_or bases.now (i + 1) 0 - get_or bases.now i 0) mark) }
-    ensures { out.new ≡ begins_on (board_of leaves actions bases.now moves.now costs.now kinds.now
-        factors conditions.now) starts.now table.now i node }
+    requires { Standing (board_in board.now) starts.now table.now node
+        × (i < board.now.leaves) × (out.old ≡ replicate (states_on (board_in board.now) i) mark) }
+    ensures { out.new ≡ begins_on (board_in board.now) starts.now table.now i node }
 {
     if node == 0 {
         out[starts[i]] = 0;
         return;
     }
-    let row = bases[leaves];
-    let at = bases[i];
+    let row = board.states();
+    let at = board.bases[i];
     let parent = parent_of(table, row, node);
     let action = action_of(table, row, node);
     let from = parent * (40 + row) + (40 + at);
     pass(
         &table[from..from + out.len()],
-        moves,
+        board.moves,
         action * row + at,
         out,
     );
@@ -131,14 +123,7 @@ fn layer_begin(
 // The leaf behind i leaves walks back from a state of a node's layer, which began with the prices `begins`; from one that has kept its price there
 // is nothing to walk.
 fn leaf_walk(
-    leaves: usize,
-    actions: usize,
-    bases: &[usize],
-    moves: &[u16],
-    costs: &[u16],
-    kinds: &[u8],
-    factors: [u8; 32],
-    conditions: &[u8],
+    board: &Board<'_>,
     table: &[u64],
     node: usize,
     i: usize,
@@ -148,19 +133,17 @@ fn leaf_walk(
     plan: &mut [u8],
     total: usize,
     place: usize,
-    edges: &[u8],
-    stops: &[usize],
+    edges: &EdgeTable<'_>,
 ) -> Ended
-    requires sound { Sound (board_of leaves actions bases.now moves.now costs.now kinds.now factors conditions.now) × (i < leaves)
-        × RowIn (get_or bases.now leaves 0) table.now node }
-    requires walkable_from { WalkableFrom (board_of leaves actions bases.now moves.now costs.now kinds.now factors conditions.now) table.now i node begins.now state }
-    requires i_in_bounds { (actions * (get_or bases.now (i + 1) 0 - get_or bases.now i 0) ≤ length tight.old) × (total ≤ length plan.old) × (place + 256 ≤ mark)
-        × Edges (board_of leaves actions bases.now moves.now costs.now kinds.now factors conditions.now) edges.now stops.now }
-    ensures { Walked (back_from (board_of leaves actions bases.now moves.now costs.now kinds.now factors
-        conditions.now) table.now i node begins.now state) total place plan.old result plan.new }
+    requires sound { (i < board.now.leaves)
+        × RowIn (row_on (board_in board.now)) table.now node }
+    requires walkable_from { WalkableFrom (board_in board.now) table.now i node begins.now state }
+    requires i_in_bounds { (board.now.actions * (states_on (board_in board.now) i) ≤ length tight.old) × (total ≤ length plan.old) × (place + 256 ≤ mark)
+        × Edges (board_in board.now) edges.now.list.now edges.now.ends.now }
+    ensures { Walked (back_from (board_in board.now) table.now i node begins.now state) total place plan.old result plan.new }
 {
-    let row = bases[leaves];
-    let at = bases[i];
+    let row = board.states();
+    let at = board.bases[i];
     let first = node * (40 + row);
     let from = first + (40 + at);
     let end = from + begins.len();
@@ -169,16 +152,23 @@ fn leaf_walk(
     }
     let spot = read_spot(&table[first..first + (40 + row)]);
     let mut acts = [0u8; 256];
-    let count = enabled(kinds, factors, conditions, spot, i, actions, &mut acts);
+    let count = enabled(
+        board.kinds,
+        board.factors,
+        board.conditions,
+        spot,
+        i,
+        board.actions,
+        &mut acts,
+    );
     leaf_back(
-        moves,
+        board.moves,
         row,
         at,
-        costs,
+        board.costs,
         &acts[..count],
         count,
         edges,
-        stops,
         begins,
         &table[from..end],
         state,
@@ -191,14 +181,7 @@ fn leaf_walk(
 
 // The leaf behind i leaves walks back inside a node's layer.
 fn leaf_step(
-    leaves: usize,
-    actions: usize,
-    bases: &[usize],
-    moves: &[u16],
-    costs: &[u16],
-    kinds: &[u8],
-    factors: [u8; 32],
-    conditions: &[u8],
+    board: &Board<'_>,
     starts: &[usize],
     table: &[u64],
     node: usize,
@@ -208,42 +191,19 @@ fn leaf_step(
     plan: &mut [u8],
     total: usize,
     place: usize,
-    edges: &[u8],
-    stops: &[usize],
+    edges: &EdgeTable<'_>,
 ) -> Ended
-    requires standing { Standing (board_of leaves actions bases.now moves.now costs.now kinds.now factors conditions.now) starts.now table.now node × (i < leaves) }
-    requires walkable_on { WalkableOn (board_of leaves actions bases.now moves.now costs.now kinds.now factors conditions.now) starts.now table.now i node state }
-    requires i_in_bounds { (actions * (get_or bases.now (i + 1) 0 - get_or bases.now i 0) ≤ length tight.old) × (total ≤ length plan.old) × (place + 256 ≤ mark)
-        × Edges (board_of leaves actions bases.now moves.now costs.now kinds.now factors conditions.now) edges.now stops.now }
-    ensures { Walked (back_on (board_of leaves actions bases.now moves.now costs.now kinds.now factors
-        conditions.now) starts.now table.now i node state) total place plan.old result plan.new }
+    requires standing { Standing (board_in board.now) starts.now table.now node × (i < board.now.leaves) }
+    requires walkable_on { WalkableOn (board_in board.now) starts.now table.now i node state }
+    requires i_in_bounds { (board.now.actions * (states_on (board_in board.now) i) ≤ length tight.old) × (total ≤ length plan.old) × (place + 256 ≤ mark)
+        × Edges (board_in board.now) edges.now.list.now edges.now.ends.now }
+    ensures { Walked (back_on (board_in board.now) starts.now table.now i node state) total place plan.old result plan.new }
 {
-    let many = bases[i + 1] - bases[i];
+    let many = board.bases[i + 1] - board.bases[i];
     let mut begins = [MARK; 256];
-    layer_begin(
-        leaves,
-        actions,
-        bases,
-        moves,
-        costs,
-        kinds,
-        factors,
-        conditions,
-        starts,
-        table,
-        node,
-        i,
-        &mut begins[..many],
-    );
+    layer_begin(board, starts, table, node, i, &mut begins[..many]);
     leaf_walk(
-        leaves,
-        actions,
-        bases,
-        moves,
-        costs,
-        kinds,
-        factors,
-        conditions,
+        board,
         table,
         node,
         i,
@@ -254,7 +214,6 @@ fn leaf_step(
         total,
         place,
         edges,
-        stops,
     )
 }
 
@@ -263,14 +222,7 @@ fn leaf_step(
 // Each leaf walks back inside a node's layer, the last leaf first, from its state in `ends`, which then has the state where it comes to. The place
 // behind their actions.
 fn layer_back(
-    leaves: usize,
-    actions: usize,
-    bases: &[usize],
-    moves: &[u16],
-    costs: &[u16],
-    kinds: &[u8],
-    factors: [u8; 32],
-    conditions: &[u8],
+    board: &Board<'_>,
     starts: &[usize],
     table: &[u64],
     node: usize,
@@ -279,25 +231,22 @@ fn layer_back(
     plan: &mut [u8],
     total: usize,
     place: usize,
-    edges: &[u8],
-    stops: &[usize],
+    edges: &EdgeTable<'_>,
 ) -> usize
-    requires standing { Standing (board_of leaves actions bases.now moves.now costs.now kinds.now factors conditions.now) starts.now table.now node }
-    requires by_index { (i : ℕ) → i < leaves → WalkableOn (board_of leaves actions bases.now moves.now costs.now kinds.now factors conditions.now) starts.now table.now i node
+    requires standing { Standing (board_in board.now) starts.now table.now node }
+    requires by_index { (i : ℕ) → i < board.now.leaves → WalkableOn (board_in board.now) starts.now table.now i node
         (get_or ends.old i 0) }
-    requires leaves_in_bounds { (leaves ≤ length ends.old) × Roomy leaves actions bases.now (length tight.old) × (total ≤ length plan.old) × (place + 2048 ≤ mark)
-        × Edges (board_of leaves actions bases.now moves.now costs.now kinds.now factors conditions.now) edges.now stops.now }
-    ensures { LayerWalked leaves (λ i. back_on (board_of leaves actions bases.now moves.now costs.now kinds.now factors
-        conditions.now) starts.now table.now i node (get_or ends.old i 0)) total place plan.old result ends.new
+    requires leaves_in_bounds { (board.now.leaves ≤ length ends.old) × Roomy board.now.leaves board.now.actions board.now.bases.now (length tight.old) × (total ≤ length plan.old) × (place + 2048 ≤ mark)
+        × Edges (board_in board.now) edges.now.list.now edges.now.ends.now }
+    ensures { LayerWalked board.now.leaves (λ i. back_on (board_in board.now) starts.now table.now i node (get_or ends.old i 0)) total place plan.old result ends.new
         plan.new }
 {
     let mut p = place;
-    let mut i = leaves;
+    let mut i = board.leaves;
     while i > 0 {
         i -= 1;
         let end = leaf_step(
-            leaves, actions, bases, moves, costs, kinds, factors, conditions, starts, table, node,
-            i, ends[i], tight, plan, total, p, edges, stops,
+            board, starts, table, node, i, ends[i], tight, plan, total, p, edges,
         );
         ends[i] = end.state;
         p = end.place;
@@ -307,14 +256,7 @@ fn layer_back(
 
 // The leaf behind i leaves goes back over a node's action, from a state to the lowest state of the parent's layer with the same price.
 fn leaf_over(
-    leaves: usize,
-    actions: usize,
-    bases: &[usize],
-    moves: &[u16],
-    costs: &[u16],
-    kinds: &[u8],
-    factors: [u8; 32],
-    conditions: &[u8],
+    board: &Board<'_>,
     table: &[u64],
     parent: usize,
     action: usize,
@@ -322,64 +264,45 @@ fn leaf_over(
     i: usize,
     state: usize,
 ) -> usize
-    requires sound { Sound (board_of leaves actions bases.now moves.now costs.now kinds.now factors conditions.now) × (i < leaves) × (action < actions)
-        × RowIn (get_or bases.now leaves 0) table.now node × RowIn (get_or bases.now leaves 0) table.now parent }
-    requires parent_value { (parent ≡ (node_in (get_or bases.now leaves 0) table.now node).parent) × (action ≡ (node_in (get_or bases.now leaves 0) table.now node).action)
-        × (state < get_or bases.now (i + 1) 0 - get_or bases.now i 0) }
-    ensures { result ≡ over_on (board_of leaves actions bases.now moves.now costs.now kinds.now factors
-        conditions.now) table.now i node state }
+    requires sound { (i < board.now.leaves) × (action < board.now.actions)
+        × RowIn (row_on (board_in board.now)) table.now node × RowIn (row_on (board_in board.now)) table.now parent }
+    requires parent_value { (parent ≡ (node_in (row_on (board_in board.now)) table.now node).parent) × (action ≡ (node_in (row_on (board_in board.now)) table.now node).action)
+        × (state < states_on (board_in board.now) i) }
+    ensures { result ≡ over_on (board_in board.now) table.now i node state }
 {
-    let row = bases[leaves];
-    let at = bases[i];
+    let row = board.states();
+    let at = board.bases[i];
     let from = parent * (40 + row) + (40 + at);
-    let end = from + (bases[i + 1] - at);
+    let end = from + (board.bases[i + 1] - at);
     let price = table[node * (40 + row) + (40 + at) + state];
-    lowest_over(moves, action * row + at, &table[from..end], state, price)
+    lowest_over(
+        board.moves,
+        action * row + at,
+        &table[from..end],
+        state,
+        price,
+    )
 }
 
 // Each leaf goes back over a node's action, from its state in `ends`, which then has the state of the parent's layer.
-fn go_over(
-    leaves: usize,
-    actions: usize,
-    bases: &[usize],
-    moves: &[u16],
-    costs: &[u16],
-    kinds: &[u8],
-    factors: [u8; 32],
-    conditions: &[u8],
-    table: &[u64],
-    node: usize,
-    ends: &mut [usize],
-)
-    requires sound { Sound (board_of leaves actions bases.now moves.now costs.now kinds.now factors conditions.now) }
-    requires row_in { RowIn (get_or bases.now leaves 0) table.now node
-        × RowIn (get_or bases.now leaves 0) table.now (node_in (get_or bases.now leaves 0) table.now node).parent
-        × ((node_in (get_or bases.now leaves 0) table.now node).action < actions) }
-    requires leaves_in_bounds { (leaves ≤ length ends.old) × ((i : ℕ) → i < leaves → get_or ends.old i 0 < get_or bases.now (i + 1) 0 - get_or bases.now i 0) }
-    ensures { Filled leaves (λ i. over_on (board_of leaves actions bases.now moves.now costs.now kinds.now factors
-        conditions.now) table.now i node (get_or ends.old i 0)) ends.new }
+fn go_over(board: &Board<'_>, table: &[u64], node: usize, ends: &mut [usize])
+    requires row_in { RowIn (row_on (board_in board.now)) table.now node
+        × RowIn (row_on (board_in board.now)) table.now (node_in (row_on (board_in board.now)) table.now node).parent
+        × ((node_in (row_on (board_in board.now)) table.now node).action < board.now.actions) }
+    requires leaves_in_bounds { (board.now.leaves ≤ length ends.old) × ((i : ℕ) → i < board.now.leaves → get_or ends.old i 0 < states_on (board_in board.now) i) }
+    ensures { Filled board.now.leaves (λ i. over_on (board_in board.now) table.now i node (get_or ends.old i 0)) ends.new }
 {
-    let row = bases[leaves];
+    let row = board.states();
     let parent = parent_of(table, row, node);
     let action = action_of(table, row, node);
-    for i in 0..leaves {
-        ends[i] = leaf_over(
-            leaves, actions, bases, moves, costs, kinds, factors, conditions, table, parent,
-            action, node, i, ends[i],
-        );
+    for i in 0..board.leaves {
+        ends[i] = leaf_over(board, table, parent, action, node, i, ends[i]);
     }
 }
 
 // Each leaf walks back inside a node's layer and over the node's action, which is written before theirs. The place behind it.
 fn node_back(
-    leaves: usize,
-    actions: usize,
-    bases: &[usize],
-    moves: &[u16],
-    costs: &[u16],
-    kinds: &[u8],
-    factors: [u8; 32],
-    conditions: &[u8],
+    board: &Board<'_>,
     starts: &[usize],
     table: &[u64],
     node: usize,
@@ -388,31 +311,25 @@ fn node_back(
     plan: &mut [u8],
     total: usize,
     place: usize,
-    edges: &[u8],
-    stops: &[usize],
+    edges: &EdgeTable<'_>,
 ) -> usize
-    requires standing { Standing (board_of leaves actions bases.now moves.now costs.now kinds.now factors conditions.now) starts.now table.now node × (0 < node) }
-    requires by_index { (i : ℕ) → i < leaves → WalkableOn (board_of leaves actions bases.now moves.now costs.now kinds.now factors conditions.now) starts.now table.now i node
+    requires standing { Standing (board_in board.now) starts.now table.now node × (0 < node) }
+    requires by_index { (i : ℕ) → i < board.now.leaves → WalkableOn (board_in board.now) starts.now table.now i node
         (get_or ends.old i 0) }
-    requires by_index_2 { (i : ℕ) → i < leaves → (back_on (board_of leaves actions bases.now moves.now costs.now kinds.now factors conditions.now) starts.now table.now i node
-        (get_or ends.old i 0)).from < get_or bases.now (i + 1) 0 - get_or bases.now i 0 }
-    requires leaves_in_bounds { (leaves ≤ length ends.old) × Roomy leaves actions bases.now (length tight.old) × (total ≤ length plan.old) × (place + 2049 ≤ mark)
-        × Edges (board_of leaves actions bases.now moves.now costs.now kinds.now factors conditions.now) edges.now stops.now }
-    ensures { NodeWalked leaves (λ i. back_on (board_of leaves actions bases.now moves.now costs.now kinds.now factors
-        conditions.now) starts.now table.now i node (get_or ends.old i 0))
-        (node_in (get_or bases.now leaves 0) table.now node).action (λ i z. over_on (board_of leaves actions bases.now moves.now costs.now kinds.now factors
-        conditions.now) table.now i node z)
+    requires by_index_2 { (i : ℕ) → i < board.now.leaves → (back_on (board_in board.now) starts.now table.now i node
+        (get_or ends.old i 0)).from < states_on (board_in board.now) i }
+    requires leaves_in_bounds { (board.now.leaves ≤ length ends.old) × Roomy board.now.leaves board.now.actions board.now.bases.now (length tight.old) × (total ≤ length plan.old) × (place + 2049 ≤ mark)
+        × Edges (board_in board.now) edges.now.list.now edges.now.ends.now }
+    ensures { NodeWalked board.now.leaves (λ i. back_on (board_in board.now) starts.now table.now i node (get_or ends.old i 0))
+        (node_in (row_on (board_in board.now)) table.now node).action (λ i z. over_on (board_in board.now) table.now i node z)
         total place plan.old result ends.new plan.new }
 {
     let behind = layer_back(
-        leaves, actions, bases, moves, costs, kinds, factors, conditions, starts, table, node,
-        ends, tight, plan, total, place, edges, stops,
+        board, starts, table, node, ends, tight, plan, total, place, edges,
     );
-    let action = action_of(table, bases[leaves], node);
+    let action = action_of(table, board.states(), node);
     put(plan, total, behind, action as u8);
-    go_over(
-        leaves, actions, bases, moves, costs, kinds, factors, conditions, table, node, ends,
-    );
+    go_over(board, table, node, ends);
     behind + 1
 }
 
@@ -421,12 +338,7 @@ fn node_back(
 // The walk back from a node, whose leaves are in the states `ends`, to node 0: how many actions it meets. They are written as they are met, the plan's
 // last action first, as far as `total` places go. `tight` is lent to work in: its words afterwards are left to the program, its length stays.
 pub fn walk_back(
-    task: Task,
-    bases: &[usize],
-    moves: &[u16],
-    costs: &[u16],
-    kinds: &[u8],
-    starts: &[usize],
+    tables: &TaskTables<'_>,
     table: &[u64],
     count: usize,
     node: usize,
@@ -434,23 +346,22 @@ pub fn walk_back(
     tight: &mut [u8],
     plan: &mut [u8],
     total: usize,
-    edges: &[u8],
-    stops: &[usize],
+    edges: &EdgeTable<'_>,
 ) -> usize
-    requires valid { Valid task × Tabled task bases.now moves.now costs.now kinds.now starts.now }
-    requires real { Real task (held_in (all_states task) table.now count) × Priced task (held_in (all_states task) table.now count) node (λ i. get_or ends i 0) }
-    requires node_lt_count { (node < count) × (count ≤ 4096) × (count * (40 + all_states task) ≤ length table.now) × (total ≤ length plan.old)
-        × Roomy task.leaves task.actions bases.now (length tight.old)
-        × Edges (board_of task.leaves task.actions bases.now moves.now costs.now kinds.now task.factors task.conditions) edges.now stops.now }
-    ensures walked { (result ≡ length (plan_back task (held_in (all_states task) table.now count) node node (λ i. get_or ends i 0)))
-        × (plan.new ≡ laid total 0 (plan_back task (held_in (all_states task) table.now count) node node (λ i. get_or ends i 0)) plan.old)
-        × (result ≤ (node + 1) * (all_states task + 1)) }
+    requires valid { Valid tables.now.task.now }
+    requires real { Real tables.now.task.now (held_in (all_states tables.now.task.now) table.now count) × Priced tables.now.task.now (held_in (all_states tables.now.task.now) table.now count) node (λ i. get_or ends i 0) }
+    requires node_lt_count { (node < count) × (count ≤ 4096) × (count * (40 + all_states tables.now.task.now) ≤ length table.now) × (total ≤ length plan.old)
+        × Roomy tables.now.task.now.leaves tables.now.task.now.actions tables.now.board.bases.now (length tight.old)
+        × Edges (board_in tables.now.board) edges.now.list.now edges.now.ends.now }
+    ensures walked { (result ≡ length (plan_back tables.now.task.now (held_in (all_states tables.now.task.now) table.now count) node node (λ i. get_or ends i 0)))
+        × (plan.new ≡ laid total 0 (plan_back tables.now.task.now (held_in (all_states tables.now.task.now) table.now count) node node (λ i. get_or ends i 0)) plan.old)
+        × (result ≤ (node + 1) * (all_states tables.now.task.now + 1)) }
     ensures lengths { length tight.new ≡ length tight.old }
 {
-    let leaves = task.leaves as usize;
-    let actions = task.actions as usize;
-    let factors = task.factors;
-    let conditions = task.conditions;
+    let leaves = tables.task.leaves as usize;
+    let actions = tables.task.actions as usize;
+    let factors = tables.task.factors;
+    let conditions = tables.task.conditions;
     let mut states = ends;
     let mut u = node;
     let mut place = 0;
@@ -473,7 +384,6 @@ pub fn walk_back(
             total,
             place,
             edges,
-            stops,
         );
         u = parent_of(table, bases[leaves], u);
     }
@@ -495,7 +405,6 @@ pub fn walk_back(
         total,
         place,
         edges,
-        stops,
     )
 }
 
@@ -525,37 +434,31 @@ fn turn_round(plan: &mut [u8], count: usize)
 // The plan of a goal node at the front of the lent buffer, where it has room: how many actions it has. `tight` is only lent to work in. A buffer that
 // holds the longest plan is written on the way back; else the plan is walked once to count its actions, so that a buffer too short stays as it is.
 fn write_with(
-    task: Task,
-    bases: &[usize],
-    moves: &[u16],
-    costs: &[u16],
-    kinds: &[u8],
-    starts: &[usize],
+    tables: &TaskTables<'_>,
     goals: &[u16],
     table: &[u64],
     count: usize,
     node: usize,
     tight: &mut [u8],
     plan: &mut [u8],
-    edges: &[u8],
-    stops: &[usize],
+    edges: &EdgeTable<'_>,
 ) -> usize
-    requires valid { Valid task × Tabled task bases.now moves.now costs.now kinds.now starts.now × Goals task goals.now }
-    requires real { Real task (held_in (all_states task) table.now count) × (is_goal task (node_at task (held_in (all_states task) table.now count) node) ≡ true) }
-    requires node_lt_count { (node < count) × (count ≤ 4096) × (count * (40 + all_states task) ≤ length table.now)
-        × Roomy task.leaves task.actions bases.now (length tight.old)
-        × Edges (board_of task.leaves task.actions bases.now moves.now costs.now kinds.now task.factors task.conditions) edges.now stops.now }
-    ensures { (result ≡ length (plan_of task (held_in (all_states task) table.now count) node))
-        × (plan.new ≡ written (plan_of task (held_in (all_states task) table.now count) node) plan.old) }
+    requires valid { Valid tables.now.task.now × Goals tables.now.task.now goals.now }
+    requires real { Real tables.now.task.now (held_in (all_states tables.now.task.now) table.now count) × (is_goal tables.now.task.now (node_at tables.now.task.now (held_in (all_states tables.now.task.now) table.now count) node) ≡ true) }
+    requires node_lt_count { (node < count) × (count ≤ 4096) × (count * (40 + all_states tables.now.task.now) ≤ length table.now)
+        × Roomy tables.now.task.now.leaves tables.now.task.now.actions tables.now.board.bases.now (length tight.old)
+        × Edges (board_in tables.now.board) edges.now.list.now edges.now.ends.now }
+    ensures { (result ≡ length (plan_of tables.now.task.now (held_in (all_states tables.now.task.now) table.now count) node))
+        × (plan.new ≡ written (plan_of tables.now.task.now (held_in (all_states tables.now.task.now) table.now count) node) plan.old) }
 {
-    let leaves = task.leaves as usize;
+    let leaves = tables.task.leaves as usize;
     let row = bases[leaves];
     let from = node * (40 + row) + 40;
     let ends = goal_ends(leaves, bases, goals, &table[from..from + row]);
     let room = first_room(plan.len(), (node + 1) * (row + 1));
     let length = walk_back(
-        task, bases, moves, costs, kinds, starts, table, count, node, ends, tight, plan, room,
-        edges, stops,
+        tables, table, count, node, ends, tight, plan, room,
+        edges,
     );
     if length > plan.len() {
         return length;
@@ -565,8 +468,8 @@ fn write_with(
         return length;
     }
     walk_back(
-        task, bases, moves, costs, kinds, starts, table, count, node, ends, tight, plan, length,
-        edges, stops,
+        tables, table, count, node, ends, tight, plan, length,
+        edges,
     );
     turn_round(plan, length);
     length
@@ -575,39 +478,33 @@ fn write_with(
 // The plan of a goal node at the front of the lent buffer, where it has room: how many actions it has. What it works in is
 // small for a small task, since it takes time to make.
 pub fn write_plan(
-    task: Task,
-    bases: &[usize],
-    moves: &[u16],
-    costs: &[u16],
-    kinds: &[u8],
-    starts: &[usize],
+    tables: &TaskTables<'_>,
     goals: &[u16],
     table: &[u64],
     count: usize,
     node: usize,
     plan: &mut [u8],
-    edges: &[u8],
-    stops: &[usize],
+    edges: &EdgeTable<'_>,
 ) -> usize
-    requires valid { Valid task × Tabled task bases.now moves.now costs.now kinds.now starts.now × Goals task goals.now }
-    requires real { Real task (held_in (all_states task) table.now count) × (is_goal task (node_at task (held_in (all_states task) table.now count) node) ≡ true) }
-    requires node_lt_count { (node < count) × (count ≤ 4096) × (count * (40 + all_states task) ≤ length table.now)
-        × Edges (board_of task.leaves task.actions bases.now moves.now costs.now kinds.now task.factors task.conditions) edges.now stops.now }
-    ensures { (result ≡ length (plan_of task (held_in (all_states task) table.now count) node))
-        × (plan.new ≡ written (plan_of task (held_in (all_states task) table.now count) node) plan.old) }
+    requires valid { Valid tables.now.task.now × Goals tables.now.task.now goals.now }
+    requires real { Real tables.now.task.now (held_in (all_states tables.now.task.now) table.now count) × (is_goal tables.now.task.now (node_at tables.now.task.now (held_in (all_states tables.now.task.now) table.now count) node) ≡ true) }
+    requires node_lt_count { (node < count) × (count ≤ 4096) × (count * (40 + all_states tables.now.task.now) ≤ length table.now)
+        × Edges (board_in tables.now.board) edges.now.list.now edges.now.ends.now }
+    ensures { (result ≡ length (plan_of tables.now.task.now (held_in (all_states tables.now.task.now) table.now count) node))
+        × (plan.new ≡ written (plan_of tables.now.task.now (held_in (all_states tables.now.task.now) table.now count) node) plan.old) }
 {
-    let leaves = task.leaves as usize;
-    let actions = task.actions as usize;
+    let leaves = tables.task.leaves as usize;
+    let actions = tables.task.actions as usize;
     if actions * bases[leaves] <= 4096 {
         let mut tight = [0u8; 4096];
         return write_with(
-            task, bases, moves, costs, kinds, starts, goals, table, count, node, &mut tight, plan,
-            edges, stops,
+            tables, goals, table, count, node, &mut tight, plan,
+            edges,
         );
     }
     let mut tight = [0u8; 65280];
     write_with(
-        task, bases, moves, costs, kinds, starts, goals, table, count, node, &mut tight, plan,
-        edges, stops,
+        tables, goals, table, count, node, &mut tight, plan,
+        edges,
     )
 }

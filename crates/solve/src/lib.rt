@@ -24,25 +24,19 @@ use words::zero_words;
 
 // The answer of a search that has finished: the plan of best's node, at the front of `plan`; or that it is too long; or that there is none.
 fn finish(
-    task: Task,
-    bases: &[usize],
-    moves: &[u16],
-    costs: &[u16],
-    kinds: &[u8],
-    starts: &[usize],
+    tables: &TaskTables<'_>,
     goals: &[u16],
     table: &[u64],
     run: Run,
     plan: &mut [u8],
-    edges: &[u8],
-    ends: &[usize],
+    edges: &EdgeTable<'_>,
 ) -> PlanAnswer
-    requires valid { Valid task }
-    requires tabled { Tabled task bases.now moves.now costs.now kinds.now starts.now × Goals task goals.now }
-    requires sound { Sound task table.now run × Edges (board_of task.leaves task.actions bases.now moves.now costs.now kinds.now task.factors task.conditions)
-        edges.now ends.now }
+    requires valid { Valid tables.now.task.now }
+    requires tabled { Goals tables.now.task.now goals.now }
+    requires sound { Sound tables.now.task.now table.now run × Edges (board_in tables.now.board)
+        edges.now.list.now edges.now.ends.now }
     ensures { ◌≡◌ {A = Outcome} (record { answer = result; plan = plan.new; words = [] })
-        (at_best task (run_in (all_states task) table.now run) run.best plan.old []) }
+        (at_best tables.now.task.now (run_in (all_states tables.now.task.now) table.now run) run.best plan.old []) }
 {
     let counts = Counts {
         expanded: run.begun,
@@ -53,19 +47,13 @@ fn finish(
         return PlanAnswer::Unsolvable(counts);
     }
     let length = write_plan(
-        task,
-        bases,
-        moves,
-        costs,
-        kinds,
-        starts,
+        tables,
         goals,
         table,
         run.count,
         best - 1,
         plan,
         edges,
-        ends,
     );
     if length > plan.len() {
         return PlanAnswer::Refused(PlanRefusal::PlanLong, counts);
@@ -81,25 +69,19 @@ fn finish(
 
 // The answer of a search that has stopped.
 fn answer_of(
-    task: Task,
-    bases: &[usize],
-    moves: &[u16],
-    costs: &[u16],
-    kinds: &[u8],
-    starts: &[usize],
+    tables: &TaskTables<'_>,
     goals: &[u16],
     table: &[u64],
     stop: Stop,
     plan: &mut [u8],
-    edges: &[u8],
-    ends: &[usize],
+    edges: &EdgeTable<'_>,
 ) -> PlanAnswer
-    requires valid { Valid task }
-    requires tabled { Tabled task bases.now moves.now costs.now kinds.now starts.now × Goals task goals.now }
-    requires sound { Sound task table.now stop.run × Edges (board_of task.leaves task.actions bases.now moves.now costs.now kinds.now task.factors task.conditions)
-        edges.now ends.now }
+    requires valid { Valid tables.now.task.now }
+    requires tabled { Goals tables.now.task.now goals.now }
+    requires sound { Sound tables.now.task.now table.now stop.run × Edges (board_in tables.now.board)
+        edges.now.list.now edges.now.ends.now }
     ensures { ◌≡◌ {A = Outcome} (record { answer = result; plan = plan.new; words = [] })
-        (at_stop task (reason_of stop.why) (run_in (all_states task) table.now stop.run) plan.old []) }
+        (at_stop tables.now.task.now (reason_of stop.why) (run_in (all_states tables.now.task.now) table.now stop.run) plan.old []) }
 {
     let run = stop.run;
     let counts = Counts {
@@ -111,7 +93,7 @@ fn answer_of(
         Why::TableFull => PlanAnswer::Refused(PlanRefusal::TableFull, counts),
         Why::BudgetSpent => PlanAnswer::Refused(PlanRefusal::BudgetSpent, counts),
         Why::Finished => finish(
-            task, bases, moves, costs, kinds, starts, goals, table, run, plan, edges, ends,
+            tables, goals, table, run, plan, edges,
         ),
     }
 }
@@ -145,7 +127,6 @@ fn task_edges(
         factors,
         &task.conditions,
         edges,
-        ends,
     );
 }
 

@@ -6,8 +6,8 @@ ghost use Rattle.leaf.specs.Price.{mark};
 ghost use Rattle.leaf.specs.Settle.{lower, relax, settled};
 ghost use Rattle.leaf.specs.Settle.Sweeps.{Fell, Swept, Reach};
 ghost use Rattle.leaf.specs.Lent.{cost_by};
-ghost use Rattle.layer.specs.Board.{Sound, settle_on, settled_on};
-ghost use Rattle.layer.specs.Lent.{board_of};
+ghost use Rattle.layer.specs.Board.{base_on, row_on, states_on, settle_on, settled_on};
+ghost use Rattle.layer.specs.Held.{board_in};
 ghost use Rattle.mets.specs.Mets.{Mets};
 ghost use Rattle.edges.specs.Edges.{Edges};
 ghost use Rattle.sweeps.specs.Sweeps.{gated, move_met, Along, Ways, some_met, edges_of, swept_by, Meant, Aims};
@@ -332,14 +332,7 @@ pub fn settle_along(
 
 // The prices of the leaf behind i leaves settle. Where no edge of the leaf has its flag set, they are settled as they are. Whether it was swept.
 fn settle_leaf(
-    leaves: usize,
-    actions: usize,
-    bases: &[usize],
-    moves: &[u16],
-    costs: &[u16],
-    kinds: &[u8],
-    factors: [u8; 32],
-    conditions: &[u8],
+    board: &Board<'_>,
     mets: &[u8],
     edges: &[u8],
     ends: &[usize],
@@ -347,71 +340,44 @@ fn settle_leaf(
     i: usize,
     prices: &mut [u64],
 ) -> bool
-    requires { Sound (board_of leaves actions bases.now moves.now costs.now kinds.now factors conditions.now)
-        × Mets (board_of leaves actions bases.now moves.now costs.now kinds.now factors conditions.now) centre mets.now
-        × Edges (board_of leaves actions bases.now moves.now costs.now kinds.now factors conditions.now) edges.now ends.now
-        × (i < leaves) × (length prices.old ≡ get_or bases.now (i + 1) 0 - get_or bases.now i 0) }
-    ensures { (prices.new ≡ settle_on (board_of leaves actions bases.now moves.now costs.now kinds.now
-        factors conditions.now) i centre prices.old) × (result ≡ false → prices.new ≡ prices.old)
-        × (result ≡ some_met mets.now (edges_of bases.now edges.now ends.now i)) }
+    requires { Mets (board_in board.now) centre mets.now
+        × Edges (board_in board.now) edges.now ends.now
+        × (i < board.now.leaves) × (length prices.old ≡ states_on (board_in board.now) i) }
+    ensures { (prices.new ≡ settle_on (board_in board.now) i centre prices.old) × (result ≡ false → prices.new ≡ prices.old)
+        × (result ≡ some_met mets.now (edges_of board.now.bases.now edges.now ends.now i)) }
 {
-    let row = bases[leaves];
-    let at = bases[i];
+    let row = board.states();
+    let at = board.bases[i];
     let from = ends[at];
-    let to = ends[bases[i + 1]];
+    let to = ends[board.bases[i + 1]];
     if !some_met(mets, &edges[from..to]) {
         return false;
     }
-    settle_along(prices, moves, row, at, costs, mets, edges, ends);
+    settle_along(prices, board.moves, row, at, board.costs, mets, edges, ends);
     true
 }
 
 // The prices at the front of `new` settle along the edges, leaf by leaf; `centre` is the layer's centre state, and `mets` flags the actions whose
 // centre conditions hold there. Whether a leaf was swept, which is one of whose edges has its flag set: else all is as it was.
 pub fn settle_edges(
-    leaves: usize,
-    actions: usize,
-    bases: &[usize],
-    moves: &[u16],
-    costs: &[u16],
-    kinds: &[u8],
-    factors: [u8; 32],
-    conditions: &[u8],
+    board: &Board<'_>,
     mets: &[u8],
     edges: &[u8],
     ends: &[usize],
     centre: Centre,
     new: &mut [u64],
 ) -> bool
-    requires { Sound (board_of leaves actions bases.now moves.now costs.now kinds.now factors conditions.now)
-        × Mets (board_of leaves actions bases.now moves.now costs.now kinds.now factors conditions.now) centre mets.now
-        × Edges (board_of leaves actions bases.now moves.now costs.now kinds.now factors conditions.now) edges.now ends.now
-        × (get_or bases.now leaves 0 ≤ length new.old) }
-    ensures { (new.new ≡ settled_on (board_of leaves actions bases.now moves.now costs.now kinds.now
-        factors conditions.now) centre new.old ++ drop (get_or bases.now leaves 0) new.old)
+    requires { Mets (board_in board.now) centre mets.now
+        × Edges (board_in board.now) edges.now ends.now
+        × (row_on (board_in board.now) ≤ length new.old) }
+    ensures { (new.new ≡ settled_on (board_in board.now) centre new.old ++ drop (row_on (board_in board.now)) new.old)
         × (result ≡ false → new.new ≡ new.old)
-        × (result ≡ swept_by leaves bases.now mets.now edges.now ends.now) }
+        × (result ≡ swept_by board.now.leaves board.now.bases.now mets.now edges.now ends.now) }
 {
     let mut swept = false;
-    for i in 0..leaves {
-        let from = bases[i];
-        let to = bases[i + 1];
-        let one = settle_leaf(
-            leaves,
-            actions,
-            bases,
-            moves,
-            costs,
-            kinds,
-            factors,
-            conditions,
-            mets,
-            edges,
-            ends,
-            centre,
-            i,
-            &mut new[from..to],
-        );
+    for i in 0..board.leaves {
+        let states = board.leaf(i);
+        let one = settle_leaf(board, mets, edges, ends, centre, i, &mut new[states]);
         swept = swept | one;
     }
     swept

@@ -1,7 +1,7 @@
 use Rattle.std.proofs.Common.{◌≡◌, sym, ap, ◌∙◌, List, ◌++◌, ℕ, ◌+◌, ◌*◌, ◌-◌, ◌≤◌, ◌<◌, arith, length, take, drop}
 use Rattle.layer.specs.Board.{Board, base_on, row_on, pass_on, begin_on}
 use Rattle.layer.specs.Board.Turns.{base_in, moves_here, moves_stay, leaf_passed, part_length, laid_none, laid_more, laid_rest}
-use Rattle.layer.specs.Lent.{board_of}
+use Rattle.layer.specs.Held.{board_in}
 use Rattle.search.specs.Node.{least_of}
 use Rattle.begins.specs.Begin.{risen_none, risen_more, risen_laid, part_copied, rest_copied}
 use Rattle.begins.proofs.begin_moved.Goals as goal
@@ -12,7 +12,7 @@ loop-i-init c =
 
 pub offset_bounds-old-from : goal.offset_bounds-old-from
 offset_bounds-old-from c =
-    let lent : Board = let a = c.args in board_of a.leaves a.actions a.bases.now a.moves.now a.costs.now a.kinds.now a.factors a.conditions.now in
+    let lent : Board = let a = c.args in board_in a.board.now in
     let board : Board = lent in
     let from : ℕ = base_on board c.loop-i.i in
     let to : ℕ = base_on board (c.loop-i.i + 1) in
@@ -21,7 +21,7 @@ offset_bounds-old-from c =
 
 pub slice_bounds-carry-count : goal.slice_bounds-carry-count
 slice_bounds-carry-count c =
-    let lent : Board = let a = c.args in board_of a.leaves a.actions a.bases.now a.moves.now a.costs.now a.kinds.now a.factors a.conditions.now in
+    let lent : Board = let a = c.args in board_in a.board.now in
     let board : Board = lent in
     let from : ℕ = base_on board c.loop-i.i in
     let to : ℕ = base_on board (c.loop-i.i + 1) in
@@ -30,7 +30,7 @@ slice_bounds-carry-count c =
 
 pub slice_bounds-carry-start : goal.slice_bounds-carry-start
 slice_bounds-carry-start c =
-    let lent : Board = let a = c.args in board_of a.leaves a.actions a.bases.now a.moves.now a.costs.now a.kinds.now a.factors a.conditions.now in
+    let lent : Board = let a = c.args in board_in a.board.now in
     let board : Board = lent in
     let from : ℕ = base_on board c.loop-i.i in
     let to : ℕ = base_on board (c.loop-i.i + 1) in
@@ -39,7 +39,7 @@ slice_bounds-carry-start c =
 
 pub slice_bounds-carry-end : goal.slice_bounds-carry-end
 slice_bounds-carry-end c =
-    let lent : Board = let a = c.args in board_of a.leaves a.actions a.bases.now a.moves.now a.costs.now a.kinds.now a.factors a.conditions.now in
+    let lent : Board = let a = c.args in board_in a.board.now in
     let board : Board = lent in
     let from : ℕ = base_on board c.loop-i.i in
     let to : ℕ = base_on board (c.loop-i.i + 1) in
@@ -48,7 +48,7 @@ slice_bounds-carry-end c =
 
 pub overflow_mul-action : goal.overflow_mul-action
 overflow_mul-action c =
-    let lent : Board = let a = c.args in board_of a.leaves a.actions a.bases.now a.moves.now a.costs.now a.kinds.now a.factors a.conditions.now in
+    let lent : Board = let a = c.args in board_in a.board.now in
     let board : Board = lent in
     let from : ℕ = base_on board c.loop-i.i in
     let to : ℕ = base_on board (c.loop-i.i + 1) in
@@ -57,7 +57,7 @@ overflow_mul-action c =
 
 pub overflow_add-action : goal.overflow_add-action
 overflow_add-action c =
-    let lent : Board = let a = c.args in board_of a.leaves a.actions a.bases.now a.moves.now a.costs.now a.kinds.now a.factors a.conditions.now in
+    let lent : Board = let a = c.args in board_in a.board.now in
     let board : Board = lent in
     let from : ℕ = base_on board c.loop-i.i in
     let to : ℕ = base_on board (c.loop-i.i + 1) in
@@ -81,7 +81,7 @@ bounds-stills-action c =
 
 pub offset_bounds-new-from : goal.offset_bounds-new-from
 offset_bounds-new-from c =
-    let lent : Board = let a = c.args in board_of a.leaves a.actions a.bases.now a.moves.now a.costs.now a.kinds.now a.factors a.conditions.now in
+    let lent : Board = let a = c.args in board_in a.board.now in
     let board : Board = lent in
     let from : ℕ = base_on board c.loop-i.i in
     let to : ℕ = base_on board (c.loop-i.i + 1) in
@@ -90,7 +90,7 @@ offset_bounds-new-from c =
 
 pub slice_bounds-carry-count-in-loop-i : goal.slice_bounds-carry-count-in-loop-i
 slice_bounds-carry-count-in-loop-i c =
-    let lent : Board = let a = c.args in board_of a.leaves a.actions a.bases.now a.moves.now a.costs.now a.kinds.now a.factors a.conditions.now in
+    let lent : Board = let a = c.args in board_in a.board.now in
     let board : Board = lent in
     let from : ℕ = base_on board c.loop-i.i in
     let to : ℕ = base_on board (c.loop-i.i + 1) in
@@ -99,7 +99,7 @@ slice_bounds-carry-count-in-loop-i c =
 
 pub slice_bounds-carry-start-in-loop-i : goal.slice_bounds-carry-start-in-loop-i
 slice_bounds-carry-start-in-loop-i c =
-    let lent : Board = let a = c.args in board_of a.leaves a.actions a.bases.now a.moves.now a.costs.now a.kinds.now a.factors a.conditions.now in
+    let lent : Board = let a = c.args in board_in a.board.now in
     let board : Board = lent in
     let from : ℕ = base_on board c.loop-i.i in
     let to : ℕ = base_on board (c.loop-i.i + 1) in
@@ -108,7 +108,7 @@ slice_bounds-carry-start-in-loop-i c =
 
 pub slice_bounds-carry-end-in-loop-i : goal.slice_bounds-carry-end-in-loop-i
 slice_bounds-carry-end-in-loop-i c =
-    let lent : Board = let a = c.args in board_of a.leaves a.actions a.bases.now a.moves.now a.costs.now a.kinds.now a.factors a.conditions.now in
+    let lent : Board = let a = c.args in board_in a.board.now in
     let board : Board = lent in
     let from : ℕ = base_on board c.loop-i.i in
     let to : ℕ = base_on board (c.loop-i.i + 1) in
@@ -117,7 +117,7 @@ slice_bounds-carry-end-in-loop-i c =
 
 pub carry-rise-requires : goal.carry-rise-requires
 carry-rise-requires c =
-    let lent : Board = let a = c.args in board_of a.leaves a.actions a.bases.now a.moves.now a.costs.now a.kinds.now a.factors a.conditions.now in
+    let lent : Board = let a = c.args in board_in a.board.now in
     let board : Board = lent in
     let made : List ℕ = c.copy_words.new.into in
     let is_made : made ≡ take (row_on lent) c.args.old.now ++ drop (row_on lent) c.args.new.now = c.copy_words.ensures in
@@ -137,7 +137,7 @@ carry-rise-requires c =
 pub loop-i-preserved : goal.loop-i-preserved
 unfolding pass_on
 loop-i-preserved c =
-    let lent : Board = let a = c.args in board_of a.leaves a.actions a.bases.now a.moves.now a.costs.now a.kinds.now a.factors a.conditions.now in
+    let lent : Board = let a = c.args in board_in a.board.now in
     let board : Board = lent in
     let from : ℕ = base_on board c.loop-i.i in
     let to : ℕ = base_on board (c.loop-i.i + 1) in
@@ -157,7 +157,7 @@ shape_of-new c = omega (arith, c.loop-i.invariant.1.kept)
 pub returns : goal.returns
 unfolding begin_on pass_on
 returns c =
-    let lent : Board = let a = c.args in board_of a.leaves a.actions a.bases.now a.moves.now a.costs.now a.kinds.now a.factors a.conditions.now in
+    let lent : Board = let a = c.args in board_in a.board.now in
     let board : Board = lent in
     let made : List ℕ = c.copy_words.new.into in
     let is_made : made ≡ take (row_on lent) c.args.old.now ++ drop (row_on lent) c.args.new.now = c.copy_words.ensures in

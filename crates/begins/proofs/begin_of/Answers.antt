@@ -1,7 +1,7 @@
 -- `begins::begin_of` meets its contract: behind an action that leaves all leaf states as they are the begin is the old layer. Assumes nothing.
 use Rattle.std.proofs.Common.{◌≡◌, refl, sym, arith, length, get_or, drop, length-take-le}
 use Rattle.layer.specs.Board.{Board, row_on}
-use Rattle.layer.specs.Lent.{board_of}
+use Rattle.layer.specs.Held.{board_in}
 use Rattle.rows.specs.Begun.{begun_words, begun_moved, begun_stays}
 use Rattle.begins.specs.Begin.{begun_still}
 use Rattle.begins.proofs.begin_of.Goals as goal
@@ -11,7 +11,7 @@ use Rattle.begins.proofs.begin_of.Goals.{Start}
 abbrev board : Start → Board
 board s =
     let a = s.args in
-    board_of a.leaves a.actions a.bases.now a.moves.now a.costs.now a.kinds.now a.factors a.conditions.now
+    board_in a.board.now
 
 pub returns-then-still-a-ne0 : goal.returns-then-still-a-ne0
 returns-then-still-a-ne0 c =

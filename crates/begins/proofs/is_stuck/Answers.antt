@@ -3,7 +3,7 @@ use Rattle.loops.specs.Count.{any}
 use Rattle.loops.specs.Count.Laws.{told, any_in, any_more}
 use Rattle.layer.specs.Board.{Board, base_on, row_on}
 use Rattle.layer.specs.Board.Turns.{base_in, row_in}
-use Rattle.layer.specs.Lent.{board_of}
+use Rattle.layer.specs.Held.{board_in}
 use Rattle.begins.specs.Begin.{stuck_in, stuck_by}
 use Rattle.begins.proofs.is_stuck.Goals as goal
 
@@ -17,7 +17,7 @@ loop-i-init c = (omega arith, refl)
 
 pub overflow_mul-a : goal.overflow_mul-a
 overflow_mul-a c =
-    let board : Board = let a = c.args in board_of a.leaves a.actions a.bases.now a.moves.now a.costs.now a.kinds.now a.factors a.conditions.now in
+    let board : Board = let a = c.args in board_in a.board.now in
     let from : ℕ = base_on board c.loop-i.i in
     let to : ℕ = base_on board (c.loop-i.i + 1) in
     let room : (from ≤ to) × (to ≤ length c.args.old.now) × (c.args.a * row_on board + to ≤ length c.args.moves.now) = let i = c.loop-i.i in let end = base_in board c.requires.sound i c.loop-i-test.true in omega (arith, end, c.requires.sound.bases_rise i c.loop-i-test.true, c.requires.still_len.3, row_in board c.requires.sound c.args.a c.requires.still_len.2) in
@@ -38,7 +38,7 @@ bounds-stills-a c =
 
 pub is_stuck_in-requires : goal.is_stuck_in-requires
 is_stuck_in-requires c =
-    let board : Board = let a = c.args in board_of a.leaves a.actions a.bases.now a.moves.now a.costs.now a.kinds.now a.factors a.conditions.now in
+    let board : Board = let a = c.args in board_in a.board.now in
     let from : ℕ = base_on board c.loop-i.i in
     let to : ℕ = base_on board (c.loop-i.i + 1) in
     let room : (from ≤ to) × (to ≤ length c.args.old.now) × (c.args.a * row_on board + to ≤ length c.args.moves.now) = let i = c.loop-i.i in let end = base_in board c.requires.sound i c.loop-i-test.true in omega (arith, end, c.requires.sound.bases_rise i c.loop-i-test.true, c.requires.still_len.3, row_in board c.requires.sound c.args.a c.requires.still_len.2) in

@@ -1,12 +1,12 @@
 use Rattle.std.proofs.Common.{refl, ◌∙◌, ◌-◌, le_antisymm, arith, length-set}
-use Rattle.layer.specs.Lent.{board_of}
+use Rattle.layer.specs.Held.{board_in}
 use Rattle.edges.specs.Edges.Fill.{edges_none}
 use Rattle.edges.proofs.fill_edges.Goals as goal
 
 pub loop-i-init : goal.loop-i-init
 loop-i-init c =
     let a = c.args in
-    let b = board_of a.leaves a.actions a.bases.now a.moves.now a.costs.now a.kinds.now a.factors a.conditions.now in
+    let b = board_in a.board.now in
     (omega arith, refl, refl, rw c.requires.0.bases_first (edges_none b c.requires.0 a.edges.now a.ends.now c.requires.1 c.requires.2))
 
 pub fill_leaf-requires : goal.fill_leaf-requires

@@ -1,7 +1,7 @@
 use Rattle.std.proofs.Common.{◌≡◌, refl, ◌∙◌, ℕ, ◌-◌, ◌≤◌, ◌<◌, le_antisymm, arith, length, get_or}
 use Rattle.layer.specs.Board.{Board, row_on}
 use Rattle.layer.specs.Board.Turns.{base_in, row_in}
-use Rattle.layer.specs.Lent.{board_of}
+use Rattle.layer.specs.Held.{board_in}
 use Rattle.edges.specs.Edges.{those, of_leaf, moved_by, edge_by, edges_in}
 use Rattle.edges.specs.Edges.Those.{those_few, those_at, picked_those}
 use Rattle.edges.specs.Edges.Fill.{edges_more, edges_room}
@@ -13,7 +13,7 @@ loop-s-init c =
 
 pub fill_state-requires : goal.fill_state-requires
 fill_state-requires c =
-    let board : Board = let a = c.args in board_of a.leaves a.actions a.bases.now a.moves.now a.costs.now a.kinds.now a.factors a.conditions.now in
+    let board : Board = let a = c.args in board_in a.board.now in
     let few : length c.args.own.now ≤ c.args.actions = rw c.requires.3 (those_few (of_leaf c.args.kinds.now c.args.i) c.args.actions) in
     let below : (j : ℕ) → j < length c.args.own.now → get_or c.args.own.now j 0 < c.args.actions = λ j h. rw c.requires.3 (those_at (of_leaf c.args.kinds.now c.args.i) c.args.actions j (rw c.requires.3 at h)).0 in
     let inside : c.loop-s.s < row_on board = omega (arith, c.loop-s-test.true, base_in board c.requires.0 c.args.i c.requires.1) in
@@ -26,7 +26,7 @@ fill_state-requires c =
 
 pub overflow_step-s : goal.overflow_step-s
 overflow_step-s c =
-    let board : Board = let a = c.args in board_of a.leaves a.actions a.bases.now a.moves.now a.costs.now a.kinds.now a.factors a.conditions.now in
+    let board : Board = let a = c.args in board_in a.board.now in
     let inside : c.loop-s.s < row_on board = omega (arith, c.loop-s-test.true, base_in board c.requires.0 c.args.i c.requires.1) in
     omega (arith, inside, c.requires.0.few_all)
 
@@ -36,7 +36,7 @@ loop-s-smaller c =
 
 pub loop-s-preserved : goal.loop-s-preserved
 loop-s-preserved c =
-    let board : Board = let a = c.args in board_of a.leaves a.actions a.bases.now a.moves.now a.costs.now a.kinds.now a.factors a.conditions.now in
+    let board : Board = let a = c.args in board_in a.board.now in
     let same : (row x : ℕ) → let a = c.args in edges_in a.moves.now row a.own.now x ≡ those (edge_by a.moves.now row a.kinds.now a.i x) a.actions = λ row x. rw c.requires.3 (picked_those (moved_by c.args.moves.now row x) (of_leaf c.args.kinds.now c.args.i) c.args.actions) in
     let l = c.loop-s in
     let e = c.fill_state.ensures in

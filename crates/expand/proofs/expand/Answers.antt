@@ -1,7 +1,7 @@
 -- `expand::expand` meets its contract: the node's parts are read, the actions that need a turn are listed, and these have their turns. Assumes nothing.
 use Rattle.std.proofs.Common.{◌≡◌, sym, ap, ◌∙◌, ◌+◌, ◌*◌, ◌≤◌, ◌<◌, arith, length, length-take, length-drop, length-take-le, rules}
 use Rattle.layer.specs.Board.{Board, row_on}
-use Rattle.layer.specs.Lent.{board_of}
+use Rattle.layer.specs.Held.{board_in}
 use Rattle.expand.specs.Held.Lists.{useful_front}
 use Rattle.rows.specs.Reach.{reaches_front}
 use Rattle.rows.specs.Row.Laws.{row_in_lem, row_word}
@@ -14,7 +14,7 @@ use Rattle.expand.proofs.expand.Goals.{After-list_reached-reached, After-list_tu
 abbrev board : Start → Board
 board s =
     let a = s.args in
-    board_of a.leaves a.actions a.bases.now a.moves.now a.costs.now a.kinds.now a.factors a.conditions.now
+    board_in a.board.now
 
 row_fits : (s : Start) → s.args.u * (40 + row_on (board s)) + (40 + row_on (board s)) ≤ length s.args.table.now
 row_fits s =

@@ -1,7 +1,7 @@
 -- `expand::list_turns` meets its contract: all actions whose conditions hold are listed, and detours are left out where a hop made the node. Assumes nothing.
 use Rattle.std.proofs.Common.{◌≡◌, ◌∙◌, Bool, ℕ, ◌+◌, ◌*◌, ◌≤◌, ◌<◌, arith, length, get_or, take, rules}
 use Rattle.layer.specs.Board.{Board, row_on, met_on}
-use Rattle.layer.specs.Lent.{board_of}
+use Rattle.layer.specs.Held.{board_in}
 use Rattle.mets.specs.Known.{firsts_asks, known_asks, asks_known}
 use Rattle.rows.specs.Row.{node_in}
 use Rattle.rows.specs.Sign.Laws.{class_lt}
@@ -12,12 +12,12 @@ use Rattle.expand.proofs.list_turns.Goals as goal
 
 pub list_mets-many-requires : goal.list_mets-many-requires
 list_mets-many-requires c =
-    let board : Board = let a = c.args in board_of a.leaves a.actions a.bases.now a.moves.now a.costs.now a.kinds.now a.factors a.conditions.now in
+    let board : Board = let a = c.args in board_in a.board.now in
     (c.requires.sound.few_actions, c.requires.sound.conditions_long, firsts_asks board _ c.requires.firsts.0, omega (arith, c.class_of.ensures, class_lt c.args.spot), c.requires.mets_len.0, known_asks board _ c.requires.firsts.1)
 
 pub returns-then-word-eq0 : goal.returns-then-word-eq0
 returns-then-word-eq0 c =
-    let board : Board = let a = c.args in board_of a.leaves a.actions a.bases.now a.moves.now a.costs.now a.kinds.now a.factors a.conditions.now in
+    let board : Board = let a = c.args in board_in a.board.now in
     let m = c.list_mets-many in
     (asks_known board _ m.ensures.listed.0, m.ensures.listed.1, useful_all board c.args.effects.now c.args.spot c.args.table.now c.args.u c.args.old.now m.result _ m.ensures.listed.2)
 
@@ -35,7 +35,7 @@ bounds-table-u c = omega (arith, c.requires.mets_len.3)
 
 pub offset_bounds-costs-made_by : goal.offset_bounds-costs-made_by
 offset_bounds-costs-made_by c =
-    let board : Board = let a = c.args in board_of a.leaves a.actions a.bases.now a.moves.now a.costs.now a.kinds.now a.factors a.conditions.now in
+    let board : Board = let a = c.args in board_in a.board.now in
     let made_by : ℕ = get_or c.args.table.now (c.args.u * (40 + row_on board) + 34) 0 in
     let hop : let a = c.args in let n = node_in (row_on board) a.table.now a.u in (n.parent < a.u) × (n.action < a.actions) × (get_or a.hops.now n.action 0 ≡ c.hop_behind-word.result) × ((node_in (row_on board) a.table.now n.parent).prices ≡ take (row_on board) a.old.now) = let a = c.args in hop_told (row_on board) a.actions a.table.now a.hops.now a.u a.old.now c.hop_behind-word.result c.requires.mets_len.3 (omega (arith, c.requires.sound.few_all, c.requires.mets_len.1)) c.hop_behind-word.ensures c.if-word-eq0.false in
     let made_known : made_by < c.args.actions = rw (action_word (row_on board) c.args.u c.args.table.now) at hop.1 in
@@ -43,7 +43,7 @@ offset_bounds-costs-made_by c =
 
 pub bounds-costs-made_by : goal.bounds-costs-made_by
 bounds-costs-made_by c =
-    let board : Board = let a = c.args in board_of a.leaves a.actions a.bases.now a.moves.now a.costs.now a.kinds.now a.factors a.conditions.now in
+    let board : Board = let a = c.args in board_in a.board.now in
     let made_by : ℕ = get_or c.args.table.now (c.args.u * (40 + row_on board) + 34) 0 in
     let hop : let a = c.args in let n = node_in (row_on board) a.table.now a.u in (n.parent < a.u) × (n.action < a.actions) × (get_or a.hops.now n.action 0 ≡ c.hop_behind-word.result) × ((node_in (row_on board) a.table.now n.parent).prices ≡ take (row_on board) a.old.now) = let a = c.args in hop_told (row_on board) a.actions a.table.now a.hops.now a.u a.old.now c.hop_behind-word.result c.requires.mets_len.3 (omega (arith, c.requires.sound.few_all, c.requires.mets_len.1)) c.hop_behind-word.ensures c.if-word-eq0.false in
     let made_known : made_by < c.args.actions = rw (action_word (row_on board) c.args.u c.args.table.now) at hop.1 in
@@ -51,7 +51,7 @@ bounds-costs-made_by c =
 
 pub drop_detours-requires : goal.drop_detours-requires
 drop_detours-requires c =
-    let board : Board = let a = c.args in board_of a.leaves a.actions a.bases.now a.moves.now a.costs.now a.kinds.now a.factors a.conditions.now in
+    let board : Board = let a = c.args in board_in a.board.now in
     let hop : let a = c.args in let n = node_in (row_on board) a.table.now a.u in (n.parent < a.u) × (n.action < a.actions) × (get_or a.hops.now n.action 0 ≡ c.hop_behind-word.result) × ((node_in (row_on board) a.table.now n.parent).prices ≡ take (row_on board) a.old.now) = let a = c.args in hop_told (row_on board) a.actions a.table.now a.hops.now a.u a.old.now c.hop_behind-word.result c.requires.mets_len.3 (omega (arith, c.requires.sound.few_all, c.requires.mets_len.1)) c.hop_behind-word.ensures c.if-word-eq0.false in
     let few_word : c.hop_behind-word.result ≤ 8192 = rw hop.2 at (c.requires.firsts.2.few (node_in (row_on board) c.args.table.now c.args.u).action) in
     let m = c.list_mets-many in
@@ -60,7 +60,7 @@ drop_detours-requires c =
 
 pub returns : goal.returns
 returns c =
-    let board : Board = let a = c.args in board_of a.leaves a.actions a.bases.now a.moves.now a.costs.now a.kinds.now a.factors a.conditions.now in
+    let board : Board = let a = c.args in board_in a.board.now in
     let made_by : ℕ = get_or c.args.table.now (c.args.u * (40 + row_on board) + 34) 0 in
     let hop : let a = c.args in let n = node_in (row_on board) a.table.now a.u in (n.parent < a.u) × (n.action < a.actions) × (get_or a.hops.now n.action 0 ≡ c.hop_behind-word.result) × ((node_in (row_on board) a.table.now n.parent).prices ≡ take (row_on board) a.old.now) = let a = c.args in hop_told (row_on board) a.actions a.table.now a.hops.now a.u a.old.now c.hop_behind-word.result c.requires.mets_len.3 (omega (arith, c.requires.sound.few_all, c.requires.mets_len.1)) c.hop_behind-word.ensures c.if-word-eq0.false in
     let a = c.args in

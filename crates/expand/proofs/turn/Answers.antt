@@ -2,7 +2,7 @@
 use Rattle.std.proofs.Common.{◌≡◌, refl, sym, ◌∙◌, true, arith, length, get_or, drop, rules}
 use Rattle.loops.specs.Count.Laws.{told}
 use Rattle.layer.specs.Board.{Board, row_on}
-use Rattle.layer.specs.Lent.{board_of}
+use Rattle.layer.specs.Held.{board_in}
 use Rattle.rows.specs.Begun.{begun_words}
 use Rattle.keys.specs.Scan.{key_by}
 use Rattle.begins.specs.Begin.{risen_key, key_more, stuck_out}
@@ -15,7 +15,7 @@ use Rattle.expand.proofs.turn.Goals.{Start}
 abbrev board : Start → Board
 board s =
     let a = s.args in
-    board_of a.leaves a.actions a.bases.now a.moves.now a.costs.now a.kinds.now a.factors a.conditions.now
+    board_in a.board.now
 
 pub returns-then-kinds-a-ne0 : goal.returns-then-kinds-a-ne0
 returns-then-kinds-a-ne0 c =

@@ -1,6 +1,6 @@
 use Rattle.std.proofs.Common.{◌≡◌, refl, sym, ◌∙◌, ℕ, ◌-◌, ◌≤◌, ◌<◌, arith, length, get_or, rules}
 use Rattle.layer.specs.Board.{Board}
-use Rattle.layer.specs.Lent.{board_of}
+use Rattle.layer.specs.Held.{board_in}
 use Rattle.mets.specs.Listed.{past, past_more}
 use Rattle.mets.specs.Known.{Known}
 use Rattle.expand.specs.Held.Turns.{Passed, passed_none, passed_more, passed_full, passed_next, passed_last, passed_all}
@@ -38,7 +38,7 @@ shape_of-room-then-r c = c.turn-r.auto.room ∙ c.loop-j.invariant.4
 
 pub returns-then-r : goal.returns-then-r
 returns-then-r c =
-    let board : Board = let a = c.args in board_of a.leaves a.actions a.bases.now a.moves.now a.costs.now a.kinds.now a.factors a.conditions.now in
+    let board : Board = let a = c.args in board_in a.board.now in
     let next-action : ℕ = get_or c.args.mets.now c.loop-j.j 0 in
     let inside : next-action < c.args.actions = c.requires.still.4.listed.inside c.loop-j.j c.loop-j-test.true in
     let reached : let a = c.args in let l = c.loop-j in Passed board a.effects.now a.goals.now a.goal a.nodes a.u a.key a.table.now a.scan.now a.run l.table l.scan l.going next-action = let a = c.args in let l = c.loop-j in passed_next board a.effects.now a.goals.now a.goal a.nodes a.u a.key a.table.now a.scan.now a.run a.spot a.paid a.old.now c.requires.sign_value.1 c.requires.effects_len.4 l.table l.scan l.going a.mets.now c.requires.still.4 l.j c.loop-j-test.true l.invariant.0 in
@@ -59,7 +59,7 @@ loop-j-smaller c = omega (arith, c.loop-j-test.true)
 
 pub loop-j-preserved : goal.loop-j-preserved
 loop-j-preserved c =
-    let board : Board = let a = c.args in board_of a.leaves a.actions a.bases.now a.moves.now a.costs.now a.kinds.now a.factors a.conditions.now in
+    let board : Board = let a = c.args in board_in a.board.now in
     let next-action : ℕ = get_or c.args.mets.now c.loop-j.j 0 in
     let inside : next-action < c.args.actions = c.requires.still.4.listed.inside c.loop-j.j c.loop-j-test.true in
     let reached : let a = c.args in let l = c.loop-j in Passed board a.effects.now a.goals.now a.goal a.nodes a.u a.key a.table.now a.scan.now a.run l.table l.scan l.going next-action = let a = c.args in let l = c.loop-j in passed_next board a.effects.now a.goals.now a.goal a.nodes a.u a.key a.table.now a.scan.now a.run a.spot a.paid a.old.now c.requires.sign_value.1 c.requires.effects_len.4 l.table l.scan l.going a.mets.now c.requires.still.4 l.j c.loop-j-test.true l.invariant.0 in
@@ -90,7 +90,7 @@ shape_of-room c = c.loop-j.invariant.4
 
 pub returns : goal.returns
 returns c =
-    let board : Board = let a = c.args in board_of a.leaves a.actions a.bases.now a.moves.now a.costs.now a.kinds.now a.factors a.conditions.now in
+    let board : Board = let a = c.args in board_in a.board.now in
     let l = c.loop-j in
     let a = c.args in
     let every : l.j ≡ length a.mets.now = omega arith in

@@ -4,7 +4,7 @@ use Rattle.task.specs.Factors.{all_states}
 use Rattle.leaf.specs.Price.{mark}
 use Rattle.layer.specs.Board.{Board, row_on}
 use Rattle.layer.specs.Board.Laws.{row_on_lem}
-use Rattle.layer.specs.Lent.{board_of}
+use Rattle.layer.specs.Held.{board_in}
 use Rattle.blocks.specs.Choice.{choose_by}
 use Rattle.offers.specs.Held.{Room}
 use Rattle.explore.specs.Held.Rounds.{begun, choice_in, retired_keyed, retired_room, ahead_finished, ahead_spent, ahead_full, ahead_on}
@@ -47,7 +47,7 @@ overflow_add-more c = omega (arith, c.requires.effects_len.2)
 
 pub expand-r-requires : goal.expand-r-requires
 expand-r-requires c =
-    let board : Board = let a = c.args in board_of a.leaves a.actions a.bases.now a.moves.now a.costs.now a.kinds.now a.factors a.conditions.now in
+    let board : Board = let a = c.args in board_in a.board.now in
     let picked : let a = c.args in (choose_by a.run.best_cost a.scan.now a.run.count ≡ suc (c.choose-chosen.result - 1)) × (c.choose-chosen.result - 1 < a.run.count) = let a = c.args in let e : c.choose-chosen.result ≡ suc (c.choose-chosen.result - 1) = omega (arith, c.if-chosen-eq0.false) in (sym c.choose-chosen.ensures ∙ e, omega (arith, choice_in a.run.best_cost a.scan.now a.run.count, c.choose-chosen.ensures)) in
     let node : ℕ = c.choose-chosen.result - 1 in
     let words : List ℕ = c.retire.new.scan in
@@ -80,7 +80,7 @@ shape_of-room-then-r c = c.expand-r.auto.room
 
 pub returns-then-r : goal.returns-then-r
 returns-then-r c =
-    let board : Board = let a = c.args in board_of a.leaves a.actions a.bases.now a.moves.now a.costs.now a.kinds.now a.factors a.conditions.now in
+    let board : Board = let a = c.args in board_in a.board.now in
     let picked : let a = c.args in (choose_by a.run.best_cost a.scan.now a.run.count ≡ suc (c.choose-chosen.result - 1)) × (c.choose-chosen.result - 1 < a.run.count) = let a = c.args in let e : c.choose-chosen.result ≡ suc (c.choose-chosen.result - 1) = omega (arith, c.if-chosen-eq0.false) in (sym c.choose-chosen.ensures ∙ e, omega (arith, choice_in a.run.best_cost a.scan.now a.run.count, c.choose-chosen.ensures)) in
     let long : c.args.run.count ≤ length c.args.scan.now = omega (arith, c.requires.room.scan_long, c.requires.room.count_few, c.requires.room.few_nodes) in
     let node : ℕ = c.choose-chosen.result - 1 in
@@ -120,7 +120,7 @@ shape_of-room c = c.expand-r.auto.room
 
 pub returns : goal.returns
 returns c =
-    let board : Board = let a = c.args in board_of a.leaves a.actions a.bases.now a.moves.now a.costs.now a.kinds.now a.factors a.conditions.now in
+    let board : Board = let a = c.args in board_in a.board.now in
     let picked : let a = c.args in (choose_by a.run.best_cost a.scan.now a.run.count ≡ suc (c.choose-chosen.result - 1)) × (c.choose-chosen.result - 1 < a.run.count) = let a = c.args in let e : c.choose-chosen.result ≡ suc (c.choose-chosen.result - 1) = omega (arith, c.if-chosen-eq0.false) in (sym c.choose-chosen.ensures ∙ e, omega (arith, choice_in a.run.best_cost a.scan.now a.run.count, c.choose-chosen.ensures)) in
     let long : c.args.run.count ≤ length c.args.scan.now = omega (arith, c.requires.room.scan_long, c.requires.room.count_few, c.requires.room.few_nodes) in
     let node : ℕ = c.choose-chosen.result - 1 in

@@ -3,7 +3,7 @@ use Rattle.loops.specs.Count.{all}
 use Rattle.loops.specs.Count.Laws.{all_more, all_not}
 use Rattle.layer.specs.Board.{Board, base_on, row_on, passes_on, applies_on}
 use Rattle.layer.specs.Board.Turns.{base_in, moves_here, part_length, leaf_passes}
-use Rattle.layer.specs.Lent.{board_of}
+use Rattle.layer.specs.Held.{board_in}
 use Rattle.layer.proofs.applies.Invariants.{passed}
 use Rattle.layer.proofs.applies.Goals as goal
 
@@ -21,7 +21,7 @@ loop-i-init c = (omega arith, refl)
 
 pub offset_bounds-old-from : goal.offset_bounds-old-from
 offset_bounds-old-from c =
-    let board : Board = let a = c.args in board_of a.leaves a.actions a.bases.now a.moves.now a.costs.now a.kinds.now a.factors a.conditions.now in
+    let board : Board = let a = c.args in board_in a.board.now in
     let from : ℕ = base_on board c.loop-i.i in
     let to : ℕ = base_on board (c.loop-i.i + 1) in
     let room : (from ≤ to) × (to ≤ 1024) × (to ≤ length c.args.old.now) = let i = c.loop-i.i in let end = base_in board c.requires.0 i c.loop-i-test.true in let rise = c.requires.0.bases_rise i c.loop-i-test.true in omega (arith, end, rise, c.requires.0.few_all, c.requires.2) in
@@ -29,7 +29,7 @@ offset_bounds-old-from c =
 
 pub slice_bounds-passes-count : goal.slice_bounds-passes-count
 slice_bounds-passes-count c =
-    let board : Board = let a = c.args in board_of a.leaves a.actions a.bases.now a.moves.now a.costs.now a.kinds.now a.factors a.conditions.now in
+    let board : Board = let a = c.args in board_in a.board.now in
     let from : ℕ = base_on board c.loop-i.i in
     let to : ℕ = base_on board (c.loop-i.i + 1) in
     let room : (from ≤ to) × (to ≤ 1024) × (to ≤ length c.args.old.now) = let i = c.loop-i.i in let end = base_in board c.requires.0 i c.loop-i-test.true in let rise = c.requires.0.bases_rise i c.loop-i-test.true in omega (arith, end, rise, c.requires.0.few_all, c.requires.2) in
@@ -37,7 +37,7 @@ slice_bounds-passes-count c =
 
 pub slice_bounds-passes-start : goal.slice_bounds-passes-start
 slice_bounds-passes-start c =
-    let board : Board = let a = c.args in board_of a.leaves a.actions a.bases.now a.moves.now a.costs.now a.kinds.now a.factors a.conditions.now in
+    let board : Board = let a = c.args in board_in a.board.now in
     let from : ℕ = base_on board c.loop-i.i in
     let to : ℕ = base_on board (c.loop-i.i + 1) in
     let room : (from ≤ to) × (to ≤ 1024) × (to ≤ length c.args.old.now) = let i = c.loop-i.i in let end = base_in board c.requires.0 i c.loop-i-test.true in let rise = c.requires.0.bases_rise i c.loop-i-test.true in omega (arith, end, rise, c.requires.0.few_all, c.requires.2) in
@@ -45,7 +45,7 @@ slice_bounds-passes-start c =
 
 pub slice_bounds-passes-end : goal.slice_bounds-passes-end
 slice_bounds-passes-end c =
-    let board : Board = let a = c.args in board_of a.leaves a.actions a.bases.now a.moves.now a.costs.now a.kinds.now a.factors a.conditions.now in
+    let board : Board = let a = c.args in board_in a.board.now in
     let from : ℕ = base_on board c.loop-i.i in
     let to : ℕ = base_on board (c.loop-i.i + 1) in
     let room : (from ≤ to) × (to ≤ 1024) × (to ≤ length c.args.old.now) = let i = c.loop-i.i in let end = base_in board c.requires.0 i c.loop-i-test.true in let rise = c.requires.0.bases_rise i c.loop-i-test.true in omega (arith, end, rise, c.requires.0.few_all, c.requires.2) in
@@ -53,7 +53,7 @@ slice_bounds-passes-end c =
 
 pub overflow_mul-action : goal.overflow_mul-action
 overflow_mul-action c =
-    let board : Board = let a = c.args in board_of a.leaves a.actions a.bases.now a.moves.now a.costs.now a.kinds.now a.factors a.conditions.now in
+    let board : Board = let a = c.args in board_in a.board.now in
     let from : ℕ = base_on board c.loop-i.i in
     let to : ℕ = base_on board (c.loop-i.i + 1) in
     let in_moves : c.args.action * row_on board + from + (to - from) ≤ length c.args.moves.now = moves_here board c.requires.0 c.loop-i.i c.args.action c.loop-i-test.true c.requires.1 in
@@ -61,7 +61,7 @@ overflow_mul-action c =
 
 pub overflow_add-action : goal.overflow_add-action
 overflow_add-action c =
-    let board : Board = let a = c.args in board_of a.leaves a.actions a.bases.now a.moves.now a.costs.now a.kinds.now a.factors a.conditions.now in
+    let board : Board = let a = c.args in board_in a.board.now in
     let from : ℕ = base_on board c.loop-i.i in
     let to : ℕ = base_on board (c.loop-i.i + 1) in
     let in_moves : c.args.action * row_on board + from + (to - from) ≤ length c.args.moves.now = moves_here board c.requires.0 c.loop-i.i c.args.action c.loop-i-test.true c.requires.1 in
@@ -69,7 +69,7 @@ overflow_add-action c =
 
 pub passes-requires : goal.passes-requires
 passes-requires c =
-    let board : Board = let a = c.args in board_of a.leaves a.actions a.bases.now a.moves.now a.costs.now a.kinds.now a.factors a.conditions.now in
+    let board : Board = let a = c.args in board_in a.board.now in
     let from : ℕ = base_on board c.loop-i.i in
     let to : ℕ = base_on board (c.loop-i.i + 1) in
     let room : (from ≤ to) × (to ≤ 1024) × (to ≤ length c.args.old.now) = let i = c.loop-i.i in let end = base_in board c.requires.0 i c.loop-i-test.true in let rise = c.requires.0.bases_rise i c.loop-i-test.true in omega (arith, end, rise, c.requires.0.few_all, c.requires.2) in
@@ -79,7 +79,7 @@ passes-requires c =
 pub returns-then-not-passes : goal.returns-then-not-passes
 unfolding applies_on
 returns-then-not-passes c =
-    let board : Board = let a = c.args in board_of a.leaves a.actions a.bases.now a.moves.now a.costs.now a.kinds.now a.factors a.conditions.now in
+    let board : Board = let a = c.args in board_in a.board.now in
     let from : ℕ = base_on board c.loop-i.i in
     let to : ℕ = base_on board (c.loop-i.i + 1) in
     let room : (from ≤ to) × (to ≤ 1024) × (to ≤ length c.args.old.now) = let i = c.loop-i.i in let end = base_in board c.requires.0 i c.loop-i-test.true in let rise = c.requires.0.bases_rise i c.loop-i-test.true in omega (arith, end, rise, c.requires.0.few_all, c.requires.2) in
@@ -90,7 +90,7 @@ returns-then-not-passes c =
 pub loop-i-preserved : goal.loop-i-preserved
 unfolding passes_on
 loop-i-preserved c =
-    let board : Board = let a = c.args in board_of a.leaves a.actions a.bases.now a.moves.now a.costs.now a.kinds.now a.factors a.conditions.now in
+    let board : Board = let a = c.args in board_in a.board.now in
     let from : ℕ = base_on board c.loop-i.i in
     let to : ℕ = base_on board (c.loop-i.i + 1) in
     let room : (from ≤ to) × (to ≤ 1024) × (to ≤ length c.args.old.now) = let i = c.loop-i.i in let end = base_in board c.requires.0 i c.loop-i-test.true in let rise = c.requires.0.bases_rise i c.loop-i-test.true in omega (arith, end, rise, c.requires.0.few_all, c.requires.2) in

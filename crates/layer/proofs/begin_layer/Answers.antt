@@ -1,7 +1,7 @@
 use Rattle.std.proofs.Common.{◌≡◌, ◌∙◌, ℕ, ◌+◌, ◌*◌, ◌-◌, ◌≤◌, arith, length}
 use Rattle.layer.specs.Board.{Board, base_on, row_on, pass_on, begin_on}
 use Rattle.layer.specs.Board.Turns.{base_in, moves_here, moves_stay, leaf_passed, part_length, laid_none, laid_more, laid_unreached}
-use Rattle.layer.specs.Lent.{board_of}
+use Rattle.layer.specs.Held.{board_in}
 use Rattle.layer.proofs.begin_layer.Goals as goal
 
 pub loop-i-init : goal.loop-i-init
@@ -10,7 +10,7 @@ loop-i-init c =
 
 pub offset_bounds-old-from : goal.offset_bounds-old-from
 offset_bounds-old-from c =
-    let board : Board = let a = c.args in board_of a.leaves a.actions a.bases.now a.moves.now a.costs.now a.kinds.now a.factors a.conditions.now in
+    let board : Board = let a = c.args in board_in a.board.now in
     let from : ℕ = base_on board c.loop-i.i in
     let to : ℕ = base_on board (c.loop-i.i + 1) in
     let room : (from ≤ to) × (to ≤ 1024) × (to ≤ length c.args.old.now) × (to ≤ length c.loop-i.new) × (to ≤ row_on board) = let i = c.loop-i.i in let end = base_in board c.requires.0 i c.loop-i-test.true in let rise = c.requires.0.bases_rise i c.loop-i-test.true in omega (arith, end, rise, c.requires.0.few_all, c.requires.2, c.requires.3, c.loop-i.invariant.1.kept) in
@@ -18,7 +18,7 @@ offset_bounds-old-from c =
 
 pub slice_bounds-pass-count : goal.slice_bounds-pass-count
 slice_bounds-pass-count c =
-    let board : Board = let a = c.args in board_of a.leaves a.actions a.bases.now a.moves.now a.costs.now a.kinds.now a.factors a.conditions.now in
+    let board : Board = let a = c.args in board_in a.board.now in
     let from : ℕ = base_on board c.loop-i.i in
     let to : ℕ = base_on board (c.loop-i.i + 1) in
     let room : (from ≤ to) × (to ≤ 1024) × (to ≤ length c.args.old.now) × (to ≤ length c.loop-i.new) × (to ≤ row_on board) = let i = c.loop-i.i in let end = base_in board c.requires.0 i c.loop-i-test.true in let rise = c.requires.0.bases_rise i c.loop-i-test.true in omega (arith, end, rise, c.requires.0.few_all, c.requires.2, c.requires.3, c.loop-i.invariant.1.kept) in
@@ -26,7 +26,7 @@ slice_bounds-pass-count c =
 
 pub slice_bounds-pass-start : goal.slice_bounds-pass-start
 slice_bounds-pass-start c =
-    let board : Board = let a = c.args in board_of a.leaves a.actions a.bases.now a.moves.now a.costs.now a.kinds.now a.factors a.conditions.now in
+    let board : Board = let a = c.args in board_in a.board.now in
     let from : ℕ = base_on board c.loop-i.i in
     let to : ℕ = base_on board (c.loop-i.i + 1) in
     let room : (from ≤ to) × (to ≤ 1024) × (to ≤ length c.args.old.now) × (to ≤ length c.loop-i.new) × (to ≤ row_on board) = let i = c.loop-i.i in let end = base_in board c.requires.0 i c.loop-i-test.true in let rise = c.requires.0.bases_rise i c.loop-i-test.true in omega (arith, end, rise, c.requires.0.few_all, c.requires.2, c.requires.3, c.loop-i.invariant.1.kept) in
@@ -34,7 +34,7 @@ slice_bounds-pass-start c =
 
 pub slice_bounds-pass-end : goal.slice_bounds-pass-end
 slice_bounds-pass-end c =
-    let board : Board = let a = c.args in board_of a.leaves a.actions a.bases.now a.moves.now a.costs.now a.kinds.now a.factors a.conditions.now in
+    let board : Board = let a = c.args in board_in a.board.now in
     let from : ℕ = base_on board c.loop-i.i in
     let to : ℕ = base_on board (c.loop-i.i + 1) in
     let room : (from ≤ to) × (to ≤ 1024) × (to ≤ length c.args.old.now) × (to ≤ length c.loop-i.new) × (to ≤ row_on board) = let i = c.loop-i.i in let end = base_in board c.requires.0 i c.loop-i-test.true in let rise = c.requires.0.bases_rise i c.loop-i-test.true in omega (arith, end, rise, c.requires.0.few_all, c.requires.2, c.requires.3, c.loop-i.invariant.1.kept) in
@@ -42,7 +42,7 @@ slice_bounds-pass-end c =
 
 pub overflow_mul-action : goal.overflow_mul-action
 overflow_mul-action c =
-    let board : Board = let a = c.args in board_of a.leaves a.actions a.bases.now a.moves.now a.costs.now a.kinds.now a.factors a.conditions.now in
+    let board : Board = let a = c.args in board_in a.board.now in
     let from : ℕ = base_on board c.loop-i.i in
     let to : ℕ = base_on board (c.loop-i.i + 1) in
     let in_moves : c.args.action * row_on board + from + (to - from) ≤ length c.args.moves.now = moves_here board c.requires.0 c.loop-i.i c.args.action c.loop-i-test.true c.requires.1 in
@@ -50,7 +50,7 @@ overflow_mul-action c =
 
 pub overflow_add-action : goal.overflow_add-action
 overflow_add-action c =
-    let board : Board = let a = c.args in board_of a.leaves a.actions a.bases.now a.moves.now a.costs.now a.kinds.now a.factors a.conditions.now in
+    let board : Board = let a = c.args in board_in a.board.now in
     let from : ℕ = base_on board c.loop-i.i in
     let to : ℕ = base_on board (c.loop-i.i + 1) in
     let in_moves : c.args.action * row_on board + from + (to - from) ≤ length c.args.moves.now = moves_here board c.requires.0 c.loop-i.i c.args.action c.loop-i-test.true c.requires.1 in
@@ -58,7 +58,7 @@ overflow_add-action c =
 
 pub offset_bounds-new-from : goal.offset_bounds-new-from
 offset_bounds-new-from c =
-    let board : Board = let a = c.args in board_of a.leaves a.actions a.bases.now a.moves.now a.costs.now a.kinds.now a.factors a.conditions.now in
+    let board : Board = let a = c.args in board_in a.board.now in
     let from : ℕ = base_on board c.loop-i.i in
     let to : ℕ = base_on board (c.loop-i.i + 1) in
     let room : (from ≤ to) × (to ≤ 1024) × (to ≤ length c.args.old.now) × (to ≤ length c.loop-i.new) × (to ≤ row_on board) = let i = c.loop-i.i in let end = base_in board c.requires.0 i c.loop-i-test.true in let rise = c.requires.0.bases_rise i c.loop-i-test.true in omega (arith, end, rise, c.requires.0.few_all, c.requires.2, c.requires.3, c.loop-i.invariant.1.kept) in
@@ -66,7 +66,7 @@ offset_bounds-new-from c =
 
 pub slice_bounds-pass-count-in-loop-i : goal.slice_bounds-pass-count-in-loop-i
 slice_bounds-pass-count-in-loop-i c =
-    let board : Board = let a = c.args in board_of a.leaves a.actions a.bases.now a.moves.now a.costs.now a.kinds.now a.factors a.conditions.now in
+    let board : Board = let a = c.args in board_in a.board.now in
     let from : ℕ = base_on board c.loop-i.i in
     let to : ℕ = base_on board (c.loop-i.i + 1) in
     let room : (from ≤ to) × (to ≤ 1024) × (to ≤ length c.args.old.now) × (to ≤ length c.loop-i.new) × (to ≤ row_on board) = let i = c.loop-i.i in let end = base_in board c.requires.0 i c.loop-i-test.true in let rise = c.requires.0.bases_rise i c.loop-i-test.true in omega (arith, end, rise, c.requires.0.few_all, c.requires.2, c.requires.3, c.loop-i.invariant.1.kept) in
@@ -74,7 +74,7 @@ slice_bounds-pass-count-in-loop-i c =
 
 pub slice_bounds-pass-start-in-loop-i : goal.slice_bounds-pass-start-in-loop-i
 slice_bounds-pass-start-in-loop-i c =
-    let board : Board = let a = c.args in board_of a.leaves a.actions a.bases.now a.moves.now a.costs.now a.kinds.now a.factors a.conditions.now in
+    let board : Board = let a = c.args in board_in a.board.now in
     let from : ℕ = base_on board c.loop-i.i in
     let to : ℕ = base_on board (c.loop-i.i + 1) in
     let room : (from ≤ to) × (to ≤ 1024) × (to ≤ length c.args.old.now) × (to ≤ length c.loop-i.new) × (to ≤ row_on board) = let i = c.loop-i.i in let end = base_in board c.requires.0 i c.loop-i-test.true in let rise = c.requires.0.bases_rise i c.loop-i-test.true in omega (arith, end, rise, c.requires.0.few_all, c.requires.2, c.requires.3, c.loop-i.invariant.1.kept) in
@@ -82,7 +82,7 @@ slice_bounds-pass-start-in-loop-i c =
 
 pub slice_bounds-pass-end-in-loop-i : goal.slice_bounds-pass-end-in-loop-i
 slice_bounds-pass-end-in-loop-i c =
-    let board : Board = let a = c.args in board_of a.leaves a.actions a.bases.now a.moves.now a.costs.now a.kinds.now a.factors a.conditions.now in
+    let board : Board = let a = c.args in board_in a.board.now in
     let from : ℕ = base_on board c.loop-i.i in
     let to : ℕ = base_on board (c.loop-i.i + 1) in
     let room : (from ≤ to) × (to ≤ 1024) × (to ≤ length c.args.old.now) × (to ≤ length c.loop-i.new) × (to ≤ row_on board) = let i = c.loop-i.i in let end = base_in board c.requires.0 i c.loop-i-test.true in let rise = c.requires.0.bases_rise i c.loop-i-test.true in omega (arith, end, rise, c.requires.0.few_all, c.requires.2, c.requires.3, c.loop-i.invariant.1.kept) in
@@ -90,7 +90,7 @@ slice_bounds-pass-end-in-loop-i c =
 
 pub pass-requires : goal.pass-requires
 pass-requires c =
-    let board : Board = let a = c.args in board_of a.leaves a.actions a.bases.now a.moves.now a.costs.now a.kinds.now a.factors a.conditions.now in
+    let board : Board = let a = c.args in board_in a.board.now in
     let from : ℕ = base_on board c.loop-i.i in
     let to : ℕ = base_on board (c.loop-i.i + 1) in
     let room : (from ≤ to) × (to ≤ 1024) × (to ≤ length c.args.old.now) × (to ≤ length c.loop-i.new) × (to ≤ row_on board) = let i = c.loop-i.i in let end = base_in board c.requires.0 i c.loop-i-test.true in let rise = c.requires.0.bases_rise i c.loop-i-test.true in omega (arith, end, rise, c.requires.0.few_all, c.requires.2, c.requires.3, c.loop-i.invariant.1.kept) in
@@ -104,7 +104,7 @@ pass-requires c =
 pub loop-i-preserved : goal.loop-i-preserved
 unfolding pass_on
 loop-i-preserved c =
-    let board : Board = let a = c.args in board_of a.leaves a.actions a.bases.now a.moves.now a.costs.now a.kinds.now a.factors a.conditions.now in
+    let board : Board = let a = c.args in board_in a.board.now in
     let from : ℕ = base_on board c.loop-i.i in
     let to : ℕ = base_on board (c.loop-i.i + 1) in
     let room : (from ≤ to) × (to ≤ 1024) × (to ≤ length c.args.old.now) × (to ≤ length c.loop-i.new) × (to ≤ row_on board) = let i = c.loop-i.i in let end = base_in board c.requires.0 i c.loop-i-test.true in let rise = c.requires.0.bases_rise i c.loop-i-test.true in omega (arith, end, rise, c.requires.0.few_all, c.requires.2, c.requires.3, c.loop-i.invariant.1.kept) in

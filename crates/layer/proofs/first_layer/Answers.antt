@@ -1,7 +1,7 @@
 use Rattle.std.proofs.Common.{◌≡◌, ◌∙◌, ℕ, ◌+◌, ◌-◌, ◌≤◌, arith, length}
 use Rattle.layer.specs.Board.{Board, base_on, row_on, first_on}
 use Rattle.layer.specs.Board.Turns.{base_in, part_length, laid_none, laid_more, laid_unreached}
-use Rattle.layer.specs.Lent.{board_of}
+use Rattle.layer.specs.Held.{board_in}
 use Rattle.layer.proofs.first_layer.Goals as goal
 
 pub loop-i-init : goal.loop-i-init
@@ -10,7 +10,7 @@ loop-i-init c =
 
 pub offset_bounds-new-from : goal.offset_bounds-new-from
 offset_bounds-new-from c =
-    let board : Board = let a = c.args in board_of a.leaves a.actions a.bases.now a.moves.now a.costs.now a.kinds.now a.factors a.conditions.now in
+    let board : Board = let a = c.args in board_in a.board.now in
     let from : ℕ = base_on board c.loop-i.i in
     let to : ℕ = base_on board (c.loop-i.i + 1) in
     let room : (from ≤ to) × (to ≤ 1024) × (to ≤ length c.loop-i.new) × (to ≤ row_on board) = let i = c.loop-i.i in let end = base_in board c.requires.0 i c.loop-i-test.true in let rise = c.requires.0.bases_rise i c.loop-i-test.true in omega (arith, end, rise, c.requires.0.few_all, c.requires.1, c.loop-i.invariant.1.kept) in
@@ -18,7 +18,7 @@ offset_bounds-new-from c =
 
 pub slice_bounds-first_leaf-count : goal.slice_bounds-first_leaf-count
 slice_bounds-first_leaf-count c =
-    let board : Board = let a = c.args in board_of a.leaves a.actions a.bases.now a.moves.now a.costs.now a.kinds.now a.factors a.conditions.now in
+    let board : Board = let a = c.args in board_in a.board.now in
     let from : ℕ = base_on board c.loop-i.i in
     let to : ℕ = base_on board (c.loop-i.i + 1) in
     let room : (from ≤ to) × (to ≤ 1024) × (to ≤ length c.loop-i.new) × (to ≤ row_on board) = let i = c.loop-i.i in let end = base_in board c.requires.0 i c.loop-i-test.true in let rise = c.requires.0.bases_rise i c.loop-i-test.true in omega (arith, end, rise, c.requires.0.few_all, c.requires.1, c.loop-i.invariant.1.kept) in
@@ -26,7 +26,7 @@ slice_bounds-first_leaf-count c =
 
 pub slice_bounds-first_leaf-start : goal.slice_bounds-first_leaf-start
 slice_bounds-first_leaf-start c =
-    let board : Board = let a = c.args in board_of a.leaves a.actions a.bases.now a.moves.now a.costs.now a.kinds.now a.factors a.conditions.now in
+    let board : Board = let a = c.args in board_in a.board.now in
     let from : ℕ = base_on board c.loop-i.i in
     let to : ℕ = base_on board (c.loop-i.i + 1) in
     let room : (from ≤ to) × (to ≤ 1024) × (to ≤ length c.loop-i.new) × (to ≤ row_on board) = let i = c.loop-i.i in let end = base_in board c.requires.0 i c.loop-i-test.true in let rise = c.requires.0.bases_rise i c.loop-i-test.true in omega (arith, end, rise, c.requires.0.few_all, c.requires.1, c.loop-i.invariant.1.kept) in
@@ -34,7 +34,7 @@ slice_bounds-first_leaf-start c =
 
 pub slice_bounds-first_leaf-end : goal.slice_bounds-first_leaf-end
 slice_bounds-first_leaf-end c =
-    let board : Board = let a = c.args in board_of a.leaves a.actions a.bases.now a.moves.now a.costs.now a.kinds.now a.factors a.conditions.now in
+    let board : Board = let a = c.args in board_in a.board.now in
     let from : ℕ = base_on board c.loop-i.i in
     let to : ℕ = base_on board (c.loop-i.i + 1) in
     let room : (from ≤ to) × (to ≤ 1024) × (to ≤ length c.loop-i.new) × (to ≤ row_on board) = let i = c.loop-i.i in let end = base_in board c.requires.0 i c.loop-i-test.true in let rise = c.requires.0.bases_rise i c.loop-i-test.true in omega (arith, end, rise, c.requires.0.few_all, c.requires.1, c.loop-i.invariant.1.kept) in
@@ -42,7 +42,7 @@ slice_bounds-first_leaf-end c =
 
 pub first_leaf-requires : goal.first_leaf-requires
 first_leaf-requires c =
-    let board : Board = let a = c.args in board_of a.leaves a.actions a.bases.now a.moves.now a.costs.now a.kinds.now a.factors a.conditions.now in
+    let board : Board = let a = c.args in board_in a.board.now in
     let from : ℕ = base_on board c.loop-i.i in
     let to : ℕ = base_on board (c.loop-i.i + 1) in
     let room : (from ≤ to) × (to ≤ 1024) × (to ≤ length c.loop-i.new) × (to ≤ row_on board) = let i = c.loop-i.i in let end = base_in board c.requires.0 i c.loop-i-test.true in let rise = c.requires.0.bases_rise i c.loop-i-test.true in omega (arith, end, rise, c.requires.0.few_all, c.requires.1, c.loop-i.invariant.1.kept) in
@@ -56,7 +56,7 @@ first_leaf-requires c =
 
 pub loop-i-preserved : goal.loop-i-preserved
 loop-i-preserved c =
-    let board : Board = let a = c.args in board_of a.leaves a.actions a.bases.now a.moves.now a.costs.now a.kinds.now a.factors a.conditions.now in
+    let board : Board = let a = c.args in board_in a.board.now in
     let from : ℕ = base_on board c.loop-i.i in
     let to : ℕ = base_on board (c.loop-i.i + 1) in
     let room : (from ≤ to) × (to ≤ 1024) × (to ≤ length c.loop-i.new) × (to ≤ row_on board) = let i = c.loop-i.i in let end = base_in board c.requires.0 i c.loop-i-test.true in let rise = c.requires.0.bases_rise i c.loop-i-test.true in omega (arith, end, rise, c.requires.0.few_all, c.requires.1, c.loop-i.invariant.1.kept) in

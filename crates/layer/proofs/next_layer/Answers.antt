@@ -2,7 +2,7 @@
 use Rattle.std.proofs.Common.{◌∙◌}
 use Rattle.layer.specs.Board.{Board}
 use Rattle.layer.specs.Board.Begin.{begin_next}
-use Rattle.layer.specs.Lent.{board_of}
+use Rattle.layer.specs.Held.{board_in}
 use Rattle.layer.proofs.next_layer.Goals as goal
 use Rattle.layer.proofs.next_layer.Goals.{Start}
 
@@ -10,7 +10,7 @@ use Rattle.layer.proofs.next_layer.Goals.{Start}
 abbrev board : Start → Board
 board s =
     let a = s.args in
-    board_of a.leaves a.actions a.bases.now a.moves.now a.costs.now a.kinds.now a.factors a.conditions.now
+    board_in a.board.now
 
 pub returns : goal.returns
 returns c =

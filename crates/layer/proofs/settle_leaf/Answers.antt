@@ -3,7 +3,7 @@
 use Rattle.std.proofs.Common.{◌≡◌, ◌∙◌, arith, length, take, length-take}
 use Rattle.layer.specs.Board.{Board, enabled_on}
 use Rattle.layer.specs.Board.Turns.{enabled_part, front_these, front_many, leaf_lent, leaf_settled}
-use Rattle.layer.specs.Lent.{board_of}
+use Rattle.layer.specs.Held.{board_in}
 use Rattle.layer.proofs.settle_leaf.Goals as goal
 
 pub slice_bounds-acts-end : goal.slice_bounds-acts-end
@@ -18,7 +18,7 @@ slice_bounds-settle-end c =
 
 pub settle-requires : goal.settle-requires
 settle-requires c =
-    let board : Board = let a = c.args in board_of a.leaves a.actions a.bases.now a.moves.now a.costs.now a.kinds.now a.factors a.conditions.now in
+    let board : Board = let a = c.args in board_in a.board.now in
     let front : take c.enabled-count.result c.enabled-count.new.acts ≡ enabled_on board c.args.i c.args.centre c.args.actions = front_these c.enabled-count.ensures ∙ enabled_part board c.args.i c.args.centre c.args.actions in
     let counted : c.enabled-count.result ≡ length (take c.enabled-count.result c.enabled-count.new.acts) = front_many c.enabled-count.ensures in
     let i = c.args.i in (
@@ -28,7 +28,7 @@ settle-requires c =
 
 pub returns : goal.returns
 returns c =
-    let board : Board = let a = c.args in board_of a.leaves a.actions a.bases.now a.moves.now a.costs.now a.kinds.now a.factors a.conditions.now in
+    let board : Board = let a = c.args in board_in a.board.now in
     let front : take c.enabled-count.result c.enabled-count.new.acts ≡ enabled_on board c.args.i c.args.centre c.args.actions = front_these c.enabled-count.ensures ∙ enabled_part board c.args.i c.args.centre c.args.actions in
     let counted : c.enabled-count.result ≡ length (take c.enabled-count.result c.enabled-count.new.acts) = front_many c.enabled-count.ensures in
     c.settle.ensures ∙ leaf_settled board c.args.i c.args.centre _ _ front counted c.args.prices.now

@@ -2,7 +2,7 @@
 use Rattle.std.proofs.Common.{◌≡◌, refl, sym, ap, ◌∙◌, List, ℕ, ◌+◌, ◌≤◌, ◌<◌, arith, ltb, length, set, take, length-set, length-take-le, rules, lt-ltb, le-ltb}
 use Rattle.loops.specs.Count.{any}
 use Rattle.layer.specs.Board.{Board, row_on}
-use Rattle.layer.specs.Lent.{board_of}
+use Rattle.layer.specs.Held.{board_in}
 use Rattle.search.specs.Node.{dominates}
 use Rattle.rows.specs.Begun.{begun_words, read_begun, read_long, read_reaches}
 use Rattle.rows.specs.Reach.{Reaches, reaches_front}
@@ -17,7 +17,7 @@ use Rattle.offers.proofs.offer.Goals as goal
 
 pub returns-then-key-run : goal.returns-then-key-run
 returns-then-key-run c =
-    let board : Board = let a = c.args in board_of a.leaves a.actions a.bases.now a.moves.now a.costs.now a.kinds.now a.factors a.conditions.now in
+    let board : Board = let a = c.args in board_in a.board.now in
     let begun : List ℕ = let a = c.args in begun_words a.still (row_on board) a.old.now a.begin.now in
     let a = c.args in record {
       offered = offered_above board a.goals.now a.goal a.nodes a.table.now a.scan.now a.run
@@ -67,7 +67,7 @@ slice_bounds-list_of-end-2 c =
 
 pub dominator-found-requires : goal.dominator-found-requires
 dominator-found-requires c =
-    let board : Board = let a = c.args in board_of a.leaves a.actions a.bases.now a.moves.now a.costs.now a.kinds.now a.factors a.conditions.now in
+    let board : Board = let a = c.args in board_in a.board.now in
     let begun : List ℕ = let a = c.args in begun_words a.still (row_on board) a.old.now a.begin.now in
     let read_is : take (row_on board) c.read_from.result.now ≡ take (row_on board) begun = let a = c.args in ap (take (row_on board)) c.read_from.ensures ∙ read_begun a.still (row_on board) a.old.now a.begin.now c.requires.sign_value.1 in
     let made : List ℕ = c.list_begin-many.new.room in
@@ -111,7 +111,7 @@ shape_of-room-then-found-gt0 c =
 
 pub returns-then-found-gt0 : goal.returns-then-found-gt0
 returns-then-found-gt0 c =
-    let board : Board = let a = c.args in board_of a.leaves a.actions a.bases.now a.moves.now a.costs.now a.kinds.now a.factors a.conditions.now in
+    let board : Board = let a = c.args in board_in a.board.now in
     let begun : List ℕ = let a = c.args in begun_words a.still (row_on board) a.old.now a.begin.now in
     let read_is : take (row_on board) c.read_from.result.now ≡ take (row_on board) begun = let a = c.args in ap (take (row_on board)) c.read_from.ensures ∙ read_begun a.still (row_on board) a.old.now a.begin.now c.requires.sign_value.1 in
     let found_is : let a = c.args in ltb 0 c.dominator-found.result ≡ any a.run.count (λ u. dominates (node_in (row_on board) a.table.now u) (node_with a.spot a.paid (take (row_on board) begun) 0 0)) = let a = c.args in rw read_is at (dominator_tells (row_on board) a.table.now a.run.count (node_with a.spot a.paid (take (row_on board) c.read_from.result.now) 0 0) c.dominator-found.result c.dominator-found.ensures) in
@@ -131,7 +131,7 @@ shape_of-room-then-count-nodes c =
 
 pub returns-then-count-nodes : goal.returns-then-count-nodes
 returns-then-count-nodes c =
-    let board : Board = let a = c.args in board_of a.leaves a.actions a.bases.now a.moves.now a.costs.now a.kinds.now a.factors a.conditions.now in
+    let board : Board = let a = c.args in board_in a.board.now in
     let begun : List ℕ = let a = c.args in begun_words a.still (row_on board) a.old.now a.begin.now in
     let read_is : take (row_on board) c.read_from.result.now ≡ take (row_on board) begun = let a = c.args in ap (take (row_on board)) c.read_from.ensures ∙ read_begun a.still (row_on board) a.old.now a.begin.now c.requires.sign_value.1 in
     let found_is : let a = c.args in ltb 0 c.dominator-found.result ≡ any a.run.count (λ u. dominates (node_in (row_on board) a.table.now u) (node_with a.spot a.paid (take (row_on board) begun) 0 0)) = let a = c.args in rw read_is at (dominator_tells (row_on board) a.table.now a.run.count (node_with a.spot a.paid (take (row_on board) c.read_from.result.now) 0 0) c.dominator-found.result c.dominator-found.ensures) in
@@ -153,7 +153,7 @@ settle_begin-swept-requires c =
 
 pub keep-more-requires : goal.keep-more-requires
 keep-more-requires c =
-    let board : Board = let a = c.args in board_of a.leaves a.actions a.bases.now a.moves.now a.costs.now a.kinds.now a.factors a.conditions.now in
+    let board : Board = let a = c.args in board_in a.board.now in
     let filled : length c.fill_begin.new.begin ≡ length c.args.begin.now = c.fill_begin.auto.begin in
     let n = c.settle_begin-swept in
     let room = c.requires.room in
@@ -177,7 +177,7 @@ shape_of-room c =
 
 pub returns : goal.returns
 returns c =
-    let board : Board = let a = c.args in board_of a.leaves a.actions a.bases.now a.moves.now a.costs.now a.kinds.now a.factors a.conditions.now in
+    let board : Board = let a = c.args in board_in a.board.now in
     let begun : List ℕ = let a = c.args in begun_words a.still (row_on board) a.old.now a.begin.now in
     let read_is : take (row_on board) c.read_from.result.now ≡ take (row_on board) begun = let a = c.args in ap (take (row_on board)) c.read_from.ensures ∙ read_begun a.still (row_on board) a.old.now a.begin.now c.requires.sign_value.1 in
     let found_is : let a = c.args in ltb 0 c.dominator-found.result ≡ any a.run.count (λ u. dominates (node_in (row_on board) a.table.now u) (node_with a.spot a.paid (take (row_on board) begun) 0 0)) = let a = c.args in rw read_is at (dominator_tells (row_on board) a.table.now a.run.count (node_with a.spot a.paid (take (row_on board) c.read_from.result.now) 0 0) c.dominator-found.result c.dominator-found.ensures) in

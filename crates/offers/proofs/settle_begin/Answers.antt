@@ -1,7 +1,7 @@
 -- `offers::settle_begin` meets its contract: the flags in the slot are those of the centre state. Assumes nothing.
 use Rattle.std.proofs.Common.{◌+◌, ◌≤◌, arith, length, rules}
 use Rattle.layer.specs.Board.{Board}
-use Rattle.layer.specs.Lent.{board_of}
+use Rattle.layer.specs.Held.{board_in}
 use Rattle.mets.specs.Known.{firsts_asks, known_asks, asks_known, asks_told, told_mets}
 use Rattle.offers.proofs.settle_begin.Goals as goal
 use Rattle.offers.proofs.settle_begin.Goals.{Start}
@@ -10,7 +10,7 @@ use Rattle.offers.proofs.settle_begin.Goals.{Start}
 abbrev board : Start → Board
 board s =
     let a = s.args in
-    board_of a.leaves a.actions a.bases.now a.moves.now a.costs.now a.kinds.now a.factors a.conditions.now
+    board_in a.board.now
 
 pub slot_for-slot-requires : goal.slot_for-slot-requires
 slot_for-slot-requires c =

@@ -3,7 +3,7 @@ use Rattle.std.proofs.Common.{◌≡◌, sym, ◌∙◌, arith, length}
 use Rattle.leaf.specs.Price.{mark}
 use Rattle.leaf.specs.Settle.Turns.{take_replicate}
 use Rattle.layer.specs.Board.{Board}
-use Rattle.layer.specs.Lent.{board_of}
+use Rattle.layer.specs.Held.{board_in}
 use Rattle.paths.specs.Paths.Laws.{stepped_not, stepped_on}
 use Rattle.paths.proofs.advance.Goals as goal
 use Rattle.paths.proofs.advance.Goals.{Start}
@@ -12,7 +12,7 @@ use Rattle.paths.proofs.advance.Goals.{Start}
 abbrev board : Start → Board
 board s =
     let a = s.args in
-    board_of a.leaves a.actions a.bases.now a.moves.now a.costs.now a.kinds.now a.factors a.conditions.now
+    board_in a.board.now
 
 pub returns-then-not-applies : goal.returns-then-not-applies
 returns-then-not-applies c =

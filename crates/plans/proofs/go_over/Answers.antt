@@ -1,6 +1,6 @@
 use Rattle.std.proofs.Common.{sym, subst, ℕ, ◌-◌, ◌<◌, le_antisymm, arith, length}
 use Rattle.layer.specs.Board.{Board, row_on}
-use Rattle.layer.specs.Lent.{board_of}
+use Rattle.layer.specs.Held.{board_in}
 use Rattle.plans.specs.Walk.{RowIn}
 use Rattle.plans.specs.Walk.Turns.{over_none, over_more}
 use Rattle.plans.proofs.go_over.Goals as goal
@@ -26,7 +26,7 @@ bounds-ends-i c =
 
 pub leaf_over-requires : goal.leaf_over-requires
 leaf_over-requires c =
-    let board : Board = let a = c.args in board_of a.leaves a.actions a.bases.now a.moves.now a.costs.now a.kinds.now a.factors a.conditions.now in
+    let board : Board = let a = c.args in board_in a.board.now in
     let l = c.loop-i in
     let i = c.loop-i-test.true in
     let row = subst (λ (p : ℕ). RowIn (row_on board) c.args.table.now p) (sym c.parent_of-parent.ensures) c.requires.row_in.1 in

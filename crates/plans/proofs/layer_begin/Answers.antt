@@ -5,34 +5,34 @@ use Rattle.leaf.specs.Price.{mark}
 use Rattle.leaf.specs.Pass.{pass}
 use Rattle.layer.specs.Board.{Board, base_on, row_on, states_on}
 use Rattle.layer.specs.Board.Turns.{base_in, row_in, moves_here, moves_stay}
-use Rattle.layer.specs.Lent.{board_of}
+use Rattle.layer.specs.Held.{board_in}
 use Rattle.plans.specs.Walk.{RowIn}
 use Rattle.plans.specs.Walk.Laws.{slice_on, slice_length, begins_first, begins_passed}
 use Rattle.plans.proofs.layer_begin.Goals as goal
 
 pub offset_bounds-out-starts : goal.offset_bounds-out-starts
 offset_bounds-out-starts c =
-    let board : Board = let a = c.args in board_of a.leaves a.actions a.bases.now a.moves.now a.costs.now a.kinds.now a.factors a.conditions.now in
+    let board : Board = let a = c.args in board_in a.board.now in
     let long : length c.args.out.now ≡ states_on board c.args.i = ap length c.requires.2 ∙ length-replicate _ _ in
     let begin : (get_or c.args.starts.now c.args.i 0 < length c.args.out.now) × (states_on board c.args.i ≤ 256) = omega (arith, c.requires.0.starts_in c.args.i c.requires.1, long, c.requires.0.sound.few_states c.args.i c.requires.1) in
     omega (arith, begin)
 
 pub bounds-out-starts : goal.bounds-out-starts
 bounds-out-starts c =
-    let board : Board = let a = c.args in board_of a.leaves a.actions a.bases.now a.moves.now a.costs.now a.kinds.now a.factors a.conditions.now in
+    let board : Board = let a = c.args in board_in a.board.now in
     let long : length c.args.out.now ≡ states_on board c.args.i = ap length c.requires.2 ∙ length-replicate _ _ in
     let begin : (get_or c.args.starts.now c.args.i 0 < length c.args.out.now) × (states_on board c.args.i ≤ 256) = omega (arith, c.requires.0.starts_in c.args.i c.requires.1, long, c.requires.0.sound.few_states c.args.i c.requires.1) in
     omega (arith, begin)
 
 pub returns-then-node-eq0 : goal.returns-then-node-eq0
 returns-then-node-eq0 c =
-    let board : Board = let a = c.args in board_of a.leaves a.actions a.bases.now a.moves.now a.costs.now a.kinds.now a.factors a.conditions.now in
+    let board : Board = let a = c.args in board_in a.board.now in
     let a = c.args in
     begins_first board a.starts.now a.table.now a.i a.node a.out.now c.if-node-eq0.true c.requires.2
 
 pub overflow_mul-from : goal.overflow_mul-from
 overflow_mul-from c =
-    let board : Board = let a = c.args in board_of a.leaves a.actions a.bases.now a.moves.now a.costs.now a.kinds.now a.factors a.conditions.now in
+    let board : Board = let a = c.args in board_in a.board.now in
     let long : length c.args.out.now ≡ states_on board c.args.i = ap length c.requires.2 ∙ length-replicate _ _ in
     let room : let b = board in RowIn (row_on b) c.args.table.now c.parent_of-parent.result × (base_on b c.args.i + length c.args.out.now ≤ row_on b) × (row_on b ≤ 1024) × (c.action_of-action.result < c.args.actions) × (c.action_of-action.result * row_on b + row_on b ≤ length c.args.moves.now) = let z : 0 < c.args.node = omega arith in
     let known : c.action_of-action.result < c.args.actions = omega (arith, c.requires.0.known z, c.action_of-action.ensures) in
@@ -47,7 +47,7 @@ overflow_mul-from c =
 
 pub overflow_add-from-2 : goal.overflow_add-from-2
 overflow_add-from-2 c =
-    let board : Board = let a = c.args in board_of a.leaves a.actions a.bases.now a.moves.now a.costs.now a.kinds.now a.factors a.conditions.now in
+    let board : Board = let a = c.args in board_in a.board.now in
     let long : length c.args.out.now ≡ states_on board c.args.i = ap length c.requires.2 ∙ length-replicate _ _ in
     let room : let b = board in RowIn (row_on b) c.args.table.now c.parent_of-parent.result × (base_on b c.args.i + length c.args.out.now ≤ row_on b) × (row_on b ≤ 1024) × (c.action_of-action.result < c.args.actions) × (c.action_of-action.result * row_on b + row_on b ≤ length c.args.moves.now) = let z : 0 < c.args.node = omega arith in
     let known : c.action_of-action.result < c.args.actions = omega (arith, c.requires.0.known z, c.action_of-action.ensures) in
@@ -62,7 +62,7 @@ overflow_add-from-2 c =
 
 pub overflow_add-from-3 : goal.overflow_add-from-3
 overflow_add-from-3 c =
-    let board : Board = let a = c.args in board_of a.leaves a.actions a.bases.now a.moves.now a.costs.now a.kinds.now a.factors a.conditions.now in
+    let board : Board = let a = c.args in board_in a.board.now in
     let long : length c.args.out.now ≡ states_on board c.args.i = ap length c.requires.2 ∙ length-replicate _ _ in
     let room : let b = board in RowIn (row_on b) c.args.table.now c.parent_of-parent.result × (base_on b c.args.i + length c.args.out.now ≤ row_on b) × (row_on b ≤ 1024) × (c.action_of-action.result < c.args.actions) × (c.action_of-action.result * row_on b + row_on b ≤ length c.args.moves.now) = let z : 0 < c.args.node = omega arith in
     let known : c.action_of-action.result < c.args.actions = omega (arith, c.requires.0.known z, c.action_of-action.ensures) in
@@ -77,7 +77,7 @@ overflow_add-from-3 c =
 
 pub overflow_add-from-4 : goal.overflow_add-from-4
 overflow_add-from-4 c =
-    let board : Board = let a = c.args in board_of a.leaves a.actions a.bases.now a.moves.now a.costs.now a.kinds.now a.factors a.conditions.now in
+    let board : Board = let a = c.args in board_in a.board.now in
     let long : length c.args.out.now ≡ states_on board c.args.i = ap length c.requires.2 ∙ length-replicate _ _ in
     let room : let b = board in RowIn (row_on b) c.args.table.now c.parent_of-parent.result × (base_on b c.args.i + length c.args.out.now ≤ row_on b) × (row_on b ≤ 1024) × (c.action_of-action.result < c.args.actions) × (c.action_of-action.result * row_on b + row_on b ≤ length c.args.moves.now) = let z : 0 < c.args.node = omega arith in
     let known : c.action_of-action.result < c.args.actions = omega (arith, c.requires.0.known z, c.action_of-action.ensures) in
@@ -92,7 +92,7 @@ overflow_add-from-4 c =
 
 pub offset_bounds-table-from : goal.offset_bounds-table-from
 offset_bounds-table-from c =
-    let board : Board = let a = c.args in board_of a.leaves a.actions a.bases.now a.moves.now a.costs.now a.kinds.now a.factors a.conditions.now in
+    let board : Board = let a = c.args in board_in a.board.now in
     let long : length c.args.out.now ≡ states_on board c.args.i = ap length c.requires.2 ∙ length-replicate _ _ in
     let room : let b = board in RowIn (row_on b) c.args.table.now c.parent_of-parent.result × (base_on b c.args.i + length c.args.out.now ≤ row_on b) × (row_on b ≤ 1024) × (c.action_of-action.result < c.args.actions) × (c.action_of-action.result * row_on b + row_on b ≤ length c.args.moves.now) = let z : 0 < c.args.node = omega arith in
     let known : c.action_of-action.result < c.args.actions = omega (arith, c.requires.0.known z, c.action_of-action.ensures) in
@@ -107,7 +107,7 @@ offset_bounds-table-from c =
 
 pub slice_bounds-pass-end : goal.slice_bounds-pass-end
 slice_bounds-pass-end c =
-    let board : Board = let a = c.args in board_of a.leaves a.actions a.bases.now a.moves.now a.costs.now a.kinds.now a.factors a.conditions.now in
+    let board : Board = let a = c.args in board_in a.board.now in
     let long : length c.args.out.now ≡ states_on board c.args.i = ap length c.requires.2 ∙ length-replicate _ _ in
     let room : let b = board in RowIn (row_on b) c.args.table.now c.parent_of-parent.result × (base_on b c.args.i + length c.args.out.now ≤ row_on b) × (row_on b ≤ 1024) × (c.action_of-action.result < c.args.actions) × (c.action_of-action.result * row_on b + row_on b ≤ length c.args.moves.now) = let z : 0 < c.args.node = omega arith in
     let known : c.action_of-action.result < c.args.actions = omega (arith, c.requires.0.known z, c.action_of-action.ensures) in
@@ -122,7 +122,7 @@ slice_bounds-pass-end c =
 
 pub overflow_mul-action : goal.overflow_mul-action
 overflow_mul-action c =
-    let board : Board = let a = c.args in board_of a.leaves a.actions a.bases.now a.moves.now a.costs.now a.kinds.now a.factors a.conditions.now in
+    let board : Board = let a = c.args in board_in a.board.now in
     let long : length c.args.out.now ≡ states_on board c.args.i = ap length c.requires.2 ∙ length-replicate _ _ in
     let room : let b = board in RowIn (row_on b) c.args.table.now c.parent_of-parent.result × (base_on b c.args.i + length c.args.out.now ≤ row_on b) × (row_on b ≤ 1024) × (c.action_of-action.result < c.args.actions) × (c.action_of-action.result * row_on b + row_on b ≤ length c.args.moves.now) = let z : 0 < c.args.node = omega arith in
     let known : c.action_of-action.result < c.args.actions = omega (arith, c.requires.0.known z, c.action_of-action.ensures) in
@@ -137,7 +137,7 @@ overflow_mul-action c =
 
 pub overflow_add-action : goal.overflow_add-action
 overflow_add-action c =
-    let board : Board = let a = c.args in board_of a.leaves a.actions a.bases.now a.moves.now a.costs.now a.kinds.now a.factors a.conditions.now in
+    let board : Board = let a = c.args in board_in a.board.now in
     let long : length c.args.out.now ≡ states_on board c.args.i = ap length c.requires.2 ∙ length-replicate _ _ in
     let room : let b = board in RowIn (row_on b) c.args.table.now c.parent_of-parent.result × (base_on b c.args.i + length c.args.out.now ≤ row_on b) × (row_on b ≤ 1024) × (c.action_of-action.result < c.args.actions) × (c.action_of-action.result * row_on b + row_on b ≤ length c.args.moves.now) = let z : 0 < c.args.node = omega arith in
     let known : c.action_of-action.result < c.args.actions = omega (arith, c.requires.0.known z, c.action_of-action.ensures) in
@@ -152,7 +152,7 @@ overflow_add-action c =
 
 pub pass-requires : goal.pass-requires
 pass-requires c =
-    let board : Board = let a = c.args in board_of a.leaves a.actions a.bases.now a.moves.now a.costs.now a.kinds.now a.factors a.conditions.now in
+    let board : Board = let a = c.args in board_in a.board.now in
     let long : length c.args.out.now ≡ states_on board c.args.i = ap length c.requires.2 ∙ length-replicate _ _ in
     let room : let b = board in RowIn (row_on b) c.args.table.now c.parent_of-parent.result × (base_on b c.args.i + length c.args.out.now ≤ row_on b) × (row_on b ≤ 1024) × (c.action_of-action.result < c.args.actions) × (c.action_of-action.result * row_on b + row_on b ≤ length c.args.moves.now) = let z : 0 < c.args.node = omega arith in
     let known : c.action_of-action.result < c.args.actions = omega (arith, c.requires.0.known z, c.action_of-action.ensures) in
@@ -174,7 +174,7 @@ pass-requires c =
 
 pub returns : goal.returns
 returns c =
-    let board : Board = let a = c.args in board_of a.leaves a.actions a.bases.now a.moves.now a.costs.now a.kinds.now a.factors a.conditions.now in
+    let board : Board = let a = c.args in board_in a.board.now in
     let long : length c.args.out.now ≡ states_on board c.args.i = ap length c.requires.2 ∙ length-replicate _ _ in
     let room : let b = board in RowIn (row_on b) c.args.table.now c.parent_of-parent.result × (base_on b c.args.i + length c.args.out.now ≤ row_on b) × (row_on b ≤ 1024) × (c.action_of-action.result < c.args.actions) × (c.action_of-action.result * row_on b + row_on b ≤ length c.args.moves.now) = let z : 0 < c.args.node = omega arith in
     let known : c.action_of-action.result < c.args.actions = omega (arith, c.requires.0.known z, c.action_of-action.ensures) in

@@ -2,7 +2,7 @@
 use Rattle.std.proofs.Common.{◌≡◌, ap, ◌∙◌, ℕ, ◌+◌, ◌-◌, ◌*◌, ◌≤◌, ◌<◌, ◌^◌, arith, length, take, drop}
 use Rattle.layer.specs.Board.{Board, base_on, row_on, states_on}
 use Rattle.layer.specs.Board.Turns.{base_in, row_in, moves_here}
-use Rattle.layer.specs.Lent.{board_of}
+use Rattle.layer.specs.Held.{board_in}
 use Rattle.plans.specs.Walk.{RowIn}
 use Rattle.plans.specs.Walk.Laws.{slice_on, slice_is, slice_length, price_at, over_here}
 use Rattle.plans.proofs.leaf_over.Goals as goal
@@ -12,7 +12,7 @@ use Rattle.plans.proofs.leaf_over.Goals.{Start}
 abbrev board : Start → Board
 board s =
     let a = s.args in
-    board_of a.leaves a.actions a.bases.now a.moves.now a.costs.now a.kinds.now a.factors a.conditions.now
+    board_in a.board.now
 
 -- the leaf lies within both rows, and the action's moves within the table of moves
 room : (s : Start) → let b = board s in let a = s.args in

@@ -1,7 +1,7 @@
 -- `plans::node_back` meets its contract: the layer, the action before it, and over the action. Assumes nothing.
 use Rattle.std.proofs.Common.{◌+◌, ◌≤◌, arith, get_or}
 use Rattle.layer.specs.Board.{Board}
-use Rattle.layer.specs.Lent.{board_of}
+use Rattle.layer.specs.Held.{board_in}
 use Rattle.plans.specs.Walk.{over_on}
 use Rattle.plans.specs.Walk.Turns.{node_done}
 use Rattle.plans.specs.Steps.{layer_few}
@@ -35,13 +35,13 @@ go_over-requires c =
 
 pub overflow_add-result : goal.overflow_add-result
 overflow_add-result c =
-    let board : Board = let a = c.args in board_of a.leaves a.actions a.bases.now a.moves.now a.costs.now a.kinds.now a.factors a.conditions.now in
+    let board : Board = let a = c.args in board_in a.board.now in
     let room : c.layer_back-behind.result + 1 ≤ 18446744073709551615 = let a = c.args in let few = layer_few board c.requires.standing.0.sound a.starts.now a.table.now a.node (λ i. get_or a.ends.now i 0) c.requires.by_index in omega (arith, c.layer_back-behind.ensures.place, few, c.requires.standing.0.sound.few_all, c.requires.leaves_in_bounds.3) in
     omega (arith, room)
 
 pub returns : goal.returns
 returns c =
-    let board : Board = let a = c.args in board_of a.leaves a.actions a.bases.now a.moves.now a.costs.now a.kinds.now a.factors a.conditions.now in
+    let board : Board = let a = c.args in board_in a.board.now in
     let a = c.args in
     node_done a.leaves _ (λ i z. over_on board a.table.now i a.node z) a.total a.place a.plan.now _ _ _ _ _ _ _
     c.layer_back-behind.ensures c.put.ensures c.action_of-action.ensures c.go_over.ensures

@@ -2,7 +2,7 @@ use Rattle.std.proofs.Common.{◌≡◌, refl, ap, ◌∙◌, List, ℕ, ◌+◌
 use Rattle.loops.specs.Count.{any}
 use Rattle.layer.specs.Board.{Board, base_on, settle_on, settled_on}
 use Rattle.layer.specs.Board.Turns.{base_in, part_length, laid_none, laid_more, laid_rest}
-use Rattle.layer.specs.Lent.{board_of}
+use Rattle.layer.specs.Held.{board_in}
 use Rattle.leaf.specs.Settle.Sweeps.{or_false}
 use Rattle.sweeps.specs.Sweeps.{swept_by}
 use Rattle.sweeps.specs.Sweeps.Still.{any_next, put_back}
@@ -15,7 +15,7 @@ loop-i-init c =
 
 pub offset_bounds-new-from : goal.offset_bounds-new-from
 offset_bounds-new-from c =
-    let board : Board = let a = c.args in board_of a.leaves a.actions a.bases.now a.moves.now a.costs.now a.kinds.now a.factors a.conditions.now in
+    let board : Board = let a = c.args in board_in a.board.now in
     let from : ℕ = base_on board c.loop-i.i in
     let to : ℕ = base_on board (c.loop-i.i + 1) in
     let room : (from ≤ to) × (to ≤ 1024) × (to ≤ length c.loop-i.new) = let i = c.loop-i.i in let end = base_in board c.requires.0 i c.loop-i-test.true in let rise = c.requires.0.bases_rise i c.loop-i-test.true in omega (arith, end, rise, c.requires.0.few_all, c.requires.3, c.loop-i.invariant.1.kept) in
@@ -23,7 +23,7 @@ offset_bounds-new-from c =
 
 pub slice_bounds-settle_leaf-count : goal.slice_bounds-settle_leaf-count
 slice_bounds-settle_leaf-count c =
-    let board : Board = let a = c.args in board_of a.leaves a.actions a.bases.now a.moves.now a.costs.now a.kinds.now a.factors a.conditions.now in
+    let board : Board = let a = c.args in board_in a.board.now in
     let from : ℕ = base_on board c.loop-i.i in
     let to : ℕ = base_on board (c.loop-i.i + 1) in
     let room : (from ≤ to) × (to ≤ 1024) × (to ≤ length c.loop-i.new) = let i = c.loop-i.i in let end = base_in board c.requires.0 i c.loop-i-test.true in let rise = c.requires.0.bases_rise i c.loop-i-test.true in omega (arith, end, rise, c.requires.0.few_all, c.requires.3, c.loop-i.invariant.1.kept) in
@@ -31,7 +31,7 @@ slice_bounds-settle_leaf-count c =
 
 pub slice_bounds-settle_leaf-start : goal.slice_bounds-settle_leaf-start
 slice_bounds-settle_leaf-start c =
-    let board : Board = let a = c.args in board_of a.leaves a.actions a.bases.now a.moves.now a.costs.now a.kinds.now a.factors a.conditions.now in
+    let board : Board = let a = c.args in board_in a.board.now in
     let from : ℕ = base_on board c.loop-i.i in
     let to : ℕ = base_on board (c.loop-i.i + 1) in
     let room : (from ≤ to) × (to ≤ 1024) × (to ≤ length c.loop-i.new) = let i = c.loop-i.i in let end = base_in board c.requires.0 i c.loop-i-test.true in let rise = c.requires.0.bases_rise i c.loop-i-test.true in omega (arith, end, rise, c.requires.0.few_all, c.requires.3, c.loop-i.invariant.1.kept) in
@@ -39,7 +39,7 @@ slice_bounds-settle_leaf-start c =
 
 pub slice_bounds-settle_leaf-end : goal.slice_bounds-settle_leaf-end
 slice_bounds-settle_leaf-end c =
-    let board : Board = let a = c.args in board_of a.leaves a.actions a.bases.now a.moves.now a.costs.now a.kinds.now a.factors a.conditions.now in
+    let board : Board = let a = c.args in board_in a.board.now in
     let from : ℕ = base_on board c.loop-i.i in
     let to : ℕ = base_on board (c.loop-i.i + 1) in
     let room : (from ≤ to) × (to ≤ 1024) × (to ≤ length c.loop-i.new) = let i = c.loop-i.i in let end = base_in board c.requires.0 i c.loop-i-test.true in let rise = c.requires.0.bases_rise i c.loop-i-test.true in omega (arith, end, rise, c.requires.0.few_all, c.requires.3, c.loop-i.invariant.1.kept) in
@@ -47,7 +47,7 @@ slice_bounds-settle_leaf-end c =
 
 pub settle_leaf-one-requires : goal.settle_leaf-one-requires
 settle_leaf-one-requires c =
-    let board : Board = let a = c.args in board_of a.leaves a.actions a.bases.now a.moves.now a.costs.now a.kinds.now a.factors a.conditions.now in
+    let board : Board = let a = c.args in board_in a.board.now in
     let from : ℕ = base_on board c.loop-i.i in
     let to : ℕ = base_on board (c.loop-i.i + 1) in
     let room : (from ≤ to) × (to ≤ 1024) × (to ≤ length c.loop-i.new) = let i = c.loop-i.i in let end = base_in board c.requires.0 i c.loop-i-test.true in let rise = c.requires.0.bases_rise i c.loop-i-test.true in omega (arith, end, rise, c.requires.0.few_all, c.requires.3, c.loop-i.invariant.1.kept) in
@@ -55,7 +55,7 @@ settle_leaf-one-requires c =
 
 pub loop-i-preserved : goal.loop-i-preserved
 loop-i-preserved c =
-    let board : Board = let a = c.args in board_of a.leaves a.actions a.bases.now a.moves.now a.costs.now a.kinds.now a.factors a.conditions.now in
+    let board : Board = let a = c.args in board_in a.board.now in
     let from : ℕ = base_on board c.loop-i.i in
     let to : ℕ = base_on board (c.loop-i.i + 1) in
     let room : (from ≤ to) × (to ≤ 1024) × (to ≤ length c.loop-i.new) = let i = c.loop-i.i in let end = base_in board c.requires.0 i c.loop-i-test.true in let rise = c.requires.0.bases_rise i c.loop-i-test.true in omega (arith, end, rise, c.requires.0.few_all, c.requires.3, c.loop-i.invariant.1.kept) in

@@ -5,7 +5,7 @@ use Rattle.loops.specs.Count.{any}
 use Rattle.task.specs.declared.Centre.{Centre}
 use Rattle.layer.specs.Board.{Board, settle_on, part_on}
 use Rattle.layer.specs.Board.Turns.{Laid}
-use Rattle.layer.specs.Lent.{board_of}
+use Rattle.layer.specs.Held.{board_in}
 use Rattle.sweeps.specs.Sweeps.{some_met, edges_of}
 use Rattle.sweeps.proofs.settle_edges.Given as goal
 
@@ -15,7 +15,7 @@ leaf b centre new k = settle_on b k centre (part_on b k new)
 
 abbrev pub invariant-loop-i : goal.invariant-loop-i
 invariant-loop-i l =
-    (l.i ≤ l.leaves) × Laid (leaf (board_of l.leaves l.actions l.bases l.moves l.costs l.kinds l.factors l.conditions) l.centre l.initial.new) l.i (get_or l.bases l.i 0) l.initial.new l.new
+    (l.i ≤ l.leaves) × Laid (leaf (board_in l.board) l.centre l.initial.new) l.i (get_or l.bases l.i 0) l.initial.new l.new
     × (l.swept ≡ false → l.new ≡ l.initial.new) × (l.swept ≡ any l.i (λ k. some_met l.mets (edges_of l.bases l.edges l.ends k)))
 
 abbrev pub decreases-loop-i : goal.decreases-loop-i
