@@ -12,6 +12,7 @@ ghost use Rattle.mets.specs.Mets.{Mets};
 ghost use Rattle.edges.specs.Edges.{Edges};
 ghost use Rattle.sweeps.specs.Sweeps.{gated, move_met, Along, Ways, some_met, edges_of, swept_by, Meant, Aims};
 
+use layer::Board;
 use leaf::{MARK, add_price, lowered};
 use task::Centre;
 
