@@ -75,10 +75,8 @@ fn goal_sum(board: &Board<'_>, goals: &[u16], paid: u64, prices: &[u64]) -> u64
     let mut sum = paid;
     for i in 0..board.leaves {
         let states = board.leaf(i);
-        sum = add_price(
-            sum,
-            least_goal(&prices[states.start..states.end], &goals[states]),
-        );
+        let low = least_goal(&prices[states.start..states.end], &goals[states]);
+        sum = add_price(sum, low);
         if sum >= MARK {
             return MARK;
         }

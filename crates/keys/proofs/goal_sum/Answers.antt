@@ -1,6 +1,5 @@
-use Rattle.std.proofs.Common.{◌≡◌, sym, ◌∙◌, ◌+◌, arith}
+use Rattle.std.proofs.Common.{◌≡◌, ◌∙◌, ◌+◌, arith}
 use Rattle.loops.specs.Count as count
-use Rattle.layer.specs.Board.Turns.{part_length}
 use Rattle.keys.specs.Scan.{goal_sum_by}
 use Rattle.keys.specs.Scan.Laws.{capped_more, capped_full}
 use Rattle.keys.proofs.goal_sum.Invariants.{sum_to}
@@ -12,7 +11,7 @@ summed : (c : After-add_price-sum) → let a = c.args in c.add_price-sum.result 
 summed c =
     let l = c.loop-i in
     let s = c.leaf-states.ensures in
-    c.add_price-sum.ensures ∙ capped_more l.i _ _ l.sum c.least_goal.result l.invariant.1 (rw (s.begins, s.stops) at c.least_goal.ensures)
+    c.add_price-sum.ensures ∙ capped_more l.i _ _ l.sum c.least_goal-low.result l.invariant.1 (rw (s.begins, s.stops) at c.least_goal-low.ensures)
 
 pub loop-i-init : goal.loop-i-init
 unfolding count.sum
