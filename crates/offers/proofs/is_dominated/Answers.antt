@@ -17,15 +17,15 @@ abbrev S : Start → ℕ
 S s = row_on (board_in s.args.tables.now.board)
 
 abbrev begun : Start → List ℕ
-begun s = let a = s.args in begun_words a.still (S s) a.from.now.prices.now a.bench.now.next
+begun s = let a = s.args in begun_words a.still (S s) a.from.now.node.prices.now a.bench.now.next
 
 -- both lists that may be read have S prices
-old_long : (s : Start) → S s ≤ length s.args.from.now.prices.now
-old_long s = rw s.requires.states at s.args.from.now.long
+old_long : (s : Start) → S s ≤ length s.args.from.now.node.prices.now
+old_long s = rw s.requires.states at s.args.from.now.node.long
 
 new_long : (s : Start) → S s ≤ length s.args.bench.now.next
 new_long s = let long : length s.args.bench.now.next ≡ 1024 = search rules in omega (arith, long, s.requires.room.few_states)
 
 -- what is read
-read : (c : After-read_from) → c.read_from.result.now ≡ (let a = c.args in read_from a.still a.from.now.prices.now a.bench.now.next)
-read c = let a = c.args in let e = c.read_from.ensures in read_is a.still a.from.now.prices.now a.bench.now.next c.read_from.result.now e.moves e.stays
+read : (c : After-read_from) → c.read_from.result.now ≡ (let a = c.args in read_from a.still a.from.now.node.prices.now a.bench.now.next)
+read c = let a = c.args in let e = c.read_from.ensures in read_is a.still a.from.now.node.prices.now a.bench.now.next c.read_from.result.now e.moves e.stays
