@@ -16,3 +16,37 @@ board s = board_in s.args.tables.now.board
 
 abbrev begun : Start → List ℕ
 begun s = let a = s.args in begun_words a.still (row_on (board s)) a.from.now.node.prices.now a.bench.now.next
+
+pub returns-then-next-run-clause-offered : goal.returns-then-next-run-clause-offered
+returns-then-next-run-clause-offered c =
+    offered_above _ _ _ _ _ _ _ _ _ _ _ _ c.requires.room.few_nodes c.requires.room.count_few _ c.if-next-run.true
+
+pub returns-then-is_dominated-clause-offered : goal.returns-then-is_dominated-clause-offered
+returns-then-is_dominated-clause-offered c =
+    offered_dominated _ _ _ _ _ _ _ _ _ _ _ _ c.requires.room.few_nodes c.requires.room.count_few _ c.if-next-run.false
+    c.is_dominated.result c.is_dominated.ensures.dominated c.if-is_dominated.true
+
+pub returns-then-run-tables-clause-offered : goal.returns-then-run-tables-clause-offered
+returns-then-run-tables-clause-offered c =
+    offered_full _ _ _ _ _ _ _ _ _ _ _ _ c.requires.room.few_nodes c.requires.room.count_few _ c.if-next-run.false
+    c.is_dominated.result c.is_dominated.ensures.dominated c.if-is_dominated.false c.if-run-tables.true
+
+pub settle_begin-swept-requires-clause-begin : goal.settle_begin-swept-requires-clause-begin
+settle_begin-swept-requires-clause-begin c =
+    let long : length c.is_dominated.new.bench.next ≡ 1024 = search rules in
+    (omega (arith, class_lt c.args.next.spot, c.class_of-class.ensures), omega (arith, c.fill_begin.auto.begin, long, c.requires.room.few_states))
+
+pub keep-requires-clause-room : goal.keep-requires-clause-room
+keep-requires-clause-room c =
+    let room = c.requires.room in
+    (omega (arith, room.few_nodes, c.if-run-tables.false), rows_fit room (c.args.run.count + 1) (omega (arith, c.if-run-tables.false)))
+
+pub returns-clause-offered : goal.returns-clause-offered
+returns-clause-offered c =
+    let s = (goal.at.returns-clause-offered c).Start in
+    let d = c.is_dominated in
+    let k = c.keep in
+    let filled : c.fill_begin.new.begin ≡ begun s = rw (c.states-states.ensures.is, d.ensures.lent.1) at c.fill_begin.ensures in
+    offered_kept _ _ _ _ _ _ _ _ _ _ _ _ c.requires.room.few_nodes c.requires.room.count_few _ c.if-next-run.false
+    d.result d.ensures.dominated c.if-is_dominated.false c.if-run-tables.false c.requires.room.scan_long
+    c.settle_begin-swept.new.begin (rw filled at c.settle_begin-swept.ensures.0) k.new.table k.new.scan k.result k.ensures
