@@ -13,7 +13,7 @@ use begins::{begin_of, is_stuck};
 use blocks::SCAN_WORDS;
 use detours::{drop_detours, hop_behind};
 use dominance::{Candidate, list_reached};
-use layer::pairs_of;
+use layer::{Board, pairs_of};
 use leaf::add_price;
 use mets::list_mets;
 use offers::{Bench, Full, Opened, Run, SearchTables, Successor, offer};
@@ -52,7 +52,7 @@ fn turn(
     if board.kinds[a] != 0 {
         return Ok(run);
     }
-    let cost = board.costs[a] as u64;
+    let cost = cost_of(board, a) as u64;
     let low = add_price(opened.key, cost);
     if low >= run.best_cost {
         return Ok(run);
@@ -125,6 +125,14 @@ fn turns(
     Ok(going)
 }
 
+// What an action costs.
+fn cost_of(board: &Board<'_>, a: usize) -> u16
+    requires { a < board.now.actions }
+    ensures { result ≡ get_or board.now.costs.now a 0 }
+{
+    board.costs[a]
+}
+
 // The actions of the node that need a turn, by rising number, at the front of `mets`: those whose centre conditions hold, but for detours behind the hop that
 // made the node, if it has its parent's prices. How many.
 fn list_turns(
@@ -165,7 +173,7 @@ fn list_turns(
         return many;
     }
     let made_by = table[opened.number * (40 + opened.node.states) + 34] as usize;
-    let cost = board.costs[made_by];
+    let cost = cost_of(board, made_by);
     drop_detours(
         tables.hops,
         tables.ways,

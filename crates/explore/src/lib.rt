@@ -1,7 +1,7 @@
 // The exploration over the lent table.
 #![tactic(auto)]
 
-ghost use Rattle.std.specs.Prelude.{◌≡◌, ℕ, ◌+◌, ◌*◌, ◌≤◌, ◌<◌, length, get_or};
+ghost use Rattle.std.specs.Prelude.{◌≡◌, ℕ, ◌+◌, ◌*◌, ◌≤◌, ◌<◌, length, get_or, nat_eq};
 ghost use Rattle.task.specs.declared.Task.{Task};
 ghost use Rattle.task.specs.Factors.{all_states};
 ghost use Rattle.task.specs.Valid.{Valid};
@@ -50,7 +50,10 @@ impl From<Full> for Stop {
     ghost from_gives = { λ full stop. stop ≡ record { why = TableFull; run = full.0 } };
 
     fn from(full: Full) -> Stop {
-        Stop { why: Why::TableFull, run: full.0 }
+        Stop {
+            why: Why::TableFull,
+            run: full.0,
+        }
     }
 }
 
@@ -90,6 +93,13 @@ fn start(
     keep(search, first, class_of(spot), &prices, table, scan, none)
 }
 
+// Whether so many expansions have begun as the budget allows.
+fn is_spent(run: Run, budget: u32) -> bool
+    ensures { result ≡ nat_eq run.begun budget }
+{
+    run.begun == budget as usize
+}
+
 // One round: the least key is chosen, and where the budget is not used up its node is expanded. The recent numbers on the desk stay from round to round.
 fn next_round(
     search: &SearchTables<'_>,
@@ -113,7 +123,7 @@ fn next_round(
             run,
         });
     };
-    if run.begun == budget as usize {
+    if is_spent(run, budget) {
         return Err(Stop {
             why: Why::BudgetSpent,
             run,

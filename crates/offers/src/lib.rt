@@ -1,7 +1,7 @@
 // A successor is offered to the search that the lent table holds: dropped, refused for a full table, or settled and kept.
 #![tactic(auto)]
 
-ghost use Rattle.std.specs.Prelude.{◌≡◌, false, ◌++◌, ◌+◌, ◌*◌, ◌≤◌, ◌<◌, length, get_or, take, drop, IfSome};
+ghost use Rattle.std.specs.Prelude.{◌≡◌, false, ◌++◌, ◌+◌, ◌*◌, ◌≤◌, ◌<◌, length, get_or, take, drop, IfSome, nat_le};
 ghost use Rattle.layer.specs.Board.{base_on, row_on, states_on, settled_on};
 ghost use Rattle.layer.specs.Held.{board_in};
 ghost use Rattle.mets.specs.Known.{Known};
@@ -10,7 +10,7 @@ ghost use Rattle.rows.specs.Reach.{ReachesIn};
 ghost use Rattle.rows.specs.Row.{node_with};
 ghost use Rattle.keys.specs.Scan.{goal_cost_by};
 ghost use Rattle.rows.specs.Sign.{class_of, sign_of};
-ghost use Rattle.offers.specs.Held.{Room, Kept, Offered, is_beaten};
+ghost use Rattle.offers.specs.Held.{Room, kept_run, Kept, Offered, is_beaten};
 
 use blocks::SCAN_WORDS;
 use dominance::{Candidate, list_reached};
@@ -69,6 +69,25 @@ fn sign_behind(swept: bool, sign: u64, prices: &[u64]) -> u64
     sign
 }
 
+// The counts with one node more, whose goal cost is given: it is best where that is less than best's.
+fn counted(run: Run, cost: u64) -> Run
+    requires { run.count < 4096 }
+    ensures { result ≡ kept_run run cost }
+{
+    if cost < run.best_cost {
+        return Run {
+            count: run.count + 1,
+            begun: run.begun,
+            best: Some(run.count),
+            best_cost: cost,
+        };
+    }
+    Run {
+        count: run.count + 1,
+        ..run
+    }
+}
+
 // A node under the next number: its row, its scan words (key, links), and the new best. `class` is its centre state's class, and its prices begin `prices`. The
 // scan words behind the keys are left to the program: they chain the nodes (`Kept`). So are the words of the table that hold no node.
 pub fn keep(
@@ -114,20 +133,7 @@ pub fn keep(
         made.paid,
         prices,
     );
-    if cost < run.best_cost {
-        return Run {
-            count: count + 1,
-            begun: run.begun,
-            best: Some(count),
-            best_cost: cost,
-        };
-    }
-    Run {
-        count: count + 1,
-        begun: run.begun,
-        best: run.best,
-        best_cost: run.best_cost,
-    }
+    counted(run, cost)
 }
 
 // A layer's begin settles; `spot` is its centre state, of this class. Whether a leaf was swept: else all is as it was.
@@ -245,6 +251,13 @@ fn is_dominated(
     found.is_some()
 }
 
+// Whether a search that may keep so many nodes has kept them.
+fn is_full(run: Run, nodes: usize) -> bool
+    ensures { result ≡ nat_le nodes run.count }
+{
+    run.count >= nodes
+}
+
 // A successor from its layer's begin, whose prices are those of `from` where `still` is not 0, else those that were made: dropped, refused for a full table, or
 // settled and kept under the next number. The words of the bench afterwards are left to the program, but for `Known`.
 pub fn offer(
@@ -272,7 +285,7 @@ pub fn offer(
     if is_dominated(tables, from, next, still, bench, table, scan, run) {
         return Ok(run);
     }
-    if run.count >= tables.nodes {
+    if is_full(run, tables.nodes) {
         return Err(Full(run));
     }
     let states = tables.board.states();

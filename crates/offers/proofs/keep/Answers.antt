@@ -6,7 +6,7 @@ use Rattle.search.specs.Node.{Node}
 use Rattle.rows.specs.Row.{node_with}
 use Rattle.keys.specs.Scan.{goal_cost_by}
 use Rattle.rows.specs.Sign.Laws.{class_lt}
-use Rattle.offers.specs.Held.Laws.{kept_best, kept_other}
+use Rattle.offers.specs.Held.Laws.{kept_by}
 use Rattle.offers.proofs.keep.Goals as goal
 use Rattle.offers.proofs.keep.Goals.{Start}
 
@@ -23,18 +23,6 @@ cost s = let a = s.args in let t = a.tables.now in goal_cost_by t.board.leaves t
 pub link-requires : goal.link-requires
 link-requires c = (c.requires.room.0, omega (arith, c.requires.class, class_lt c.args.made.spot))
 
-pub returns-then-cost-run : goal.returns-then-cost-run
-returns-then-cost-run c =
-    let s = (goal.at.returns-then-cost-run c).Start in
-    let a = c.args in
-    let is = c.states-states.ensures.is in
-    let w = rw is at c.write_row.ensures in
-    let long = rw is at c.write_row.auto.row in
-    rw is
-    (kept_best (S s) a.table.now a.scan.now a.run (node s) a.made.key (cost s) c.write_row.new.row _
-    (omega (arith, c.requires.room.1)) (omega (arith, long)) w.0 w.1 c.requires.room.0 c.link.new.scan a.made.sign a.class
-    w.2 c.requires.sign c.requires.class c.link.ensures c.goal_cost-cost.result c.goal_cost-cost.ensures c.if-cost-run.true)
-
 pub returns : goal.returns
 returns c =
     let s = (goal.at.returns c).Start in
@@ -43,6 +31,6 @@ returns c =
     let w = rw is at c.write_row.ensures in
     let long = rw is at c.write_row.auto.row in
     rw is
-    (kept_other (S s) a.table.now a.scan.now a.run (node s) a.made.key (cost s) c.write_row.new.row _
+    (kept_by (S s) a.table.now a.scan.now a.run (node s) a.made.key (cost s) c.write_row.new.row _
     (omega (arith, c.requires.room.1)) (omega (arith, long)) w.0 w.1 c.requires.room.0 c.link.new.scan a.made.sign a.class
-    w.2 c.requires.sign c.requires.class c.link.ensures c.goal_cost-cost.result c.goal_cost-cost.ensures c.if-cost-run.false)
+    w.2 c.requires.sign c.requires.class c.link.ensures (rw c.goal_cost-cost.ensures at c.counted.ensures))

@@ -1,5 +1,6 @@
 -- `offers::offer` meets its contract: one law for each of its four ends. Assumes nothing.
-use Rattle.std.proofs.Common.{◌≡◌, sym, ap, ◌∙◌, true, List, ℕ, ◌+◌, ◌≤◌, ◌<◌, arith, length, take, rules}
+use Rattle.std.proofs.Common.{◌≡◌, sym, ap, ◌∙◌, Bool, true, false, nat_le, List, ℕ, ◌+◌, ◌≤◌, ◌<◌, arith, length, take, rules}
+use borrow.Author.Tests.{leb-true, leb-false}
 use Rattle.layer.specs.Board.{Board, row_on}
 use Rattle.layer.specs.Held.{board_in}
 use Rattle.rows.specs.Begun.{begun_words}
@@ -17,6 +18,13 @@ board s = board_in s.args.tables.now.board
 abbrev begun : Start → List ℕ
 begun s = let a = s.args in begun_words a.still (row_on (board s)) a.from.now.node.prices.now a.bench.now.next
 
+-- whether the table is full
+full_at : {x : Bool} {m n : ℕ} → x ≡ nat_le m n → x ≡ true → m ≤ n
+full_at e h = leb-true _ _ (sym e ∙ h)
+
+room_at : {x : Bool} {m n : ℕ} → x ≡ nat_le m n → x ≡ false → n < m
+room_at e h = leb-false _ _ (sym e ∙ h)
+
 pub returns-then-next-run-clause-offered : goal.returns-then-next-run-clause-offered
 returns-then-next-run-clause-offered c =
     offered_above _ _ _ _ _ _ _ _ _ _ _ _ c.requires.room.few_nodes c.requires.room.count_few _ c.if-next-run.true
@@ -26,10 +34,10 @@ returns-then-is_dominated-clause-offered c =
     offered_dominated _ _ _ _ _ _ _ _ _ _ _ _ c.requires.room.few_nodes c.requires.room.count_few _ c.if-next-run.false
     c.is_dominated.result c.is_dominated.ensures.dominated c.if-is_dominated.true
 
-pub returns-then-run-tables-clause-offered : goal.returns-then-run-tables-clause-offered
-returns-then-run-tables-clause-offered c =
+pub returns-then-is_full-clause-offered : goal.returns-then-is_full-clause-offered
+returns-then-is_full-clause-offered c =
     offered_full _ _ _ _ _ _ _ _ _ _ _ _ c.requires.room.few_nodes c.requires.room.count_few _ c.if-next-run.false
-    c.is_dominated.result c.is_dominated.ensures.dominated c.if-is_dominated.false c.if-run-tables.true
+    c.is_dominated.result c.is_dominated.ensures.dominated c.if-is_dominated.false (full_at c.is_full.ensures c.if-is_full.true)
 
 pub settle_begin-swept-requires-clause-begin : goal.settle_begin-swept-requires-clause-begin
 settle_begin-swept-requires-clause-begin c =
@@ -39,7 +47,7 @@ settle_begin-swept-requires-clause-begin c =
 pub keep-requires-clause-room : goal.keep-requires-clause-room
 keep-requires-clause-room c =
     let room = c.requires.room in
-    (omega (arith, room.few_nodes, c.if-run-tables.false), rows_fit room (c.args.run.count + 1) (omega (arith, c.if-run-tables.false)))
+    (omega (arith, room.few_nodes, (room_at c.is_full.ensures c.if-is_full.false)), rows_fit room (c.args.run.count + 1) (omega (arith, (room_at c.is_full.ensures c.if-is_full.false))))
 
 pub returns-clause-offered : goal.returns-clause-offered
 returns-clause-offered c =
@@ -48,5 +56,5 @@ returns-clause-offered c =
     let k = c.keep in
     let filled : c.fill_begin.new.begin ≡ begun s = rw (c.states-states.ensures.is, d.ensures.lent.1) at c.fill_begin.ensures in
     offered_kept _ _ _ _ _ _ _ _ _ _ _ _ c.requires.room.few_nodes c.requires.room.count_few _ c.if-next-run.false
-    d.result d.ensures.dominated c.if-is_dominated.false c.if-run-tables.false c.requires.room.scan_long
+    d.result d.ensures.dominated c.if-is_dominated.false (room_at c.is_full.ensures c.if-is_full.false) c.requires.room.scan_long
     c.settle_begin-swept.new.begin (rw filled at c.settle_begin-swept.ensures.0) k.new.table k.new.scan k.result k.ensures
