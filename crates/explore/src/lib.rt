@@ -78,7 +78,7 @@ fn start(
     let factors = task.factors;
     let initial = task.initial;
     let goal = task.goal;
-    let spot = Centre::blank().after(factors, initial);
+    let spot = Centre::default().after(factors, initial);
     let mut prices = [MARK; 1024];
     first_layer(
         leaves,

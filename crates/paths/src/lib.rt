@@ -107,7 +107,7 @@ fn walk_path(
     let initial = task.initial;
     let conditions = task.conditions;
     let effects = task.effects;
-    let mut spot = Centre::blank().after(factors, initial);
+    let mut spot = Centre::default().after(factors, initial);
     first_layer(
         leaves,
         actions,
