@@ -73,7 +73,7 @@ fn start(
     let factors = tables.task.factors;
     let initial = tables.task.initial;
     let goal = tables.task.goal;
-    let spot = Centre::blank().after(factors, initial);
+    let spot = Centre::default().after(factors, initial);
     let mut prices = [MARK; 1024];
     first_layer(
         leaves,

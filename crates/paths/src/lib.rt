@@ -88,7 +88,7 @@ fn walk_path(
     let initial = tables.task.initial;
     let conditions = tables.task.conditions;
     let effects = tables.task.effects;
-    let mut spot = Centre::blank().after(factors, initial);
+    let mut spot = Centre::default().after(factors, initial);
     first_layer(
         leaves,
         actions,

@@ -64,7 +64,7 @@ returns c =
     let t = a.task in
     let f = c.first_layer in
     let k = c.keep in
-    let spot = c.after-spot.ensures ∙ ap (centre_after (factor t) (initial t)) c.blank.ensures ∙ initial_centre t c.requires.valid in
+    let spot = c.after-spot.ensures ∙ ap (centre_after (factor t) (initial t)) c.default.ensures ∙ initial_centre t c.requires.valid in
     start_is t board t.effects a.goals.now t.goal fit.0 a.starts.now c.requires.tabled.0.is_starts c.after-spot.result (drop (get_or a.bases.now t.leaves 0) (replicate 1024 mark)) f.new.new
     spot f.ensures a.table.now a.scan.now c.fresh.new.scan k.new.table k.new.scan k.result
     c.key_of-key.result c.requires.task_in_bounds.1 c.requires.task_in_bounds.2 c.fresh.ensures c.key_of-key.ensures k.ensures

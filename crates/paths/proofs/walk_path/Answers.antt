@@ -70,7 +70,7 @@ returns-then-not-turn c =
     let board : Board = let a = c.args in board_of a.task.leaves a.task.actions a.bases.now a.moves.now a.costs.now a.kinds.now a.task.factors a.task.conditions in
     let lists : let t = c.args.task in (length t.factors ≡ 32) × (length t.conditions ≡ 8192) × (length t.effects ≡ 8192) = (search rules, search rules, search rules) in
     let fit : Fits c.args.task board × Sound board = let a = c.args in let h = c.requires.tabled in tables_fit a.task c.requires.valid a.bases.now a.moves.now a.costs.now a.kinds.now h.is_bases h.is_moves h.is_costs h.is_kinds h.long_moves lists.0 lists.1 in
-    let begins : let t = c.args.task in front t c.after-spot.result c.first_layer.new.new ≡ first_layer t = let t = c.args.task in walk_first t board fit.0 c.args.starts.now c.after-spot.result (drop (get_or c.args.bases.now t.leaves 0) c.args.layer.now) c.first_layer.new.new c.requires.tabled.is_starts.is (c.after-spot.ensures ∙ ap (centre_after (factor t) (initial t)) c.blank.ensures ∙ initial_centre t c.requires.valid) c.first_layer.ensures in
+    let begins : let t = c.args.task in front t c.after-spot.result c.first_layer.new.new ≡ first_layer t = let t = c.args.task in walk_first t board fit.0 c.args.starts.now c.after-spot.result (drop (get_or c.args.bases.now t.leaves 0) c.args.layer.now) c.first_layer.new.new c.requires.tabled.is_starts.is (c.after-spot.ensures ∙ ap (centre_after (factor t) (initial t)) c.default.ensures ∙ initial_centre t c.requires.valid) c.first_layer.ensures in
     let t = c.args.task in
     let w = fit in
     let e : c.advance-turn.result.ends ≡ false = not-true _ c.if-not-turn.true in
@@ -107,7 +107,7 @@ returns c =
     let board : Board = let a = c.args in board_of a.task.leaves a.task.actions a.bases.now a.moves.now a.costs.now a.kinds.now a.task.factors a.task.conditions in
     let lists : let t = c.args.task in (length t.factors ≡ 32) × (length t.conditions ≡ 8192) × (length t.effects ≡ 8192) = (search rules, search rules, search rules) in
     let fit : Fits c.args.task board × Sound board = let a = c.args in let h = c.requires.tabled in tables_fit a.task c.requires.valid a.bases.now a.moves.now a.costs.now a.kinds.now h.is_bases h.is_moves h.is_costs h.is_kinds h.long_moves lists.0 lists.1 in
-    let begins : let t = c.args.task in front t c.after-spot.result c.first_layer.new.new ≡ first_layer t = let t = c.args.task in walk_first t board fit.0 c.args.starts.now c.after-spot.result (drop (get_or c.args.bases.now t.leaves 0) c.args.layer.now) c.first_layer.new.new c.requires.tabled.is_starts.is (c.after-spot.ensures ∙ ap (centre_after (factor t) (initial t)) c.blank.ensures ∙ initial_centre t c.requires.valid) c.first_layer.ensures in
+    let begins : let t = c.args.task in front t c.after-spot.result c.first_layer.new.new ≡ first_layer t = let t = c.args.task in walk_first t board fit.0 c.args.starts.now c.after-spot.result (drop (get_or c.args.bases.now t.leaves 0) c.args.layer.now) c.first_layer.new.new c.requires.tabled.is_starts.is (c.after-spot.ensures ∙ ap (centre_after (factor t) (initial t)) c.default.ensures ∙ initial_centre t c.requires.valid) c.first_layer.ensures in
     let t = c.args.task in
     let p = c.args.path.now in
     sym (walk_end t (front t c.loop-k.spot c.loop-k.layer) p c.loop-k.k (omega arith))
