@@ -73,7 +73,7 @@ fn start(
 {
     fresh(scan);
     let board = &search.board;
-    let spot = Centre::blank().after(board.factors, tables.task.initial);
+    let spot = Centre::default().after(board.factors, tables.task.initial);
     let mut prices = [MARK; 1024];
     first_layer(board, spot, tables.starts, &mut prices);
     let first = Successor {
