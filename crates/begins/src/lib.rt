@@ -4,7 +4,7 @@
 ghost use Rattle.std.specs.Prelude.{◌≡◌, ◌++◌, ℕ, ◌+◌, ◌*◌, ◌≤◌, ◌<◌, length, get_or, take, drop};
 ghost use Rattle.leaf.specs.Price.{mark};
 ghost use Rattle.leaf.specs.Pass.{pass};
-ghost use Rattle.layer.specs.Board.{base_on, row_on, states_on, begin_on};
+ghost use Rattle.layer.specs.Board.{row_on, begin_on};
 ghost use Rattle.layer.specs.Held.{board_in};
 ghost use Rattle.search.specs.Node.{least_of};
 ghost use Rattle.rows.specs.Begun.{begun_words};
@@ -27,37 +27,35 @@ pub struct Begun {
 
 // Whether an action whose moves begin at `from` is stuck in the leaf behind i leaves: no state that is reached passes. Where `stays` is not 0 it leaves
 // the leaf's states as they are, and they are not looked at.
-fn is_stuck_in(
-    bases: &[usize],
-    moves: &[u16],
-    from: usize,
-    stays: u8,
-    old: &[u64],
-    i: usize,
-) -> bool
-    requires { (i + 1 < length bases.now) × (get_or bases.now i 0 ≤ get_or bases.now (i + 1) 0) × (get_or bases.now (i + 1) 0 ≤ length old.now)
-        × (from + get_or bases.now (i + 1) 0 ≤ length moves.now) }
-    ensures { result ≡ stuck_in i bases.now moves.now from stays old.now }
+#[tactic(auto, using(std::proofs::lemmas::Grind::common_steps), unfolding(crate::specs::Begin::stuck_in))]
+fn is_stuck_in(board: &Board<'_>, from: usize, stays: u8, old: &[u64], i: usize) -> bool
+    requires i_lt_leaves { i < board.now.leaves }
+    requires prices { row_on (board_in board.now) ≤ length old.now }
+    requires moves { from + row_on (board_in board.now) ≤ length board.now.moves.now }
+    ensures { result ≡ stuck_in i board.now.bases.now board.now.moves.now from stays old.now }
 {
     if stays != 0 {
         return false;
     }
-    let at = bases[i];
-    let to = bases[i + 1];
-    !passes(&old[at..to], moves, from + at)
+    let states = board.leaf(i);
+    let at = from + states.start;
+    !passes(&old[states], board.moves, at)
 }
 
 // Whether an action, whose centre conditions hold, moves leaf states and is stuck: in some leaf that it moves no state that is reached passes.
+#[tactic(auto, using(std::proofs::lemmas::Grind::common_steps, loops::specs::Count::Laws::any_in, loops::specs::Count::Laws::any_more), unfolding(crate::specs::Begin::stuck_by, loops::specs::Count::any))]
 pub fn is_stuck(board: &Board<'_>, still: &[u8], stills: &[u8], old: &[u64], a: usize) -> bool
-    requires still_len { (length still.now ≡ 256) × (length stills.now ≡ 2048) × (a < board.now.actions) × (row_on (board_in board.now) ≤ length old.now) }
+    requires still_len { (length still.now ≡ 256) × (length stills.now ≡ 2048) }
+    requires a_lt_actions { a < board.now.actions }
+    requires prices { row_on (board_in board.now) ≤ length old.now }
     ensures { result ≡ stuck_by board.now.leaves board.now.bases.now board.now.moves.now still.now stills.now old.now a }
 {
     if still[a] != 0 {
         return false;
     }
-    let row = board.states();
+    let from = a * board.states();
     for i in 0..board.leaves {
-        if is_stuck_in(board.bases, board.moves, a * row, stills[a * 8 + i], old, i) {
+        if is_stuck_in(board, from, stills[a * 8 + i], old, i) {
             return true;
         }
     }
@@ -67,13 +65,12 @@ pub fn is_stuck(board: &Board<'_>, still: &[u8], stills: &[u8], old: &[u64], a: 
 // Each state of a leaf passes over a centre action, at its own price. The action's moves of the leaf begin at `at`; where `still` is not 0 they
 // leave each state as it is, and the prices stand in `new` already. How much the least price rises.
 fn carry(old: &[u64], moves: &[u16], at: usize, still: u8, new: &mut [u64]) -> u64
-    requires { (length new.old ≡ length old.now) × (at + length old.now ≤ length moves.now)
-        × ((x : ℕ) → x < length old.now → get_or moves.now (at + x) 0 ≤ length old.now)
-        × ((still ≡ 0 → ⊥) → (x : ℕ) → x < length old.now → get_or moves.now (at + x) 0 ≡ x + 1)
-        × ((still ≡ 0 → ⊥) → new.old ≡ old.now) }
-    ensures { (new.new
-        ≡ pass mark (length old.now) (λ x. get_or moves.now (at + x) 0) old.now (length old.now))
-        × (least_of old.now + result ≡ least_of new.new) }
+    requires states { (length new.old ≡ length old.now) × (at + length old.now ≤ length moves.now) }
+    requires within { (x : ℕ) → x < length old.now → get_or moves.now (at + x) 0 ≤ length old.now }
+    requires stays { (still ≡ 0 → ⊥) → (x : ℕ) → x < length old.now → get_or moves.now (at + x) 0 ≡ x + 1 }
+    requires copied { (still ≡ 0 → ⊥) → new.old ≡ old.now }
+    ensures passed { new.new ≡ pass mark (length old.now) (λ x. get_or moves.now (at + x) 0) old.now (length old.now) }
+    ensures rise { least_of old.now + result ≡ least_of new.new }
 {
     if still != 0 {
         return 0;
@@ -93,10 +90,11 @@ fn begin_moved(
     low: u64,
     new: &mut [u64],
 ) -> u64
-    requires { Stills board.now.leaves board.now.actions board.now.bases.now board.now.moves.now stills.now
-        × (action < board.now.actions) × (row_on (board_in board.now) ≤ length old.now) × (row_on (board_in board.now) ≤ length new.old) }
-    ensures { (new.new ≡ begin_on (board_in board.now) action old.now ++ drop (row_on (board_in board.now)) new.old)
-        × Risen (leasts board.now.bases.now old.now) (leasts board.now.bases.now new.new) board.now.leaves low result }
+    requires stills { Stills board.now.leaves board.now.actions board.now.bases.now board.now.moves.now stills.now }
+    requires action_lt_actions { action < board.now.actions }
+    requires prices { (row_on (board_in board.now) ≤ length old.now) × (row_on (board_in board.now) ≤ length new.old) }
+    ensures begun { new.new ≡ begin_on (board_in board.now) action old.now ++ drop (row_on (board_in board.now)) new.old }
+    ensures risen { Risen (leasts board.now.bases.now old.now) (leasts board.now.bases.now new.new) board.now.leaves low result }
 {
     let row = board.states();
     copy_words(old, new, row);
@@ -128,22 +126,23 @@ pub fn begin_of(
     sign: u64,
     next: &mut [u64],
 ) -> Begun
-    requires still { Still board.now.leaves board.now.actions board.now.bases.now board.now.moves.now still.now × Stills board.now.leaves board.now.actions board.now.bases.now board.now.moves.now stills.now }
-    requires a_lt_actions { (a < board.now.actions) × (row_on (board_in board.now) ≤ length old.now) × (row_on (board_in board.now) ≤ length next.old) }
+    requires still { Still board.now.leaves board.now.actions board.now.bases.now board.now.moves.now still.now }
+    requires stills { Stills board.now.leaves board.now.actions board.now.bases.now board.now.moves.now stills.now }
+    requires a_lt_actions { a < board.now.actions }
+    requires prices { (row_on (board_in board.now) ≤ length old.now) × (row_on (board_in board.now) ≤ length next.old) }
     requires sign_value { sign ≡ sign_of (take (row_on (board_in board.now)) old.now) }
-    ensures { (begun_words (get_or still.now a 0) (row_on (board_in board.now)) old.now next.new
-        ≡ begin_on (board_in board.now) a old.now ++ drop (row_on (board_in board.now)) next.old)
-        × Risen (leasts board.now.bases.now old.now) (leasts board.now.bases.now
-        (begun_words (get_or still.now a 0) (row_on (board_in board.now)) old.now next.new)) board.now.leaves low result.key
-        × (result.sign ≡ sign_of (take (row_on (board_in board.now))
-        (begun_words (get_or still.now a 0) (row_on (board_in board.now)) old.now next.new)))
-        × ((get_or still.now a 0 ≡ 0 → ⊥) → next.new ≡ next.old) }
+    ensures begun { begun_words (get_or still.now a 0) (row_on (board_in board.now)) old.now next.new
+        ≡ begin_on (board_in board.now) a old.now ++ drop (row_on (board_in board.now)) next.old }
+    ensures risen { Risen (leasts board.now.bases.now old.now)
+        (leasts board.now.bases.now (begun_words (get_or still.now a 0) (row_on (board_in board.now)) old.now next.new)) board.now.leaves low result.key }
+    ensures sign { result.sign
+        ≡ sign_of (take (row_on (board_in board.now)) (begun_words (get_or still.now a 0) (row_on (board_in board.now)) old.now next.new)) }
+    ensures stays { (get_or still.now a 0 ≡ 0 → ⊥) → next.new ≡ next.old }
 {
-    let states = board.states();
     if still[a] != 0 {
         return Begun { key: low, sign };
     }
     let key = begin_moved(board, stills, a, old, low, next);
-    let made = sign_of(&next[..states]);
+    let made = sign_of(&next[..board.states()]);
     Begun { key, sign: made }
 }

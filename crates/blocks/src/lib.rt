@@ -1,7 +1,7 @@
 // The blocks of open keys: keys are stored and retired, and the next node is chosen.
 #![tactic(auto)]
 
-ghost use Rattle.std.specs.Prelude.{◌≡◌, ⊥, ◌+◌, ◌*◌, ◌≤◌, ◌<◌, IfSome, MatchOption, length, take, drop};
+ghost use Rattle.std.specs.Prelude.{◌≡◌, ◌+◌, ◌*◌, ◌≤◌, ◌<◌, IfSome, MatchOption, length, take, drop};
 ghost use Rattle.leaf.specs.Price.{mark};
 ghost use Rattle.blocks.specs.Choice.{NoneBelow, Picked};
 ghost use Rattle.blocks.specs.Block.{block_size, least_in, NoneIs, Found, FirstInBlock, joined_by, LeastFrom, Blocked, fresh_to, lowered_to, blocked_to, raised_to, retired_to};
@@ -13,8 +13,11 @@ use leaf::{MARK, fill};
 
 // How many scan words there are, and where the words of the blocks and the upper words stand among them.
 pub const SCAN_WORDS: usize = 17696;
+
 const BLOCK_WORDS: usize = 7184;
+
 const UPPER_WORDS: usize = 7440;
+
 const UPPER_END: usize = 7456;
 
 // The words of all blocks to the mark, and the upper words, which stand behind them.
@@ -150,7 +153,7 @@ fn find_block(words: &[u64], word: u64) -> Option<usize>
     let first = find(&words[..4], word);
     let second = find(&words[4..8], word);
     let third = find(&words[8..12], word);
-    let fourth = find(&words[12..], word);
+    let fourth = find(&words[12..16], word);
     let low = joined(first, 4, second);
     let high = joined(third, 4, fourth);
     joined(low, 8, high)

@@ -5,15 +5,15 @@ ghost use Rattle.std.specs.Prelude.{◌≡◌, true, ◌+◌, ◌*◌, ◌≤◌
 ghost use Rattle.layer.specs.Board.{base_on, row_on, states_on, met_on};
 ghost use Rattle.layer.specs.Held.{board_in};
 ghost use Rattle.mets.specs.Known.{Known};
-ghost use Rattle.rows.specs.Reach.{Reaches};
 ghost use Rattle.rows.specs.Row.{node_in};
 ghost use Rattle.offers.specs.Held.{Room, Has};
 ghost use Rattle.expand.specs.Held.{Useful, Moved, Grown, Done};
 
 use begins::{begin_of, is_stuck};
+use blocks::SCAN_WORDS;
 use detours::{drop_detours, hop_behind};
-use dominance::list_reached;
-use layer::pairs_of;
+use dominance::{Candidate, list_reached};
+use layer::{Board, pairs_of};
 use leaf::add_price;
 use mets::list_mets;
 use offers::{Bench, Full, Opened, Run, SearchTables, Successor, offer};
@@ -32,98 +32,122 @@ pub struct Desk {
 // the key and the action's cost are not below best, nor where it does not apply.
 fn turn(
     tables: &SearchTables<'_>,
-    node: &Opened<'_>,
+    opened: &Opened<'_>,
     a: usize,
     bench: &mut Bench,
     table: &mut [u64],
-    scan: &mut [u64],
+    scan: &mut [u64; SCAN_WORDS],
     run: Run,
 ) -> Result<Run, Full>
     requires known { Known (board_in tables.now.board) bench.old.known }
-    requires states { node.now.states ≡ row_on (board_in tables.now.board) }
-    requires reached { 128 ≤ node.now.states → Reaches node.now.states node.now.prices.now node.now.reached.now }
-    requires met { met_on (board_in tables.now.board) node.now.spot a ≡ true }
-    requires inside { (node.now.number < run.count) × (a < tables.now.board.actions) }
+    requires states { opened.now.node.states ≡ row_on (board_in tables.now.board) }
+    requires met { met_on (board_in tables.now.board) opened.now.node.spot a ≡ true }
+    requires inside { (opened.now.number < run.count) × (a < tables.now.board.actions) }
     requires room { Room (row_on (board_in tables.now.board)) tables.now.nodes table.old scan.old run }
     ensures moved { Moved (board_in tables.now.board) tables.now.effects.now tables.now.goals.now tables.now.goal tables.now.nodes
-        node.now.spot node.now.paid node.now.prices.now node.now.key node.now.number a table.old scan.old run table.new scan.new result }
+        opened.now.node.spot opened.now.node.paid opened.now.node.prices.now opened.now.key opened.now.number a table.old scan.old run table.new scan.new result }
     ensures known { Known (board_in tables.now.board) bench.new.known }
 {
     let board = &tables.board;
     if board.kinds[a] != 0 {
         return Ok(run);
     }
-    let cost = board.costs[a] as u64;
-    let low = add_price(node.key, cost);
+    let cost = cost_of(board, a) as u64;
+    let low = add_price(opened.key, cost);
     if low >= run.best_cost {
         return Ok(run);
     }
-    if is_stuck(board, tables.still, tables.stills, node.prices, a) {
+    if is_stuck(board, tables.still, tables.stills, opened.node.prices, a) {
         return Ok(run);
     }
-    let spot = node.spot.after(board.factors, pairs_of(tables.effects, a));
-    let paid = add_price(node.paid, cost);
+    let spot = opened
+        .node
+        .spot
+        .after(board.factors, pairs_of(tables.effects, a));
+    let paid = add_price(opened.node.paid, cost);
     let begun = begin_of(
         board,
         tables.still,
         tables.stills,
         a,
-        node.prices,
+        opened.node.prices,
         low,
-        node.sign,
+        opened.node.sign,
         &mut bench.next,
     );
     let next = Successor {
         spot,
         paid,
-        parent: node.number,
+        parent: opened.number,
         action: a,
         key: begun.key,
         sign: begun.sign,
     };
-    offer(tables, node, next, tables.still[a], bench, table, scan, run)
+    offer(
+        tables,
+        opened,
+        next,
+        tables.still[a],
+        bench,
+        table,
+        scan,
+        run,
+    )
 }
 
 // All actions of the node that need a turn, which `mets` lists by rising number.
 fn turns(
     tables: &SearchTables<'_>,
-    node: &Opened<'_>,
+    opened: &Opened<'_>,
     mets: &[u8],
     bench: &mut Bench,
     table: &mut [u64],
-    scan: &mut [u64],
+    scan: &mut [u64; SCAN_WORDS],
     run: Run,
 ) -> Result<Run, Full>
     requires known { Known (board_in tables.now.board) bench.old.known }
-    requires states { node.now.states ≡ row_on (board_in tables.now.board) }
-    requires reached { 128 ≤ node.now.states → Reaches node.now.states node.now.prices.now node.now.reached.now }
-    requires useful { Useful (board_in tables.now.board) tables.now.effects.now node.now.spot table.old node.now.number node.now.prices.now
+    requires states { opened.now.node.states ≡ row_on (board_in tables.now.board) }
+    requires useful { Useful (board_in tables.now.board) tables.now.effects.now opened.now.node.spot table.old opened.now.number opened.now.node.prices.now
         (length mets.now) (λ j. get_or mets.now j 0) }
-    requires has { Has (node_in (row_on (board_in tables.now.board)) table.old node.now.number) node.now.spot node.now.paid
-        (take (row_on (board_in tables.now.board)) node.now.prices.now) }
-    requires inside { node.now.number < run.count }
+    requires has { Has (node_in (row_on (board_in tables.now.board)) table.old opened.now.number) opened.now.node.spot opened.now.node.paid
+        (take (row_on (board_in tables.now.board)) opened.now.node.prices.now) }
+    requires inside { opened.now.number < run.count }
     requires room { Room (row_on (board_in tables.now.board)) tables.now.nodes table.old scan.old run }
     ensures grown { Grown (board_in tables.now.board) tables.now.nodes run table.new scan.new result }
     ensures expanded { Done (board_in tables.now.board) tables.now.effects.now tables.now.goals.now tables.now.goal tables.now.nodes
-        node.now.number node.now.key table.old scan.old run table.new scan.new result }
+        opened.now.number opened.now.key table.old scan.old run table.new scan.new result }
     ensures known { Known (board_in tables.now.board) bench.new.known }
 {
     let mut going = run;
     for a in mets {
-        going = turn(tables, node, *a as usize, bench, table, scan, going)?;
+        going = turn(tables, opened, *a as usize, bench, table, scan, going)?;
     }
     Ok(going)
 }
 
+// What an action costs.
+fn cost_of(board: &Board<'_>, a: usize) -> u16
+    requires { a < board.now.actions }
+    ensures { result ≡ get_or board.now.costs.now a 0 }
+{
+    board.costs[a]
+}
+
 // The actions of the node that need a turn, by rising number, at the front of `mets`: those whose centre conditions hold, but for detours behind the hop that
 // made the node, if it has its parent's prices. How many.
-fn list_turns(tables: &SearchTables<'_>, node: &Opened<'_>, table: &[u64], known: &mut [u8], mets: &mut [u8]) -> usize
+fn list_turns(
+    tables: &SearchTables<'_>,
+    opened: &Opened<'_>,
+    table: &[u64],
+    known: &mut [u8],
+    mets: &mut [u8],
+) -> usize
     requires known { Known (board_in tables.now.board) known.old }
-    requires states { node.now.states ≡ row_on (board_in tables.now.board) }
-    requires mets_len { (length mets.old ≡ 256) × (node.now.number < 4096)
-        × (node.now.number * (40 + row_on (board_in tables.now.board)) + (40 + row_on (board_in tables.now.board)) ≤ length table.now) }
+    requires states { opened.now.node.states ≡ row_on (board_in tables.now.board) }
+    requires mets_len { (length mets.old ≡ 256) × (opened.now.number < 4096)
+        × (opened.now.number * (40 + row_on (board_in tables.now.board)) + (40 + row_on (board_in tables.now.board)) ≤ length table.now) }
     ensures { Known (board_in tables.now.board) known.new × (result ≤ 256)
-        × Useful (board_in tables.now.board) tables.now.effects.now node.now.spot table.now node.now.number node.now.prices.now
+        × Useful (board_in tables.now.board) tables.now.effects.now opened.now.node.spot table.now opened.now.number opened.now.node.prices.now
         result (λ j. get_or mets.new j 0) }
 {
     let board = &tables.board;
@@ -132,25 +156,33 @@ fn list_turns(tables: &SearchTables<'_>, node: &Opened<'_>, table: &[u64], known
         tables.firsts,
         board.factors,
         board.conditions,
-        node.spot,
-        class_of(node.spot),
+        opened.node.spot,
+        class_of(opened.node.spot),
         known,
         mets,
     );
     let word = hop_behind(
         table,
-        node.states,
+        opened.node.states,
         board.actions,
         tables.hops,
-        node.number,
-        node.prices,
+        opened.number,
+        opened.node.prices,
     );
     if word == 0 {
         return many;
     }
-    let made_by = table[node.number * (40 + node.states) + 34] as usize;
-    let cost = board.costs[made_by];
-    drop_detours(tables.hops, tables.ways, board.costs, word, cost, mets, many)
+    let made_by = table[opened.number * (40 + opened.node.states) + 34] as usize;
+    let cost = cost_of(board, made_by);
+    drop_detours(
+        tables.hops,
+        tables.ways,
+        board.costs,
+        word,
+        cost,
+        mets,
+        many,
+    )
 }
 
 // All actions of node u, whose key is given, by rising number. The words of the desk afterwards are left to the program, but for `Known`.
@@ -160,7 +192,7 @@ pub fn expand(
     key: u64,
     desk: &mut Desk,
     table: &mut [u64],
-    scan: &mut [u64],
+    scan: &mut [u64; SCAN_WORDS],
     run: Run,
 ) -> Result<Run, Full>
     requires known { Known (board_in tables.now.board) desk.old.bench.known }
@@ -177,16 +209,33 @@ pub fn expand(
     let end = at + wide;
     copy_words(&table[at + 40..end], &mut desk.prices, states);
     let reached = list_reached(states, &desk.prices, &mut desk.reached);
-    let node = Opened {
-        number: u,
+    let node = Candidate {
+        states,
         spot: read_spot(&table[at..end]),
         paid: table[at + 32],
-        key,
-        sign: table[at + 39],
-        states,
         prices: &desk.prices,
-        reached: &desk.reached[..reached],
+        sign: table[at + 39],
+        list: &desk.reached[..reached],
     };
-    let many = list_turns(tables, &node, table, &mut desk.bench.known, &mut desk.mets);
-    turns(tables, &node, &desk.mets[..many], &mut desk.bench, table, scan, run)
+    let opened = Opened {
+        number: u,
+        key,
+        node,
+    };
+    let many = list_turns(
+        tables,
+        &opened,
+        table,
+        &mut desk.bench.known,
+        &mut desk.mets,
+    );
+    turns(
+        tables,
+        &opened,
+        &desk.mets[..many],
+        &mut desk.bench,
+        table,
+        scan,
+        run,
+    )
 }

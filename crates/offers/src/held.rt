@@ -1,16 +1,15 @@
 // What the search works with and never changes, and the node that it expands.
 
-ghost use Rattle.std.specs.Prelude.{◌≡◌, ◌≤◌, length, take};
+ghost use Rattle.std.specs.Prelude.{◌≡◌, length};
 ghost use Rattle.layer.specs.First.{Firsts};
 ghost use Rattle.layer.specs.Held.{board_in};
 ghost use Rattle.edges.specs.Edges.{Edges};
 ghost use Rattle.stills.specs.Still.{Still, Stills};
 ghost use Rattle.hops.specs.Hops.{Hops, Ways};
-ghost use Rattle.rows.specs.Sign.{sign_of};
 
+use dominance::Candidate;
 use edges::EdgeTable;
 use layer::Board;
-use task::Centre;
 
 // The tables of a search, made once: the board and the edges of its leaf states, which actions leave which leaves as they are, each action's first condition,
 // hops and the ways that they go, effects, the states that meet the goal, the goal's pairs, and how many nodes the search may keep.
@@ -37,18 +36,10 @@ pub struct SearchTables<'a> {
     pub ghost goals_long: { length goals.now ≡ 1024 },
 }
 
-// The node that is expanded: its number, its parts, its key and its signature. Its prices begin `prices`, and `reached` has the states that they reach where
-// there are 128 or more.
+// The node that is expanded, with its number and its key.
 #[derive(Clone, Copy)]
 pub struct Opened<'a> {
     pub number: usize,
-    pub spot: Centre,
-    pub paid: u64,
     pub key: u64,
-    pub sign: u64,
-    pub states: usize,
-    pub prices: &'a [u64],
-    pub reached: &'a [u16],
-    pub ghost long: { states ≤ length prices.now },
-    pub ghost signed: { sign ≡ sign_of (take states prices.now) },
+    pub node: Candidate<'a>,
 }

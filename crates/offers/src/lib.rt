@@ -1,18 +1,19 @@
 // A successor is offered to the search that the lent table holds: dropped, refused for a full table, or settled and kept.
 #![tactic(auto)]
 
-ghost use Rattle.std.specs.Prelude.{◌≡◌, false, ◌++◌, ◌+◌, ◌*◌, ◌≤◌, ◌<◌, length, get_or, take, drop};
+ghost use Rattle.std.specs.Prelude.{◌≡◌, false, ◌++◌, ◌+◌, ◌*◌, ◌≤◌, ◌<◌, length, get_or, take, drop, IfSome, nat_le};
 ghost use Rattle.layer.specs.Board.{base_on, row_on, states_on, settled_on};
 ghost use Rattle.layer.specs.Held.{board_in};
 ghost use Rattle.mets.specs.Known.{Known};
 ghost use Rattle.rows.specs.Begun.{read_from, begun_words};
-ghost use Rattle.rows.specs.Reach.{Reaches, ReachesIn};
+ghost use Rattle.rows.specs.Reach.{ReachesIn};
 ghost use Rattle.rows.specs.Row.{node_with};
 ghost use Rattle.keys.specs.Scan.{goal_cost_by};
 ghost use Rattle.rows.specs.Sign.{class_of, sign_of};
-ghost use Rattle.offers.specs.Held.{Room, Kept, Offered, is_beaten};
+ghost use Rattle.offers.specs.Held.{Room, kept_run, Kept, Offered, is_beaten};
 
-use dominance::list_reached;
+use blocks::SCAN_WORDS;
+use dominance::{Candidate, list_reached};
 use keys::goal_cost;
 use mets::slot_for;
 use nodes::{dominator, link, slot_of};
@@ -68,6 +69,25 @@ fn sign_behind(swept: bool, sign: u64, prices: &[u64]) -> u64
     sign
 }
 
+// The counts with one node more, whose goal cost is given: it is best where that is less than best's.
+fn counted(run: Run, cost: u64) -> Run
+    requires { run.count < 4096 }
+    ensures { result ≡ kept_run run cost }
+{
+    if cost < run.best_cost {
+        return Run {
+            count: run.count + 1,
+            begun: run.begun,
+            best: Some(run.count),
+            best_cost: cost,
+        };
+    }
+    Run {
+        count: run.count + 1,
+        ..run
+    }
+}
+
 // A node under the next number: its row, its scan words (key, links), and the new best. `class` is its centre state's class, and its prices begin `prices`. The
 // scan words behind the keys are left to the program: they chain the nodes (`Kept`). So are the words of the table that hold no node.
 pub fn keep(
@@ -76,11 +96,11 @@ pub fn keep(
     class: usize,
     prices: &[u64],
     table: &mut [u64],
-    scan: &mut [u64],
+    scan: &mut [u64; SCAN_WORDS],
     run: Run,
 ) -> Run
     requires prices { row_on (board_in tables.now.board) ≤ length prices.now }
-    requires room { (run.count < 4096) × ((run.count + 1) * (40 + row_on (board_in tables.now.board)) ≤ length table.old) × (length scan.old ≡ 17696) }
+    requires room { (run.count < 4096) × ((run.count + 1) * (40 + row_on (board_in tables.now.board)) ≤ length table.old) }
     requires sign { made.sign ≡ sign_of (take (row_on (board_in tables.now.board)) prices.now) }
     requires class { class ≡ class_of made.spot }
     ensures { Kept (row_on (board_in tables.now.board)) table.old scan.old run
@@ -106,29 +126,14 @@ pub fn keep(
     );
     link(scan, count, made.key, made.sign, class);
     let cost = goal_cost(
-        board.leaves,
-        board.bases,
+        board,
         tables.goals,
-        board.factors,
         tables.goal,
         made.spot,
         made.paid,
         prices,
     );
-    if cost < run.best_cost {
-        return Run {
-            count: count + 1,
-            begun: run.begun,
-            best: Some(count),
-            best_cost: cost,
-        };
-    }
-    Run {
-        count: count + 1,
-        begun: run.begun,
-        best: run.best,
-        best_cost: run.best_cost,
-    }
+    counted(run, cost)
 }
 
 // A layer's begin settles; `spot` is its centre state, of this class. Whether a leaf was swept: else all is as it was.
@@ -156,14 +161,7 @@ fn settle_begin(
         known,
     );
     let end = slot + 256;
-    settle_edges(
-        board,
-        &known[slot..end],
-        tables.edges.list,
-        tables.edges.ends,
-        spot,
-        begin,
-    )
+    settle_edges(board, &known[slot..end], &tables.edges, spot, begin)
 }
 
 // Where the prices of a layer's begin, or a list of the states that they reach, are read: in the layer before, where the action is still, else where they were made.
@@ -188,15 +186,13 @@ fn list_begin(states: usize, begin: &[u64], room: &mut [u16], still: u8) -> usiz
     list_reached(states, begin, room)
 }
 
-// The next recent number: that of the node that was found, one more than its own, or else of the one behind the first `count` nodes, which is kept next if
-// it is kept. Any number is right.
-fn recent_next(found: usize, count: usize) -> u16
-    requires { (found ≤ count) × (count ≤ 4096) }
+// The next recent number: one more than the number of the node that was found, or else of the one behind the first `count` nodes, which is kept next if it is
+// kept. Any number is right.
+fn recent_next(found: Option<usize>, count: usize) -> u16
+    requires found { IfSome found (λ u. u < count) }
+    requires count { count ≤ 4096 }
 {
-    if found == 0 {
-        return (count + 1) as u16;
-    }
-    found as u16
+    (found.unwrap_or(count) + 1) as u16
 }
 
 // The prices of a layer's begin, at the front of `begin`.
@@ -227,15 +223,14 @@ fn is_dominated(
     still: u8,
     bench: &mut Bench,
     table: &[u64],
-    scan: &[u64],
+    scan: &[u64; SCAN_WORDS],
     run: Run,
 ) -> bool
-    requires states { from.now.states ≡ row_on (board_in tables.now.board) }
-    requires reached { 128 ≤ from.now.states → Reaches from.now.states from.now.prices.now from.now.reached.now }
-    requires sign { next.sign ≡ sign_of (take (row_on (board_in tables.now.board)) (begun_words still (row_on (board_in tables.now.board)) from.now.prices.now bench.old.next)) }
+    requires states { from.now.node.states ≡ row_on (board_in tables.now.board) }
+    requires sign { next.sign ≡ sign_of (take (row_on (board_in tables.now.board)) (begun_words still (row_on (board_in tables.now.board)) from.now.node.prices.now bench.old.next)) }
     requires room { Room (row_on (board_in tables.now.board)) tables.now.nodes table.now scan.now run }
     ensures dominated { result ≡ is_beaten (row_on (board_in tables.now.board)) table.now run next.spot next.paid
-        (begun_words still (row_on (board_in tables.now.board)) from.now.prices.now bench.old.next) }
+        (begun_words still (row_on (board_in tables.now.board)) from.now.node.prices.now bench.old.next) }
     ensures lent { (bench.new.known ≡ bench.old.known) × (bench.new.next ≡ bench.old.next) }
 {
     let states = tables.board.states();
@@ -243,21 +238,24 @@ fn is_dominated(
     let many = list_begin(states, &bench.next, &mut bench.room, still);
     let place = recent_place(class, next.sign);
     let recent = bench.room[place] as usize;
-    let found = dominator(
-        table,
+    let candidate = Candidate {
         states,
-        run.count,
-        scan,
-        class,
-        next.sign,
-        next.spot,
-        next.paid,
-        read_from(from.prices, &bench.next, still),
-        read_from(from.reached, &bench.room[..many], still),
-        recent,
-    );
+        spot: next.spot,
+        paid: next.paid,
+        prices: read_from(from.node.prices, &bench.next, still),
+        sign: next.sign,
+        list: read_from(from.node.list, &bench.room[..many], still),
+    };
+    let found = dominator(table, run.count, scan, class, &candidate, recent);
     bench.room[place] = recent_next(found, run.count);
-    found > 0
+    found.is_some()
+}
+
+// Whether a search that may keep so many nodes has kept them.
+fn is_full(run: Run, nodes: usize) -> bool
+    ensures { result ≡ nat_le nodes run.count }
+{
+    run.count >= nodes
 }
 
 // A successor from its layer's begin, whose prices are those of `from` where `still` is not 0, else those that were made: dropped, refused for a full table, or
@@ -269,16 +267,15 @@ pub fn offer(
     still: u8,
     bench: &mut Bench,
     table: &mut [u64],
-    scan: &mut [u64],
+    scan: &mut [u64; SCAN_WORDS],
     run: Run,
 ) -> Result<Run, Full>
     requires known { Known (board_in tables.now.board) bench.old.known }
-    requires states { from.now.states ≡ row_on (board_in tables.now.board) }
-    requires reached { 128 ≤ from.now.states → Reaches from.now.states from.now.prices.now from.now.reached.now }
-    requires sign { next.sign ≡ sign_of (take (row_on (board_in tables.now.board)) (begun_words still (row_on (board_in tables.now.board)) from.now.prices.now bench.old.next)) }
+    requires states { from.now.node.states ≡ row_on (board_in tables.now.board) }
+    requires sign { next.sign ≡ sign_of (take (row_on (board_in tables.now.board)) (begun_words still (row_on (board_in tables.now.board)) from.now.node.prices.now bench.old.next)) }
     requires room { Room (row_on (board_in tables.now.board)) tables.now.nodes table.old scan.old run }
     ensures offered { Offered (board_in tables.now.board) tables.now.goals.now tables.now.goal tables.now.nodes table.old scan.old run next.spot next.paid
-        (begun_words still (row_on (board_in tables.now.board)) from.now.prices.now bench.old.next) next.parent next.action next.key
+        (begun_words still (row_on (board_in tables.now.board)) from.now.node.prices.now bench.old.next) next.parent next.action next.key
         table.new scan.new result }
     ensures known { Known (board_in tables.now.board) bench.new.known }
 {
@@ -288,12 +285,12 @@ pub fn offer(
     if is_dominated(tables, from, next, still, bench, table, scan, run) {
         return Ok(run);
     }
-    if run.count >= tables.nodes {
+    if is_full(run, tables.nodes) {
         return Err(Full(run));
     }
     let states = tables.board.states();
     let class = class_of(next.spot);
-    fill_begin(from.prices, &mut bench.next, still, states);
+    fill_begin(from.node.prices, &mut bench.next, still, states);
     let swept = settle_begin(tables, next.spot, class, &mut bench.next, &mut bench.known);
     let sign = sign_behind(swept, next.sign, &bench.next[..states]);
     let made = Successor { sign, ..next };

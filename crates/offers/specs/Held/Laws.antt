@@ -232,7 +232,7 @@ dominated_is t S T O r n m same =
 -- the node's row was written over the next row, with its signature, and it was linked: Q is the row, cost the goal cost
 module _ (S : ℕ) (T O : List ℕ) (r : Run) (n : Node) (opens cost : ℕ) (Q rest : List ℕ) (fits : r.count * (40 + S) ≤ length T) (long : length Q ≡ 40 + S)
     (holds : node_of S Q ≡ n) (packs : Packed Q) (few : r.count < 4096) (O' : List ℕ) (sign class : ℕ) (signed : get_or Q 39 0 ≡ sign) (isSign : sign ≡ sign_of n.prices) (isClass : class ≡ class_of n.spot)
-    (isLinked : O' ≡ linked_to O r.count opens sign class) (got : ℕ) (is : got ≡ cost) where
+    (isLinked : O' ≡ linked_to O r.count opens sign class) where
   -- the table afterwards
   abbrev written : List ℕ
   written = take (r.count * (40 + S)) T ++ (Q ++ rest)
@@ -244,8 +244,8 @@ module _ (S : ℕ) (T O : List ℕ) (r : Run) (n : Node) (opens cost : ℕ) (Q r
   kept_new : node_in S written r.count ≡ n
   kept_new = ap (node_of S) (row_written S r.count T Q rest fits long) ∙ holds
 
-  -- the table and the scan words, whatever became of the counts
-  kept_by : {r' : Run} → r' ≡ kept_run r cost → Kept S T O r n opens cost written O' r'
+  -- the table and the scan words with one node more
+  pub kept_by : {r' : Run} → r' ≡ kept_run r cost → Kept S T O r n opens cost written O' r'
   kept_by e =
       record {
         old = kept_old;
@@ -257,18 +257,6 @@ module _ (S : ℕ) (T O : List ℕ) (r : Run) (n : Node) (opens cost : ℕ) (Q r
             (ap (λ (x : Node). x.spot) kept_new) (ap (λ (x : Node). x.prices) kept_new) (rw (row_written S r.count T Q rest fits long) packs)
             (rw (row_written S r.count T Q rest fits long) (signed ∙ isSign)) c);
       }
-
-  -- the node is the new best
-  pub kept_best : got < r.best_cost
-      → Kept S T O r n opens cost (take (r.count * (40 + S)) T ++ (Q ++ rest)) O'
-      (record { count = r.count + 1; begun = r.begun; best = Some r.count; best_cost = got })
-  kept_best h = kept_by (rw (is, lt-ltb cost r.best_cost (omega arith)))
-
-  -- best stays
-  pub kept_other : r.best_cost ≤ got
-      → Kept S T O r n opens cost (take (r.count * (40 + S)) T ++ (Q ++ rest)) O'
-      (record { count = r.count + 1; begun = r.begun; best = r.best; best_cost = r.best_cost })
-  kept_other h = kept_by (rw (le-ltb cost r.best_cost (omega arith)))
 
 -- 1 once the node's expansion has begun
 abbrev flag : List ℕ → ℕ → ℕ
