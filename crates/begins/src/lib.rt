@@ -13,6 +13,7 @@ ghost use Rattle.stills.specs.Still.{Still, Stills};
 ghost use Rattle.begins.specs.Begin.{stuck_in, stuck_by, leasts, Risen};
 
 use keys::least;
+use layer::Board;
 use leaf::{add_price, fill, pass, passes};
 use rows::sign_of;
 use words::copy_words;
@@ -102,10 +103,11 @@ fn begin_moved(
     let mut key = low;
     for i in 0..board.leaves {
         let states = board.leaf(i);
+        let at = action * row + states.start;
         let rise = carry(
-            &old[from..to],
+            &old[states.start..states.end],
             board.moves,
-            action * row + from,
+            at,
             stills[action * 8 + i],
             &mut new[states],
         );

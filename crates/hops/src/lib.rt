@@ -8,6 +8,7 @@ ghost use Rattle.layer.specs.Held.{board_in};
 ghost use Rattle.stills.specs.Still.{Still};
 ghost use Rattle.hops.specs.Hops.{names_only, pair_word, hop_word, hops_by, ways_by};
 
+use layer::Board;
 use task::FREE;
 
 // Whether an action's row of conditions or effects, which begins at `at`, names no variable but v. All are looked at: without a branch that is quicker.
@@ -65,7 +66,7 @@ fn hop_word(board: &Board<'_>, effects: &[u8], firsts: &[u8], still: &[u8], a: u
 }
 
 // The word of each action.
-pub fn list_hops(board: &Board<'_>, effects: &'a [u8], firsts: &[u8], still: &[u8]) -> [u16; 256]
+pub fn list_hops(board: &Board<'_>, effects: &[u8], firsts: &[u8], still: &[u8]) -> [u16; 256]
     requires sound { (length effects.now ≡ 8192) }
     requires still { Still board.now.leaves board.now.actions board.now.bases.now board.now.moves.now still.now
         × Firsts (board_in board.now) firsts.now }

@@ -3,16 +3,14 @@
 
 ghost use Rattle.std.specs.Prelude.{◌≡◌, false, ◌++◌, ◌+◌, ◌*◌, ◌≤◌, ◌<◌, length, get_or, take, drop};
 ghost use Rattle.layer.specs.Board.{base_on, row_on, states_on, settled_on};
-ghost use Rattle.layer.specs.First.{Firsts};
 ghost use Rattle.layer.specs.Held.{board_in};
 ghost use Rattle.mets.specs.Known.{Known};
-ghost use Rattle.edges.specs.Edges.{Edges};
 ghost use Rattle.rows.specs.Begun.{read_from, begun_words};
 ghost use Rattle.rows.specs.Reach.{Reaches, ReachesIn};
 ghost use Rattle.rows.specs.Row.{node_with};
-ghost use Rattle.keys.specs.Scan.{Cut, goal_cost_by};
+ghost use Rattle.keys.specs.Scan.{goal_cost_by};
 ghost use Rattle.rows.specs.Sign.{class_of, sign_of};
-ghost use Rattle.offers.specs.Held.{Room, Kept, Offered};
+ghost use Rattle.offers.specs.Held.{Room, Kept, Offered, is_beaten};
 
 use dominance::list_reached;
 use keys::goal_cost;
@@ -23,20 +21,40 @@ use sweeps::settle_edges;
 use task::Centre;
 use words::copy_words;
 
-// The search beside its table: nodes kept, expansions begun, one more than best's node (0 for none), best's goal cost (the mark for none).
-#[derive(Clone, Copy)]
+mod held;
+
+pub use held::{Opened, SearchTables};
+
+// The search beside its table: nodes kept, expansions begun, best's node, best's goal cost (the mark for none).
+#[derive(Clone, Copy, PartialEq, Eq)]
 pub struct Run {
     pub count: usize,
     pub begun: usize,
-    pub best: usize,
+    pub best: Option<usize>,
     pub best_cost: u64,
 }
 
-// Whether the table was full, and the search to go on with.
+// The table was full, with the search as it was then.
+#[derive(Clone, Copy, PartialEq, Eq)]
+pub struct Full(pub Run);
+
+// A successor by its parts: its centre state and cost, the node and the action that it comes from, its key, and the signature of its prices.
 #[derive(Clone, Copy)]
-pub struct Turned {
-    pub full: bool,
-    pub run: Run,
+pub struct Successor {
+    pub spot: Centre,
+    pub paid: u64,
+    pub parent: usize,
+    pub action: usize,
+    pub key: u64,
+    pub sign: u64,
+}
+
+// What an offer works in: what is known of centre states, the prices of a layer's begin and of its layer, and room for a list of states that has the recent
+// numbers behind its first 1,024 words.
+pub struct Bench {
+    pub known: [u8; 36864],
+    pub next: [u64; 1024],
+    pub room: [u16; 5120],
 }
 
 // The signature of a layer whose begin has the signature `sign`: the same where no leaf was swept.
@@ -50,60 +68,58 @@ fn sign_behind(swept: bool, sign: u64, prices: &[u64]) -> u64
     sign
 }
 
-// A node under the next number: its row with its signature, its scan words (key, links), and the new best. `class` is its centre state's class, `sign` the signature of
-// its layer's begin, and `swept` whether a leaf was swept since. The scan words behind the keys are left to the program: they chain the nodes (`Kept`). So are
-// the words of the table that hold no node.
+// A node under the next number: its row, its scan words (key, links), and the new best. `class` is its centre state's class, and its prices begin `prices`. The
+// scan words behind the keys are left to the program: they chain the nodes (`Kept`). So are the words of the table that hold no node.
 pub fn keep(
-    leaves: usize,
-    bases: &[usize],
-    goals: &[u16],
-    factors: [u8; 32],
-    goal: [u8; 32],
-    spot: Centre,
+    tables: &SearchTables<'_>,
+    made: Successor,
     class: usize,
-    paid: u64,
-    parent: usize,
-    action: usize,
-    key: u64,
-    sign: u64,
-    swept: bool,
     prices: &[u64],
     table: &mut [u64],
     scan: &mut [u64],
     run: Run,
 ) -> Run
-    requires cut { Cut leaves bases.now (length prices.now) × Cut leaves bases.now (length goals.now) }
-    requires leaves_bound { (get_or bases.now leaves 0 ≤ 1024) × (run.count < 4096) × ((run.count + 1) * (40 + get_or bases.now leaves 0) ≤ length table.old)
-        × (length scan.old ≡ 17696) }
-    requires sign_value { (swept ≡ false → sign ≡ sign_of (take (get_or bases.now leaves 0) prices.now)) × (class ≡ class_of spot) }
-    ensures { Kept (get_or bases.now leaves 0) table.old scan.old run
-        (node_with spot paid (take (get_or bases.now leaves 0) prices.now) parent action) key
-        (goal_cost_by leaves bases.now goals.now factors goal spot paid prices.now)
+    requires prices { row_on (board_in tables.now.board) ≤ length prices.now }
+    requires room { (run.count < 4096) × ((run.count + 1) * (40 + row_on (board_in tables.now.board)) ≤ length table.old) × (length scan.old ≡ 17696) }
+    requires sign { made.sign ≡ sign_of (take (row_on (board_in tables.now.board)) prices.now) }
+    requires class { class ≡ class_of made.spot }
+    ensures { Kept (row_on (board_in tables.now.board)) table.old scan.old run
+        (node_with made.spot made.paid (take (row_on (board_in tables.now.board)) prices.now) made.parent made.action) made.key
+        (goal_cost_by tables.now.board.leaves tables.now.board.bases.now tables.now.goals.now tables.now.board.factors tables.now.goal made.spot made.paid prices.now)
         table.new scan.new result }
 {
-    let states = bases[leaves];
+    let board = &tables.board;
+    let states = board.states();
     let count = run.count;
     let wide = 40 + states;
     let at = count * wide;
     let end = at + wide;
-    let own = sign_behind(swept, sign, &prices[..states]);
     write_row(
         &mut table[at..end],
         states,
-        spot,
-        paid,
-        parent,
-        action,
-        own,
+        made.spot,
+        made.paid,
+        made.parent,
+        made.action,
+        made.sign,
         prices,
     );
-    link(scan, count, key, own, class);
-    let cost = goal_cost(leaves, bases, goals, factors, goal, spot, paid, prices);
+    link(scan, count, made.key, made.sign, class);
+    let cost = goal_cost(
+        board.leaves,
+        board.bases,
+        tables.goals,
+        board.factors,
+        tables.goal,
+        made.spot,
+        made.paid,
+        prices,
+    );
     if cost < run.best_cost {
         return Run {
             count: count + 1,
             begun: run.begun,
-            best: count + 1,
+            best: Some(count),
             best_cost: cost,
         };
     }
@@ -117,25 +133,22 @@ pub fn keep(
 
 // A layer's begin settles; `spot` is its centre state, of this class. Whether a leaf was swept: else all is as it was.
 fn settle_begin(
-    board: &Board<'_>,
-    firsts: &[u8],
-    edges: &EdgeTable<'_>,
+    tables: &SearchTables<'_>,
     spot: Centre,
     class: usize,
     begin: &mut [u64],
     known: &mut [u8],
 ) -> bool
-    requires firsts { Firsts (board_in board.now) firsts.now
-        × Edges (board_in board.now) edges.now.list.now edges.now.ends.now
-        × Known (board_in board.now) known.old
-        × (class < 4096) × (row_on (board_in board.now) ≤ length begin.old) }
-    ensures { (begin.new ≡ settled_on (board_in board.now) spot begin.old ++ drop (row_on (board_in board.now)) begin.old)
-        × Known (board_in board.now) known.new
+    requires known { Known (board_in tables.now.board) known.old }
+    requires begin { (class < 4096) × (row_on (board_in tables.now.board) ≤ length begin.old) }
+    ensures { (begin.new ≡ settled_on (board_in tables.now.board) spot begin.old ++ drop (row_on (board_in tables.now.board)) begin.old)
+        × Known (board_in tables.now.board) known.new
         × (result ≡ false → begin.new ≡ begin.old) }
 {
+    let board = &tables.board;
     let slot = slot_for(
         board.actions,
-        firsts,
+        tables.firsts,
         board.factors,
         board.conditions,
         spot,
@@ -143,15 +156,23 @@ fn settle_begin(
         known,
     );
     let end = slot + 256;
-    settle_edges(board, &known[slot..end], edges, spot, begin)
+    settle_edges(
+        board,
+        &known[slot..end],
+        tables.edges.list,
+        tables.edges.ends,
+        spot,
+        begin,
+    )
 }
 
-// Where the prices of a layer's begin are read: in the layer before, where the action is still, else where they were made.
-fn read_from<'a>(old: &'a [u64], begin: &'a [u64], still: u8) -> &'a [u64]
-    ensures { result.now ≡ read_from still old.now begin.now }
+// Where the prices of a layer's begin, or a list of the states that they reach, are read: in the layer before, where the action is still, else where they were made.
+fn read_from<'a, T>(old: &'a [T], made: &'a [T], still: u8) -> &'a [T]
+    ensures moves { still ≡ 0 → result.now ≡ made.now }
+    ensures stays { (still ≡ 0 → ⊥) → result.now ≡ old.now }
 {
     if still == 0 {
-        return begin;
+        return made;
     }
     old
 }
@@ -165,16 +186,6 @@ fn list_begin(states: usize, begin: &[u64], room: &mut [u16], still: u8) -> usiz
         return 0;
     }
     list_reached(states, begin, room)
-}
-
-// Which list has the states that a layer's begin reaches: that of the layer before, where the action is still, else the one that was made.
-fn list_of<'a>(old: &'a [u16], made: &'a [u16], still: u8) -> &'a [u16]
-    ensures { result.now ≡ read_from still old.now made.now }
-{
-    if still == 0 {
-        return made;
-    }
-    old
 }
 
 // The next recent number: that of the node that was found, one more than its own, or else of the one behind the first `count` nodes, which is kept next if
@@ -199,99 +210,92 @@ fn fill_begin(old: &[u64], begin: &mut [u64], still: u8, states: usize)
     copy_words(old, begin, states);
 }
 
-// A successor of node `parent` by `action`, from its layer's begin, which is `old` where `still` is not 0: dropped, refused for a full table, or settled
-// and kept under the next number. `list` has the states that `old` reaches where there are 128 or more; `room` is for another such list, and
-// has the recent numbers behind its first 1,024 words. The words of `begin` and `room` afterwards are left to the program, their lengths stay; those of
-// `known` too, of which `Known` holds.
-pub fn offer(
-    board: &Board<'_>,
-    firsts: &[u8],
-    edges: &EdgeTable<'_>,
-    goals: &[u16],
-    goal: [u8; 32],
-    nodes: usize,
-    spot: Centre,
-    paid: u64,
-    parent: usize,
-    action: usize,
-    key: u64,
-    sign: u64,
-    still: u8,
-    old: &[u64],
-    begin: &mut [u64],
-    table: &mut [u64],
-    scan: &mut [u64],
-    known: &mut [u8],
-    list: &[u16],
-    room: &mut [u16],
-    run: Run,
-) -> Turned
-    requires firsts { Firsts (board_in board.now) firsts.now
-        × Edges (board_in board.now) edges.now.list.now edges.now.ends.now
-        × Known (board_in board.now) known.old }
-    requires cut { Cut board.now.leaves board.now.bases.now (length begin.old) × Cut board.now.leaves board.now.bases.now (length goals.now) }
-    requires sign_value { (sign ≡ sign_of (take (row_on (board_in board.now)) (begun_words still (row_on (board_in board.now)) old.now begin.old)))
-        × (row_on (board_in board.now) ≤ length old.now)
-        × (128 ≤ row_on (board_in board.now) → Reaches (row_on (board_in board.now)) old.now list.now) × (5120 ≤ length room.old) }
-    requires room { Room (row_on (board_in board.now)) nodes table.old scan.old run }
-    ensures offered { Offered (board_in board.now) goals.now goal nodes table.old scan.old run spot paid
-        (begun_words still (row_on (board_in board.now)) old.now begin.old) parent action key
-        table.new scan.new result }
-    ensures known { Known (board_in board.now) known.new }
-    ensures lengths { (length begin.new ≡ length begin.old) × (length room.new ≡ length room.old) }
+// Where the recent number of a class and a signature stands in the room.
+fn recent_place(class: usize, sign: u64) -> usize
+    requires { class < 4096 }
+    ensures { result < 5120 }
 {
-    let states = board.states();
-    let count = run.count;
-    if key >= run.best_cost {
-        return Turned { full: false, run };
-    }
-    let class = class_of(spot);
-    let many = list_begin(states, &begin[..], room, still);
-    let place = 1024 + slot_of(class, sign);
-    let recent = room[place] as usize;
+    1024 + slot_of(class, sign)
+}
+
+// Whether a node that is kept dominates a successor with its layer's begin, whose prices are those of `from` where `still` is not 0. The node that was found, or
+// else the next, is noted as recent. Of the bench only the room is written; its words are left to the program.
+fn is_dominated(
+    tables: &SearchTables<'_>,
+    from: &Opened<'_>,
+    next: Successor,
+    still: u8,
+    bench: &mut Bench,
+    table: &[u64],
+    scan: &[u64],
+    run: Run,
+) -> bool
+    requires states { from.now.states ≡ row_on (board_in tables.now.board) }
+    requires reached { 128 ≤ from.now.states → Reaches from.now.states from.now.prices.now from.now.reached.now }
+    requires sign { next.sign ≡ sign_of (take (row_on (board_in tables.now.board)) (begun_words still (row_on (board_in tables.now.board)) from.now.prices.now bench.old.next)) }
+    requires room { Room (row_on (board_in tables.now.board)) tables.now.nodes table.now scan.now run }
+    ensures dominated { result ≡ is_beaten (row_on (board_in tables.now.board)) table.now run next.spot next.paid
+        (begun_words still (row_on (board_in tables.now.board)) from.now.prices.now bench.old.next) }
+    ensures lent { (bench.new.known ≡ bench.old.known) × (bench.new.next ≡ bench.old.next) }
+{
+    let states = tables.board.states();
+    let class = class_of(next.spot);
+    let many = list_begin(states, &bench.next, &mut bench.room, still);
+    let place = recent_place(class, next.sign);
+    let recent = bench.room[place] as usize;
     let found = dominator(
         table,
         states,
-        count,
+        run.count,
         scan,
         class,
-        sign,
-        spot,
-        paid,
-        read_from(old, &begin[..], still),
-        list_of(list, &room[..many], still),
+        next.sign,
+        next.spot,
+        next.paid,
+        read_from(from.prices, &bench.next, still),
+        read_from(from.reached, &bench.room[..many], still),
         recent,
     );
-    room[place] = recent_next(found, count);
-    if found > 0 {
-        return Turned { full: false, run };
+    bench.room[place] = recent_next(found, run.count);
+    found > 0
+}
+
+// A successor from its layer's begin, whose prices are those of `from` where `still` is not 0, else those that were made: dropped, refused for a full table, or
+// settled and kept under the next number. The words of the bench afterwards are left to the program, but for `Known`.
+pub fn offer(
+    tables: &SearchTables<'_>,
+    from: &Opened<'_>,
+    next: Successor,
+    still: u8,
+    bench: &mut Bench,
+    table: &mut [u64],
+    scan: &mut [u64],
+    run: Run,
+) -> Result<Run, Full>
+    requires known { Known (board_in tables.now.board) bench.old.known }
+    requires states { from.now.states ≡ row_on (board_in tables.now.board) }
+    requires reached { 128 ≤ from.now.states → Reaches from.now.states from.now.prices.now from.now.reached.now }
+    requires sign { next.sign ≡ sign_of (take (row_on (board_in tables.now.board)) (begun_words still (row_on (board_in tables.now.board)) from.now.prices.now bench.old.next)) }
+    requires room { Room (row_on (board_in tables.now.board)) tables.now.nodes table.old scan.old run }
+    ensures offered { Offered (board_in tables.now.board) tables.now.goals.now tables.now.goal tables.now.nodes table.old scan.old run next.spot next.paid
+        (begun_words still (row_on (board_in tables.now.board)) from.now.prices.now bench.old.next) next.parent next.action next.key
+        table.new scan.new result }
+    ensures known { Known (board_in tables.now.board) bench.new.known }
+{
+    if next.key >= run.best_cost {
+        return Ok(run);
     }
-    if count >= nodes {
-        return Turned { full: true, run };
+    if is_dominated(tables, from, next, still, bench, table, scan, run) {
+        return Ok(run);
     }
-    fill_begin(old, begin, still, states);
-    let swept = settle_begin(board, firsts, edges, spot, class, begin, known);
-    let more = keep(
-        board.leaves,
-        board.bases,
-        goals,
-        board.factors,
-        goal,
-        spot,
-        class,
-        paid,
-        parent,
-        action,
-        key,
-        sign,
-        swept,
-        &begin[..],
-        table,
-        scan,
-        run,
-    );
-    Turned {
-        full: false,
-        run: more,
+    if run.count >= tables.nodes {
+        return Err(Full(run));
     }
+    let states = tables.board.states();
+    let class = class_of(next.spot);
+    fill_begin(from.prices, &mut bench.next, still, states);
+    let swept = settle_begin(tables, next.spot, class, &mut bench.next, &mut bench.known);
+    let sign = sign_behind(swept, next.sign, &bench.next[..states]);
+    let made = Successor { sign, ..next };
+    Ok(keep(tables, made, class, &bench.next, table, scan, run))
 }
