@@ -1,6 +1,6 @@
 -- Each answer in numbers: this paper's number for the enum's case, and its values. 01: "Any answer that is an enum has a definition. The definition
 -- gives this paper's number and values for each of the enum's cases, and the promises use it."
-use Rattle.std.specs.Prelude.{ℕ}
+use Rattle.std.specs.Prelude.{ℕ, Result, Ok, Err}
 use Rattle.fields.specs.Answers.{number_of}
 use Rattle.answers.specs.declared.PlanRefusal.{PlanRefusal}
 use Rattle.answers.specs.declared.PlanRefusal.TheVariants.{InRecord, NodesWrong, TableShort, TableFull, BudgetSpent, PlanLong}
@@ -8,8 +8,6 @@ use Rattle.answers.specs.declared.PlanAnswer.{PlanAnswer}
 use Rattle.answers.specs.declared.PlanAnswer.TheVariants.{Solved, Unsolvable, Refused}
 use Rattle.answers.specs.declared.PriceRefusal.{PriceRefusal}
 use Rattle.answers.specs.declared.PriceRefusal.TheVariants.{InRecord as PriceInRecord, PathWrong, SliceShort, NotApplicable}
-use Rattle.answers.specs.declared.PriceAnswer.{PriceAnswer}
-use Rattle.answers.specs.declared.PriceAnswer.TheVariants.{Prices, Refused as NotPriced}
 use Rattle.answers.specs.declared.Told.{Told}
 use Rattle.answers.specs.declared.PricesTold.{PricesTold}
 
@@ -37,6 +35,6 @@ price_refusal_number SliceShort = 21
 price_refusal_number NotApplicable = 13
 
 -- 0 for prices, and how many were written
-abbrev pub price_told : PriceAnswer → PricesTold
-price_told (Prices n) = record { number = 0; count = n }
-price_told (NotPriced why) = record { number = price_refusal_number why; count = 0 }
+abbrev pub price_told : Result ℕ PriceRefusal → PricesTold
+price_told (Ok n) = record { number = 0; count = n }
+price_told (Err why) = record { number = price_refusal_number why; count = 0 }

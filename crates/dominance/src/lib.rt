@@ -126,9 +126,8 @@ fn place_by_sign(row: &[u64], candidate: &Candidate<'_>) -> Option<usize>
     requires { (candidate.now.states < 128) × (length row.now ≡ 40 + candidate.now.states) }
     ensures { Above candidate.now.states row.now candidate.now.prices.now result }
 {
-    let place = place_in_bits(row, candidate);
-    if place.is_some() {
-        return place;
+    if let Some(place) = place_in_bits(row, candidate) {
+        return Some(place);
     }
     if candidate.states <= 64 {
         return None;

@@ -1,6 +1,6 @@
--- What the answers mean: the number of each refusal, and what a field read says of the record.
+-- What the answers mean: the number of each refusal, and what a reading function says of the record.
 pub mod Laws
-use Rattle.std.specs.Prelude.{ℕ}
+use Rattle.std.specs.Prelude.{ℕ, Result, Ok, Err}
 use Rattle.loops.specs.Parsed.{Parsed, got, refused}
 use Rattle.fields.specs.declared.Refusal.{Refusal}
 use Rattle.fields.specs.declared.Refusal.TheVariants.{
@@ -16,8 +16,6 @@ use Rattle.fields.specs.declared.Refusal.TheVariants.{
   TooManyStates,
   NotStar,
 }
-use Rattle.fields.specs.declared.FieldRead.{FieldRead}
-use Rattle.fields.specs.declared.FieldRead.TheVariants.{Bits, Ends}
 
 -- "1 record ends inside a field. 2 size of 1. 3 factor above the number of leaves. 4 initial value outside its size. 5 a pair's variable
 -- unknown or not above the one before. 6 a pair's value outside its size. 7 no effects. 8 fill bits not zero, or bytes left over. 9 centre
@@ -39,7 +37,12 @@ number_of NotStar = 11
 abbrev pub Reading : Type 0 → Type 0
 Reading A = Parsed Refusal ℕ A
 
--- a field's number and the bit behind it, or the record ends
-abbrev pub field_told : FieldRead → Reading ℕ
-field_told (Bits value at) = got value at
-field_told Ends = refused RecordEnds
+-- what was read and the bit behind it, or the refusal
+abbrev pub told : {A : Type 0} → Result A Refusal → ℕ → Reading A
+told (Ok a) at = got a at
+told (Err why) at = refused why
+
+-- the same of what was read into something that was lent, which is a afterwards
+abbrev pub told_in : {A : Type 0} → A → Result (Unit {0}) Refusal → ℕ → Reading A
+told_in a (Ok done) at = got a at
+told_in a (Err why) at = refused why

@@ -4,6 +4,8 @@ use Rattle.std.specs.Prelude.{ℕ, zero, suc, ◌+◌, ◌-◌, ◌*◌, ◌/◌
 use Rattle.loops.specs.Parsed.{got, refused}
 use Rattle.fields.specs.Answers.{Reading}
 use Rattle.fields.specs.declared.Refusal.TheVariants.{RecordEnds}
+use Rattle.fields.specs.declared.Field.{Field}
+use Rattle.fields.specs.declared.Field.TheVariants.{Variables, Leaves, Actions, Size, Factor, Initial, Pairs, Handling, Distance, Variable, Value}
 
 -- variables minus 1, leaves minus 1, actions; size minus 1, factor, initial value; number of pairs; handling, distance; variable, value
 abbrev pub widths : List ℕ
@@ -46,6 +48,20 @@ VARIABLE = 9
 
 abbrev pub VALUE : ℕ
 VALUE = 10
+
+-- the number of a kind
+abbrev pub number_of_field : Field → ℕ
+number_of_field Variables = VARIABLES
+number_of_field Leaves = LEAVES
+number_of_field Actions = ACTIONS
+number_of_field Size = SIZE
+number_of_field Factor = FACTOR
+number_of_field Initial = INITIAL
+number_of_field Pairs = PAIRS
+number_of_field Handling = HANDLING
+number_of_field Distance = DISTANCE
+number_of_field Variable = VARIABLE
+number_of_field Value = VALUE
 
 -- bit k of the record
 unfoldable pub bit_of : List ℕ → ℕ → ℕ

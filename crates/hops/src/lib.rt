@@ -2,7 +2,6 @@
 #![tactic(auto)]
 
 ghost use Rattle.std.specs.Prelude.{◌≡◌, ℕ, ◌+◌, ◌*◌, ◌≤◌, ◌<◌, length, get_or};
-ghost use Rattle.layer.specs.Board.{base_on, row_on, states_on};
 ghost use Rattle.layer.specs.First.{Firsts};
 ghost use Rattle.layer.specs.Held.{board_in};
 ghost use Rattle.stills.specs.Still.{Still};
@@ -12,6 +11,7 @@ use layer::Board;
 use task::FREE;
 
 // Whether an action's row of conditions or effects, which begins at `at`, names no variable but v. All are looked at: without a branch that is quicker.
+#[tactic(auto, unfolding(crate::specs::Hops::names_only))]
 fn names_only(pairs: &[u8], at: usize, v: usize) -> bool
     requires { at + 32 ≤ length pairs.now }
     ensures { result ≡ names_only pairs.now at v }
@@ -24,6 +24,7 @@ fn names_only(pairs: &[u8], at: usize, v: usize) -> bool
 }
 
 // The word of action a where its conditions and effects name variable v and no other, else 0.
+#[tactic(auto, using(std::proofs::lemmas::Grind::common_steps), unfolding(crate::specs::Hops::pair_word))]
 fn pair_word(conditions: &[u8], effects: &[u8], a: usize, v: usize) -> u16
     requires { (length conditions.now ≡ 8192) × (length effects.now ≡ 8192) × (a < 256) × (v < 32) }
     ensures { result ≡ pair_word conditions.now effects.now a v }
@@ -46,10 +47,12 @@ fn pair_word(conditions: &[u8], effects: &[u8], a: usize, v: usize) -> u16
 }
 
 // Action a's word: 0, or that of a hop.
+#[tactic(auto, using(std::proofs::lemmas::Grind::common_steps), unfolding(crate::specs::Hops::hop_word))]
 fn hop_word(board: &Board<'_>, effects: &[u8], firsts: &[u8], still: &[u8], a: usize) -> u16
-    requires sound { (length effects.now ≡ 8192) × (a < board.now.actions) }
-    requires still { Still board.now.leaves board.now.actions board.now.bases.now board.now.moves.now still.now
-        × Firsts (board_in board.now) firsts.now }
+    requires effects { length effects.now ≡ 8192 }
+    requires firsts { Firsts (board_in board.now) firsts.now }
+    requires still { Still board.now.leaves board.now.actions board.now.bases.now board.now.moves.now still.now }
+    requires a_lt_actions { a < board.now.actions }
     ensures { result ≡ hop_word board.now.kinds.now board.now.conditions.now effects.now firsts.now still.now a }
 {
     if board.kinds[a] != 0 {
@@ -66,10 +69,11 @@ fn hop_word(board: &Board<'_>, effects: &[u8], firsts: &[u8], still: &[u8], a: u
 }
 
 // The word of each action.
+#[tactic(auto, unfolding(crate::specs::Hops::hops_by, loops::specs::Count::list))]
 pub fn list_hops(board: &Board<'_>, effects: &[u8], firsts: &[u8], still: &[u8]) -> [u16; 256]
-    requires sound { (length effects.now ≡ 8192) }
-    requires still { Still board.now.leaves board.now.actions board.now.bases.now board.now.moves.now still.now
-        × Firsts (board_in board.now) firsts.now }
+    requires effects { length effects.now ≡ 8192 }
+    requires firsts { Firsts (board_in board.now) firsts.now }
+    requires still { Still board.now.leaves board.now.actions board.now.bases.now board.now.moves.now still.now }
     ensures { result ≡ hops_by board.now.actions board.now.kinds.now board.now.conditions.now effects.now firsts.now still.now }
 {
     let mut hops = [0u16; 256];
@@ -81,6 +85,7 @@ pub fn list_hops(board: &Board<'_>, effects: &[u8], firsts: &[u8], still: &[u8])
 }
 
 // For each hop from a value of a variable to another, one more than the last action that makes it; 0 where none does.
+#[tactic(auto, using(crate::specs::Hops::Laws::way_pass, crate::specs::Hops::Laws::way_more), unfolding(crate::specs::Hops::ways_by))]
 pub fn list_ways(actions: usize, hops: &[u16]) -> [u8; 8192]
     requires { (actions ≤ 255) × (length hops.now ≡ 256) × ((k : ℕ) → get_or hops.now k 0 ≤ 8192) }
     ensures { result ≡ ways_by hops.now actions }

@@ -1,228 +1,164 @@
 // The later parts of a task record, field by field: lists of pairs, and actions. Refusals 1 and 5 to 7 come here, each at its field.
 #![tactic(auto)]
 
-ghost use Rattle.std.specs.Prelude.{◌≡◌, ◌+◌, ◌*◌, ◌<◌, ◌≤◌, ◌^◌, length};
+ghost use Rattle.std.specs.Prelude.{◌≡◌, ◌+◌, ◌*◌, ◌<◌, ◌≤◌, ◌^◌, length, IfOk};
+ghost use Rattle.fields.specs.Answers.{told, told_in};
 ghost use Rattle.fields.specs.Fields.{next_field};
 ghost use Rattle.parts.specs.Elsewhere.{Elsewhere};
 ghost use Rattle.parts.specs.Grammar.{pair_of, pairs_from, counted_pairs, effect_pairs, costs_of, action_of, actions_from};
-ghost use Rattle.parts.specs.Told.{place_told, place_of};
-ghost use Rattle.lists.specs.Told.{pair_told, costs_told};
 
-use fields::{DISTANCE, FieldRead, HANDLING, PAIRS, Refusal, VALUE, VARIABLE, field};
-use parts::Place;
+use fields::{BitReader, Field, Refusal};
+use parts::{Actions, Costs, Pair};
 
-// A pair's variable and value, and the bit behind it.
-#[derive(Clone, Copy)]
-pub enum PairRead {
-    Is(u8, u8, usize),
-    Refused(Refusal),
-}
-
-// An action's handling and distance, and the bit behind them.
-#[derive(Clone, Copy)]
-pub enum CostsRead {
-    Are(u16, u16, usize),
-    Ends,
-}
-
-// The pair at bit `at`, of one of n variables that is at least `low`.
-pub fn read_pair(rec: &[u8], sizes: &[u8], n: usize, low: usize, at: usize) -> PairRead
-    requires { (at < 2 ^ 31) × (n ≤ length sizes.now) }
-    ensures { pair_of (next_field rec.now) sizes.now n low at ≡ pair_told result }
+// A pair of one of the variables of these sizes that is at least `low`. Where it is refused, the reader is at most behind it.
+#[tactic(auto, unfolding(parts::specs::Grammar::pair_of))]
+pub fn read_pair(r: &mut BitReader<'_>, sizes: &[u8], low: usize) -> Result<Pair, Refusal>
+    requires { r.old.at < 2 ^ 31 }
+    ensures told { pair_of (next_field r.old.bytes.now) sizes.now (length sizes.now) low r.old.at ≡ told result r.new.at }
+    ensures near { r.new.at ≤ r.old.at + 9 }
+    ensures same_record { r.new.bytes ≡ r.old.bytes }
+    ensures known { IfOk result (λ pair. pair.variable < length sizes.now) }
 {
-    let f = field(rec, at, VARIABLE);
-    let FieldRead::Bits(v, at1) = f else {
-        return PairRead::Refused(Refusal::RecordEnds);
-    };
-    let variable = v as usize;
-    if variable < low {
-        return PairRead::Refused(Refusal::PairVariable);
+    let variable = r.read(Field::Variable)?;
+    let v = variable as usize;
+    if v < low || v >= sizes.len() {
+        return Err(Refusal::PairVariable);
     }
-    if n <= variable {
-        return PairRead::Refused(Refusal::PairVariable);
+    let value = r.read(Field::Value)?;
+    if value >= sizes[v] as u16 {
+        return Err(Refusal::PairValue);
     }
-    let g = field(rec, at1, VALUE);
-    let FieldRead::Bits(x, at2) = g else {
-        return PairRead::Refused(Refusal::RecordEnds);
-    };
-    let size = sizes[variable] as u16;
-    if size <= x {
-        return PairRead::Refused(Refusal::PairValue);
-    }
-    PairRead::Is(v as u8, x as u8, at2)
+    Ok(Pair {
+        variable: variable as u8,
+        value: value as u8,
+    })
 }
 
-// `count` pairs from bit `at` on, each value into `pairs` at `base` plus its variable. Where it refuses, the entries of this list, `n` from `base` on, are left
-// to the program; all others stay as they were, and the length stays.
+// `count` pairs of the variables of these sizes, each value into `pairs` at `base` plus its variable. Where one is refused, the entries of this list, one for
+// each variable from `base` on, are left to the program; all others stay as they were.
 pub fn read_pairs(
-    rec: &[u8],
+    r: &mut BitReader<'_>,
     sizes: &[u8],
-    n: usize,
     base: usize,
     count: usize,
-    at: usize,
     pairs: &mut [u8],
-) -> Place
-    requires { (at < 2 ^ 30) × (n ≤ length sizes.now) × (n ≤ 32) × (count ≤ 63) × (base + 32 ≤ length pairs.old) }
-    ensures told { pairs_from (next_field rec.now) sizes.now n base count pairs.old at
-        ≡ place_told pairs.new result }
-    ensures near { place_of result ≤ at + 9 * count }
-    ensures elsewhere { Elsewhere base n pairs.old pairs.new }
+) -> Result<(), Refusal>
+    requires { (r.old.at < 2 ^ 30) × (length sizes.now ≤ 32) × (count ≤ 63) × (base + 32 ≤ length pairs.old) }
+    ensures told { pairs_from (next_field r.old.bytes.now) sizes.now (length sizes.now) base count pairs.old r.old.at
+        ≡ told_in pairs.new result r.new.at }
+    ensures near { r.new.at ≤ r.old.at + 9 * count }
+    ensures same_record { r.new.bytes ≡ r.old.bytes }
+    ensures elsewhere { Elsewhere base (length sizes.now) pairs.old pairs.new }
 {
-    let mut k = at;
     let mut low = 0;
-    for i in 0..count {
-        let p = read_pair(rec, sizes, n, low, k);
-        match p {
-            PairRead::Refused(why) => {
-                return Place::Refused(why);
-            }
-            PairRead::Is(variable, value, next) => {
-                let v = variable as usize;
-                pairs[base + v] = value;
-                low = v + 1;
-                k = next;
-            }
-        }
+    for _ in 0..count {
+        let pair = read_pair(r, sizes, low)?;
+        let v = pair.variable as usize;
+        pairs[base + v] = pair.value;
+        low = v + 1;
     }
-    Place::At(k)
+    Ok(())
 }
 
-// A list of pairs with its number in front: the goal's, or an action's conditions. Where it refuses, the entries of this list are left to the program; all
-// others stay as they were, and the length stays.
+// A list of pairs with its number in front: the goal's, or an action's conditions. Where it is refused, the entries of this list are left to the program; all
+// others stay as they were.
+#[tactic(auto, unfolding(parts::specs::Grammar::counted_pairs))]
 pub fn read_list(
-    rec: &[u8],
+    r: &mut BitReader<'_>,
     sizes: &[u8],
-    n: usize,
     base: usize,
-    at: usize,
     pairs: &mut [u8],
-) -> Place
-    requires { (at < 2 ^ 29) × (n ≤ length sizes.now) × (n ≤ 32) × (base + 32 ≤ length pairs.old) }
-    ensures told { counted_pairs (next_field rec.now) sizes.now n base pairs.old at
-        ≡ place_told pairs.new result }
-    ensures near { place_of result ≤ at + 573 }
-    ensures elsewhere { Elsewhere base n pairs.old pairs.new }
+) -> Result<(), Refusal>
+    requires { (r.old.at < 2 ^ 29) × (length sizes.now ≤ 32) × (base + 32 ≤ length pairs.old) }
+    ensures told { counted_pairs (next_field r.old.bytes.now) sizes.now (length sizes.now) base pairs.old r.old.at
+        ≡ told_in pairs.new result r.new.at }
+    ensures near { r.new.at ≤ r.old.at + 573 }
+    ensures same_record { r.new.bytes ≡ r.old.bytes }
+    ensures elsewhere { Elsewhere base (length sizes.now) pairs.old pairs.new }
 {
-    let f = field(rec, at, PAIRS);
-    let FieldRead::Bits(count, at1) = f else {
-        return Place::Refused(Refusal::RecordEnds);
-    };
-    read_pairs(rec, sizes, n, base, count as usize, at1, pairs)
+    let count = r.read(Field::Pairs)?;
+    read_pairs(r, sizes, base, count as usize, pairs)
 }
 
-// An action's effects: a list of pairs, and not an empty one. Where it refuses, the entries of this list are left to the program; all others stay as they
-// were, and the length stays.
+// An action's effects: a list of pairs, and not an empty one. Where it is refused, the entries of this list are left to the program; all others stay as they
+// were.
+#[tactic(auto, unfolding(parts::specs::Grammar::effect_pairs))]
 pub fn read_effects(
-    rec: &[u8],
+    r: &mut BitReader<'_>,
     sizes: &[u8],
-    n: usize,
     base: usize,
-    at: usize,
     pairs: &mut [u8],
-) -> Place
-    requires { (at < 2 ^ 29) × (n ≤ length sizes.now) × (n ≤ 32) × (base + 32 ≤ length pairs.old) }
-    ensures told { effect_pairs (next_field rec.now) sizes.now n base pairs.old at
-        ≡ place_told pairs.new result }
-    ensures near { place_of result ≤ at + 573 }
-    ensures elsewhere { Elsewhere base n pairs.old pairs.new }
+) -> Result<(), Refusal>
+    requires { (r.old.at < 2 ^ 29) × (length sizes.now ≤ 32) × (base + 32 ≤ length pairs.old) }
+    ensures told { effect_pairs (next_field r.old.bytes.now) sizes.now (length sizes.now) base pairs.old r.old.at
+        ≡ told_in pairs.new result r.new.at }
+    ensures near { r.new.at ≤ r.old.at + 573 }
+    ensures same_record { r.new.bytes ≡ r.old.bytes }
+    ensures elsewhere { Elsewhere base (length sizes.now) pairs.old pairs.new }
 {
-    let f = field(rec, at, PAIRS);
-    let FieldRead::Bits(count, at1) = f else {
-        return Place::Refused(Refusal::RecordEnds);
-    };
+    let count = r.read(Field::Pairs)?;
     if count == 0 {
-        return Place::Refused(Refusal::NoEffects);
+        return Err(Refusal::NoEffects);
     }
-    read_pairs(rec, sizes, n, base, count as usize, at1, pairs)
+    read_pairs(r, sizes, base, count as usize, pairs)
 }
 
-// An action's handling and distance.
-pub fn read_costs(rec: &[u8], at: usize) -> CostsRead
-    requires { at < 2 ^ 29 }
-    ensures { costs_of (next_field rec.now) at ≡ costs_told result }
+// An action's handling and distance. Where the record ends, the reader is at most behind them.
+#[tactic(auto, unfolding(parts::specs::Grammar::costs_of))]
+pub fn read_costs(r: &mut BitReader<'_>) -> Result<Costs, Refusal>
+    requires { r.old.at < 2 ^ 29 }
+    ensures told { costs_of (next_field r.old.bytes.now) r.old.at ≡ told result r.new.at }
+    ensures near { r.new.at ≤ r.old.at + 22 }
+    ensures same_record { r.new.bytes ≡ r.old.bytes }
 {
-    let f = field(rec, at, HANDLING);
-    let FieldRead::Bits(handling, at1) = f else {
-        return CostsRead::Ends;
-    };
-    let g = field(rec, at1, DISTANCE);
-    let FieldRead::Bits(distance, at2) = g else {
-        return CostsRead::Ends;
-    };
-    CostsRead::Are(handling, distance, at2)
+    let handling = r.read(Field::Handling)?;
+    let distance = r.read(Field::Distance)?;
+    Ok(Costs { handling, distance })
 }
 
-// Action i at bit `at`, into the four slices. Where it refuses, the entries of this action are left to the program; all others stay as they were, and the
-// lengths stay.
+// Action i of a task whose variables have these sizes. Where it is refused, the entries of this action are left to the program; all others stay as they were.
+#[tactic(auto, unfolding(parts::specs::Grammar::action_of))]
 pub fn read_action(
-    rec: &[u8],
+    r: &mut BitReader<'_>,
     sizes: &[u8],
-    n: usize,
     i: usize,
-    at: usize,
-    handling: &mut [u16],
-    distance: &mut [u16],
-    conditions: &mut [u8],
-    effects: &mut [u8],
-) -> Place
-    requires { (at < 2 ^ 28) × (n ≤ length sizes.now) × (n ≤ 32) × (i < 256) × (length handling.old ≡ 256)
-        × (length distance.old ≡ 256) × (length conditions.old ≡ 8192) × (length effects.old ≡ 8192) }
-    ensures told { action_of (next_field rec.now) sizes.now n i
-        (record { handling = handling.old; distance = distance.old; conditions = conditions.old; effects = effects.old }) at
-        ≡ place_told (record { handling = handling.new; distance = distance.new; conditions = conditions.new; effects = effects.new }) result }
-    ensures near { place_of result ≤ at + 1168 }
-    ensures elsewhere { Elsewhere i 1 handling.old handling.new × Elsewhere i 1 distance.old distance.new
-        × Elsewhere (i * 32) n conditions.old conditions.new × Elsewhere (i * 32) n effects.old effects.new }
+    into: &mut Actions,
+) -> Result<(), Refusal>
+    requires { (r.old.at < 2 ^ 28) × (length sizes.now ≤ 32) × (i < 256) }
+    ensures told { action_of (next_field r.old.bytes.now) sizes.now (length sizes.now) i into.old r.old.at ≡ told_in into.new result r.new.at }
+    ensures near { r.new.at ≤ r.old.at + 1168 }
+    ensures same_record { r.new.bytes ≡ r.old.bytes }
+    ensures elsewhere { Elsewhere i 1 into.old.handling into.new.handling × Elsewhere i 1 into.old.distance into.new.distance
+        × Elsewhere (i * 32) (length sizes.now) into.old.conditions into.new.conditions
+        × Elsewhere (i * 32) (length sizes.now) into.old.effects into.new.effects }
 {
-    let c = read_costs(rec, at);
-    let CostsRead::Are(h, d, at1) = c else {
-        return Place::Refused(Refusal::RecordEnds);
-    };
-    handling[i] = h;
-    distance[i] = d;
-    let p = read_list(rec, sizes, n, i * 32, at1, conditions);
-    match p {
-        Place::Refused(why) => Place::Refused(why),
-        Place::At(at2) => read_effects(rec, sizes, n, i * 32, at2, effects),
-    }
+    let costs = read_costs(r)?;
+    into.handling[i] = costs.handling;
+    into.distance[i] = costs.distance;
+    read_list(r, sizes, i * 32, &mut into.conditions)?;
+    read_effects(r, sizes, i * 32, &mut into.effects)
 }
 
-// `count` actions from bit `at` on, into the four slices. Where it refuses, the entries of these actions are left to the program; all others stay as they
-// were, and the lengths stay.
+// `count` actions of a task whose variables have these sizes, the first as action 0. Where one is refused, the entries of these actions are left to the program;
+// all others stay as they were.
 pub fn read_actions(
-    rec: &[u8],
+    r: &mut BitReader<'_>,
     sizes: &[u8],
-    n: usize,
     count: usize,
-    at: usize,
-    handling: &mut [u16],
-    distance: &mut [u16],
-    conditions: &mut [u8],
-    effects: &mut [u8],
-) -> Place
-    requires { (at < 2 ^ 27) × (n ≤ length sizes.now) × (n ≤ 32) × (count ≤ 255) × (length handling.old ≡ 256)
-        × (length distance.old ≡ 256) × (length conditions.old ≡ 8192) × (length effects.old ≡ 8192) }
-    ensures told { actions_from (next_field rec.now) sizes.now n count 0
-        (record { handling = handling.old; distance = distance.old; conditions = conditions.old; effects = effects.old }) at
-        ≡ place_told (record { handling = handling.new; distance = distance.new; conditions = conditions.new; effects = effects.new }) result }
-    ensures near { place_of result ≤ at + 1168 * count }
-    ensures elsewhere { Elsewhere 0 count handling.old handling.new
-        × Elsewhere 0 count distance.old distance.new
-        × Elsewhere 0 (count * 32) conditions.old conditions.new
-        × Elsewhere 0 (count * 32) effects.old effects.new }
+    into: &mut Actions,
+) -> Result<(), Refusal>
+    requires { (r.old.at < 2 ^ 27) × (length sizes.now ≤ 32) × (count ≤ 255) }
+    ensures told { actions_from (next_field r.old.bytes.now) sizes.now (length sizes.now) count 0 into.old r.old.at
+        ≡ told_in into.new result r.new.at }
+    ensures near { r.new.at ≤ r.old.at + 1168 * count }
+    ensures same_record { r.new.bytes ≡ r.old.bytes }
+    ensures elsewhere { Elsewhere 0 count into.old.handling into.new.handling
+        × Elsewhere 0 count into.old.distance into.new.distance
+        × Elsewhere 0 (count * 32) into.old.conditions into.new.conditions
+        × Elsewhere 0 (count * 32) into.old.effects into.new.effects }
 {
-    let mut k = at;
     for i in 0..count {
-        let p = read_action(rec, sizes, n, i, k, handling, distance, conditions, effects);
-        match p {
-            Place::Refused(why) => {
-                return Place::Refused(why);
-            }
-            Place::At(next) => {
-                k = next;
-            }
-        }
+        read_action(r, sizes, i, into)?;
     }
-    Place::At(k)
+    Ok(())
 }

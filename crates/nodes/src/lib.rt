@@ -179,9 +179,8 @@ fn walk(table: &[u64], count: usize, scan: &[u64; SCAN_WORDS], class: usize, can
         if all_lack(scan, group, candidate.sign) {
             continue;
         }
-        let found = try_group(table, count, scan, group, candidate, &mut hint);
-        if found.is_some() {
-            return found;
+        if let Some(u) = try_group(table, count, scan, group, candidate, &mut hint) {
+            return Some(u);
         }
     }
     None

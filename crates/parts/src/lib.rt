@@ -1,120 +1,154 @@
 // The first parts of a task record, field by field: head and variables, with the grammar of all parts. Refusals 1 to 4 come here, each at its field.
 #![tactic(auto)]
 
-ghost use Rattle.std.specs.Prelude.{◌≡◌, ◌+◌, ◌*◌, ◌<◌, ◌≤◌, ◌^◌, length};
+ghost use Rattle.std.specs.Prelude.{◌≡◌, ◌+◌, ◌*◌, ◌<◌, ◌≤◌, ◌^◌, length, IfOk};
+ghost use Rattle.fields.specs.Answers.{told, told_in};
 ghost use Rattle.fields.specs.Fields.{next_field};
 ghost use Rattle.parts.specs.Elsewhere.{Elsewhere};
-ghost use Rattle.parts.specs.Grammar.{head_of, variable_of, variables_from};
-ghost use Rattle.parts.specs.Told.{head_told, variable_told, place_told, place_of};
+ghost use Rattle.parts.specs.Grammar.{no_variables, no_actions, head_of, variable_of, variables_from};
+ghost use Rattle.parts.specs.Grammar.Filled.{HeadIn};
 
-use fields::{ACTIONS, FACTOR, FieldRead, INITIAL, LEAVES, Refusal, SIZE, VARIABLES, field};
+use fields::{BitReader, Field, Refusal};
+use task::FREE;
 
-// How many variables, leaves and actions there are, and the bit behind the head.
+// How many variables, leaves and actions there are.
 #[derive(Clone, Copy)]
-pub enum HeadRead {
-    Is(u8, u8, u8, usize),
-    Refused(Refusal),
+pub struct Head {
+    pub variables: u8,
+    pub leaves: u8,
+    pub actions: u8,
 }
 
-// A variable's size, factor and initial value, and the bit behind it.
 #[derive(Clone, Copy)]
-pub enum VariableRead {
-    Is(u8, u8, u8, usize),
-    Refused(Refusal),
+pub struct Variable {
+    pub size: u8,
+    pub factor: u8,
+    pub initial: u8,
 }
 
-// The bit behind what was read into lent slices.
+// The variables, each at its number.
 #[derive(Clone, Copy)]
-pub enum Place {
-    At(usize),
-    Refused(Refusal),
+pub struct Variables {
+    pub sizes: [u8; 32],
+    pub factors: [u8; 32],
+    pub initial: [u8; 32],
 }
 
-pub fn read_head(rec: &[u8]) -> HeadRead
-    ensures { head_of (next_field rec.now) 0 ≡ head_told result }
-{
-    let f = field(rec, 0, VARIABLES);
-    let FieldRead::Bits(variables, at1) = f else {
-        return HeadRead::Refused(Refusal::RecordEnds);
-    };
-    let g = field(rec, at1, LEAVES);
-    let FieldRead::Bits(leaves, at2) = g else {
-        return HeadRead::Refused(Refusal::RecordEnds);
-    };
-    let h = field(rec, at2, ACTIONS);
-    let FieldRead::Bits(actions, at3) = h else {
-        return HeadRead::Refused(Refusal::RecordEnds);
-    };
-    HeadRead::Is(
-        (variables + 1) as u8,
-        (leaves + 1) as u8,
-        actions as u8,
-        at3,
-    )
-}
-
-// The variable at bit `at`, in a task with so many leaves.
-pub fn read_variable(rec: &[u8], leaves: u8, at: usize) -> VariableRead
-    requires { at < 2 ^ 31 }
-    ensures { variable_of (next_field rec.now) leaves at ≡ variable_told result }
-{
-    let f = field(rec, at, SIZE);
-    let FieldRead::Bits(less, at1) = f else {
-        return VariableRead::Refused(Refusal::RecordEnds);
-    };
-    if less == 0 {
-        return VariableRead::Refused(Refusal::SizeOne);
-    }
-    let g = field(rec, at1, FACTOR);
-    let FieldRead::Bits(factor, at2) = g else {
-        return VariableRead::Refused(Refusal::RecordEnds);
-    };
-    if factor > leaves as u16 {
-        return VariableRead::Refused(Refusal::FactorUnknown);
-    }
-    let h = field(rec, at2, INITIAL);
-    let FieldRead::Bits(initial, at3) = h else {
-        return VariableRead::Refused(Refusal::RecordEnds);
-    };
-    if initial > less {
-        return VariableRead::Refused(Refusal::InitialOutside);
-    }
-    VariableRead::Is((less + 1) as u8, factor as u8, initial as u8, at3)
-}
-
-// `n` variables from bit `at` on, into the three slices. Where it refuses, the entries of these variables are left to the program; all others stay as they
-// were, and the lengths stay.
-pub fn read_variables(
-    rec: &[u8],
-    leaves: u8,
-    n: usize,
-    at: usize,
-    sizes: &mut [u8],
-    factors: &mut [u8],
-    initial: &mut [u8],
-) -> Place
-    requires { (at < 2 ^ 30) × (n ≤ 32) × (length sizes.old ≡ 32) × (length factors.old ≡ 32) × (length initial.old ≡ 32) }
-    ensures told { variables_from (next_field rec.now) leaves n 0
-        (record { sizes = sizes.old; factors = factors.old; initial = initial.old }) at
-        ≡ place_told (record { sizes = sizes.new; factors = factors.new; initial = initial.new }) result }
-    ensures near { place_of result ≤ at + 12 * n }
-    ensures elsewhere { Elsewhere 0 n sizes.old sizes.new × Elsewhere 0 n factors.old factors.new
-        × Elsewhere 0 n initial.old initial.new }
-{
-    let mut k = at;
-    for i in 0..n {
-        let v = read_variable(rec, leaves, k);
-        match v {
-            VariableRead::Refused(why) => {
-                return Place::Refused(why);
-            }
-            VariableRead::Is(size, factor, value, next) => {
-                sizes[i] = size;
-                factors[i] = factor;
-                initial[i] = value;
-                k = next;
-            }
+impl Variables {
+    // No variable yet: factors hold 16, which is no factor.
+    pub fn blank() -> Variables
+        ensures { result ≡ no_variables }
+    {
+        Variables {
+            sizes: [0; 32],
+            factors: [FREE; 32],
+            initial: [0; 32],
         }
     }
-    Place::At(k)
+}
+
+// A variable, and the value that a condition, an effect or the goal names of it.
+#[derive(Clone, Copy)]
+pub struct Pair {
+    pub variable: u8,
+    pub value: u8,
+}
+
+// What an action's cost is made of.
+#[derive(Clone, Copy)]
+pub struct Costs {
+    pub handling: u16,
+    pub distance: u16,
+}
+
+// The actions, each at its number. What one names of variable v stands at 32 times the action plus v.
+#[derive(Drop)]
+pub struct Actions {
+    pub handling: [u16; 256],
+    pub distance: [u16; 256],
+    pub conditions: [u8; 8192],
+    pub effects: [u8; 8192],
+}
+
+impl Actions {
+    // No action yet: conditions and effects name no variable.
+    pub fn blank() -> Actions
+        ensures { result ≡ no_actions }
+    {
+        Actions {
+            handling: [0; 256],
+            distance: [0; 256],
+            conditions: [FREE; 8192],
+            effects: [FREE; 8192],
+        }
+    }
+}
+
+// The counts. Where the record ends, the reader is at most behind the head.
+#[tactic(auto, unfolding(crate::specs::Grammar::head_of))]
+pub fn read_head(r: &mut BitReader<'_>) -> Result<Head, Refusal>
+    requires { r.old.at < 2 ^ 31 }
+    ensures told { head_of (next_field r.old.bytes.now) r.old.at ≡ told result r.new.at }
+    ensures in_bounds { IfOk result HeadIn }
+    ensures near { r.new.at ≤ r.old.at + 16 }
+    ensures same_record { r.new.bytes ≡ r.old.bytes }
+{
+    let variables = r.read(Field::Variables)?;
+    let leaves = r.read(Field::Leaves)?;
+    let actions = r.read(Field::Actions)?;
+    Ok(Head {
+        variables: (variables + 1) as u8,
+        leaves: (leaves + 1) as u8,
+        actions: actions as u8,
+    })
+}
+
+// A variable of a task with so many leaves. Where it is refused, the reader is at most behind it.
+#[tactic(auto, unfolding(crate::specs::Grammar::variable_of))]
+pub fn read_variable(r: &mut BitReader<'_>, leaves: u8) -> Result<Variable, Refusal>
+    requires { r.old.at < 2 ^ 31 }
+    ensures told { variable_of (next_field r.old.bytes.now) leaves r.old.at ≡ told result r.new.at }
+    ensures near { r.new.at ≤ r.old.at + 12 }
+    ensures same_record { r.new.bytes ≡ r.old.bytes }
+{
+    let less = r.read(Field::Size)?;
+    if less == 0 {
+        return Err(Refusal::SizeOne);
+    }
+    let factor = r.read(Field::Factor)?;
+    if factor > leaves as u16 {
+        return Err(Refusal::FactorUnknown);
+    }
+    let initial = r.read(Field::Initial)?;
+    if initial > less {
+        return Err(Refusal::InitialOutside);
+    }
+    Ok(Variable {
+        size: (less + 1) as u8,
+        factor: factor as u8,
+        initial: initial as u8,
+    })
+}
+
+// `n` variables, the first as variable 0. Where one is refused, the entries of these variables are left to the program; all others stay as they were.
+pub fn read_variables(
+    r: &mut BitReader<'_>,
+    leaves: u8,
+    n: usize,
+    into: &mut Variables,
+) -> Result<(), Refusal>
+    requires { (r.old.at < 2 ^ 30) × (n ≤ 32) }
+    ensures told { variables_from (next_field r.old.bytes.now) leaves n 0 into.old r.old.at ≡ told_in into.new result r.new.at }
+    ensures near { r.new.at ≤ r.old.at + 12 * n }
+    ensures same_record { r.new.bytes ≡ r.old.bytes }
+    ensures elsewhere { Elsewhere 0 n into.old.sizes into.new.sizes × Elsewhere 0 n into.old.factors into.new.factors
+        × Elsewhere 0 n into.old.initial into.new.initial }
+{
+    for i in 0..n {
+        let v = read_variable(r, leaves)?;
+        into.sizes[i] = v.size;
+        into.factors[i] = v.factor;
+        into.initial[i] = v.initial;
+    }
+    Ok(())
 }

@@ -1,6 +1,6 @@
 -- What a record reads as: its task, or one refusal in the written order: 1 to 7 field by field, 8, then 9, 10, 11 over the whole.
 pub mod Laws
-use Rattle.std.specs.Prelude.{Bool, cond, ◌&&◌, List, ℕ, ◌+◌, ◌-◌, ◌*◌, ◌/◌, eqb}
+use Rattle.std.specs.Prelude.{Bool, cond, ◌&&◌, List, ℕ, ◌+◌, ◌-◌, ◌*◌, ◌/◌, eqb, Result, Ok, Err}
 use Rattle.loops.specs.Parsed.{got, refused}
 use Rattle.task.specs.declared.Task.{Task}
 use Rattle.task.specs.Meaning.{Partial, size, factor, condition, effect}
@@ -8,11 +8,9 @@ use Rattle.fields.specs.declared.Refusal.{Refusal}
 use Rattle.fields.specs.declared.Refusal.TheVariants.{NotFilled}
 use Rattle.fields.specs.Answers.{number_of, Reading}
 use Rattle.fields.specs.Fields.{field_of, next_field, ends_at}
-use Rattle.parts.specs.Grammar.{no_lists, task_with, lists_of, task_of}
-use Rattle.whole.specs.declared.Verdict.{Verdict}
-use Rattle.whole.specs.declared.Verdict.TheVariants.{Accepted, Refused}
+use Rattle.parts.specs.Grammar.{no_lists, task_with, task_of}
+use Rattle.whole.specs.Verdict.{Verdict, Accepted, Refused}
 use Rattle.whole.specs.Whole.{whole_of}
-use Rattle.record.specs.declared.TaskRead.{TaskRead}
 
 -- ---- the verdict
 
@@ -30,6 +28,11 @@ task_verdict rec k t = verdict_of rec k t.variables t.leaves t.actions (size t) 
 
 -- ---- the answer
 
+-- what reading a record gives: the verdict and, where it is "accepted", the task; else a blank one
+pub record TaskRead : Type 0 where
+  pub verdict : Verdict
+  pub task : Task
+
 -- the verdict in numbers: the refusal's, and 0 for "accepted", which has none
 abbrev pub verdict_number : Verdict → ℕ
 verdict_number Accepted = 0
@@ -41,6 +44,11 @@ no_task = task_with 0 0 0 no_lists
 
 abbrev pub refused_for : Refusal → TaskRead
 refused_for why = record { verdict = Refused why; task = no_task }
+
+-- the same as the code answers it: the task, or why the record is refused
+abbrev pub read_told : Result Task Refusal → TaskRead
+read_told (Ok t) = record { verdict = Accepted; task = t }
+read_told (Err why) = refused_for why
 
 -- the task goes with the verdict "accepted"
 abbrev pub answer_for : Verdict → Task → TaskRead
@@ -58,8 +66,3 @@ answer_at rec t k = answer_for (task_verdict rec k t) t
 -- what a record reads as
 unfoldable pub read_record : List ℕ → TaskRead
 read_record rec = answer_of (task_of (next_field rec) 0) λ t k. answer_at rec t k
-
--- the answer behind the head, which ends at bit k
-unfoldable pub body_of : List ℕ → ℕ → ℕ → ℕ → ℕ → TaskRead
-body_of rec variables leaves actions k =
-    answer_of (lists_of (next_field rec) variables leaves actions no_lists k) λ ls k'. answer_at rec (task_with variables leaves actions ls) k'

@@ -63,7 +63,7 @@ fn bases_of(sizes: &[u8], factors: &[u8], variables: usize, leaves: usize) -> [u
     let mut bases: [usize; 9] = [0; 9];
     let mut sum: usize = 0;
     for i in 0..leaves {
-        sum += whole::states_capped(sizes, factors, variables, i + 1) as usize;
+        sum += whole::states_capped(&sizes[..variables], &factors[..variables], i + 1) as usize;
         bases[i + 1] = sum;
     }
     bases
@@ -181,11 +181,14 @@ fn kind_of(
     requires effects_value { star_pairs variables (entries factors.now) leaves (entries_from at conditions.now) (entries_from at effects.now) ≡ true }
     ensures { KindIs variables (entries factors.now) leaves (entries_from at conditions.now) (entries_from at effects.now) result }
 {
-    if whole::touches_centre(factors, effects, at, variables) {
+    let owners = &factors[..variables];
+    let needs = &conditions[at..at + variables];
+    let makes = &effects[at..at + variables];
+    if whole::touches_centre(owners, makes) {
         return 0;
     }
     for i in 0..leaves {
-        if whole::leaf_pairs(factors, conditions, effects, at, variables, i + 1) {
+        if whole::leaf_pairs(owners, needs, makes, i + 1) {
             return (i + 1) as u8;
         }
     }

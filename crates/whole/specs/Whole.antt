@@ -1,6 +1,7 @@
 -- What is tested over the whole of a task. Follows "Refused because of the input": "Then over the whole: 9 centre or a leaf without variables,
 -- 10 too many leaf states, 11 an action that is neither centre nor leaf action."
 pub mod Laws
+pub mod Ext
 use Rattle.std.specs.Prelude.{Bool, true, false, ◌&&◌, List, [], ◌∷◌, ℕ, suc, ◌+◌, leb, eqb}
 use Rattle.loops.specs.Count.{all, any, sum}
 use Rattle.task.specs.declared.Task.{Task}
@@ -8,8 +9,7 @@ use Rattle.task.specs.Meaning.{Partial, size, factor, condition, effect}
 use Rattle.task.specs.Factors.{states_to, star_pairs}
 use Rattle.fields.specs.declared.Refusal.{Refusal}
 use Rattle.fields.specs.declared.Refusal.TheVariants.{FactorEmpty, TooManyStates, NotStar}
-use Rattle.whole.specs.declared.Verdict.{Verdict}
-use Rattle.whole.specs.declared.Verdict.TheVariants.{Accepted, Refused}
+use Rattle.whole.specs.Verdict.{Verdict, Accepted, Refused}
 
 -- the centre and each leaf have a variable
 unfoldable pub factors_used : ℕ → ℕ → (ℕ → ℕ) → Bool

@@ -1,56 +1,37 @@
-use Rattle.std.proofs.Common.{sym, ◌∙◌, arith}
-use native.Mathlib.Nat.{sub-zero}
+use Rattle.std.proofs.Common.{◌∙◌, ◌≡◌, arith, length}
+use Rattle.std.proofs.lemmas.Result.{err_from_is_err_and}
+use Rattle.loops.specs.Parsed.{refused, got}
 use Rattle.loops.specs.Parsed.Laws.{turns_end, turns_on, turns_stop}
 use Rattle.fields.specs.Fields.{next_field}
-use Rattle.parts.specs.Elsewhere.Laws.{elsewhere_none, elsewhere_then, elsewhere_wider}
-use Rattle.parts.specs.Grammar.{Actions, action_of}
+use Rattle.parts.specs.Elsewhere.Laws.{elsewhere_then, elsewhere_wider}
+use Rattle.parts.specs.Grammar.{action_of}
 use Rattle.lists.proofs.read_actions.Goals as goal
 
-pub loop-i-init : goal.loop-i-init
-loop-i-init c = (omega arith, omega arith, elsewhere_none, elsewhere_none, elsewhere_none, elsewhere_none, rw sub-zero)
-
-pub returns-in-Refused : goal.returns-in-Refused
-returns-in-Refused c =
-    let l = c.loop-i in
+pub returns-in_err-read_action-clause-told : goal.returns-in_err-read_action-clause-told
+returns-in_err-read_action-clause-told c =
     let a = c.args in
-    let so_far : Actions = record { handling = l.handling; distance = l.distance; conditions = l.conditions; effects = l.effects } in
-    let f = action_of (next_field a.rec.now) a.sizes.now a.n in
-    let e = c.read_action-p.ensures.elsewhere in
-    record {
-      told = sym l.invariant.6 ∙ turns_stop f a.count l.i so_far l.k (omega arith) c.in-Refused.ensures.told;
-      near = omega arith;
-      elsewhere = (
-        elsewhere_then l.invariant.2 (elsewhere_wider (omega arith) (omega arith) e.0),
-        elsewhere_then l.invariant.3 (elsewhere_wider (omega arith) (omega arith) e.1),
-        elsewhere_then l.invariant.4 (elsewhere_wider (omega arith) (omega arith) e.2),
-        elsewhere_then l.invariant.5 (elsewhere_wider (omega arith) (omega arith) e.3),
-      );
-    }
+    let l = c.loop-i in
+    let p = err_from_is_err_and c.from_residual.result c.from_residual.ensures.1 in
+    let e : action_of (next_field a.r.now.bytes.now) a.sizes.now (length a.sizes.now) l.i l.into l.r.at ≡ refused c.in_err-read_action.field-0.0 =
+    rw (← l.invariant.same_record) c.in_err-read_action.ensures.told in
+    rw (p.1, p.2) (l.invariant.left ∙ turns_stop _ _ _ _ _ (omega arith) e)
 
 pub loop-i-preserved : goal.loop-i-preserved
 loop-i-preserved c =
-    let l = c.loop-i in
     let a = c.args in
-    let so_far : Actions = record { handling = l.handling; distance = l.distance; conditions = l.conditions; effects = l.effects } in
-    let f = action_of (next_field a.rec.now) a.sizes.now a.n in
-    let e = c.read_action-p.ensures.elsewhere in (
-      omega arith,
-      omega (arith, c.in-At.ensures.near),
-      elsewhere_then l.invariant.2 (elsewhere_wider (omega arith) (omega arith) e.0),
-      elsewhere_then l.invariant.3 (elsewhere_wider (omega arith) (omega arith) e.1),
-      elsewhere_then l.invariant.4 (elsewhere_wider (omega arith) (omega arith) e.2),
-      elsewhere_then l.invariant.5 (elsewhere_wider (omega arith) (omega arith) e.3),
-      sym (turns_on f a.count l.i so_far l.k (omega arith) c.in-At.ensures.told) ∙ l.invariant.6,
-    )
-
-pub returns : goal.returns
-returns c =
     let l = c.loop-i in
-    let a = c.args in
-    let so_far : Actions = record { handling = l.handling; distance = l.distance; conditions = l.conditions; effects = l.effects } in
-    let f = action_of (next_field a.rec.now) a.sizes.now a.n in
+    let ok = c.in_ok-read_action.ensures in
+    let e : action_of (next_field a.r.now.bytes.now) a.sizes.now (length a.sizes.now) l.i l.into l.r.at ≡ got c.read_action.new.into c.read_action.new.r.at =
+    rw (← l.invariant.same_record) ok.told in
     record {
-      told = sym l.invariant.6 ∙ turns_end f a.count l.i so_far l.k c.loop-i-test.false;
-      near = omega arith;
-      elsewhere = (l.invariant.2, l.invariant.3, l.invariant.4, l.invariant.5);
+      near = omega (arith, ok.near);
+      same_record = ok.same_record ∙ l.invariant.same_record;
+      handling = elsewhere_then l.invariant.handling (elsewhere_wider (omega arith) (omega arith) ok.elsewhere.0);
+      distance = elsewhere_then l.invariant.distance (elsewhere_wider (omega arith) (omega arith) ok.elsewhere.1);
+      conditions = elsewhere_then l.invariant.conditions (elsewhere_wider (omega arith) (omega arith) ok.elsewhere.2);
+      effects = elsewhere_then l.invariant.effects (elsewhere_wider (omega arith) (omega arith) ok.elsewhere.3);
+      left = l.invariant.left ∙ turns_on _ _ _ _ _ (omega arith) e;
     }
+
+pub returns-clause-told : goal.returns-clause-told
+returns-clause-told c = c.loop-i.invariant.left ∙ turns_end _ _ _ _ _ c.loop-i-test.false

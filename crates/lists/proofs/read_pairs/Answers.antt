@@ -1,51 +1,42 @@
-use Rattle.std.proofs.Common.{sym, ◌∙◌, arith}
-use native.Mathlib.Nat.{sub-zero}
+use Rattle.std.proofs.Common.{◌∙◌, ◌≡◌, arith, length}
+use Rattle.std.proofs.lemmas.Result.{err_from_is_err_and}
+use Rattle.loops.specs.Parsed.{refused, got}
 use Rattle.loops.specs.Parsed.Laws.{turns_end, turns_on, turns_stop}
 use Rattle.fields.specs.Fields.{next_field}
-use Rattle.parts.specs.Elsewhere.Laws.{elsewhere_none, elsewhere_set, elsewhere_then}
-use Rattle.parts.specs.Grammar.{pair_turn, pairs_from}
-use Rattle.parts.specs.Places.{pair_place}
+use Rattle.parts.specs.Elsewhere.Laws.{elsewhere_set, elsewhere_then}
+use Rattle.parts.specs.Grammar.{pair_of, pairs_from}
+use Rattle.lists.proofs.read_pairs.Invariants.{rest}
 use Rattle.lists.proofs.read_pairs.Goals as goal
 
-pub loop-i-init : goal.loop-i-init
-loop-i-init c = (omega arith, omega arith, elsewhere_none, rw sub-zero)
-
-pub returns-in-Refused : goal.returns-in-Refused
+pub returns-in_err-pair-clause-told : goal.returns-in_err-pair-clause-told
 unfolding pairs_from
-returns-in-Refused c =
-    let l = c.loop-i in
+returns-in_err-pair-clause-told c =
     let a = c.args in
-    let f = pair_turn (next_field a.rec.now) a.sizes.now a.n a.base in
-    let e =
-    sym l.invariant.3 ∙ turns_stop f a.count l.i (record { low = l.low; into = l.pairs }) l.k {r = c.in-Refused.why} (omega arith) (simp c.in-Refused.ensures) in
-    record { told = simp e; near = omega arith; elsewhere = l.invariant.2 }
+    let l = c.loop.invariant in
+    let p = err_from_is_err_and c.from_residual.result c.from_residual.ensures.1 in
+    let e : pair_of (next_field a.r.now.bytes.now) a.sizes.now (length a.sizes.now) c.loop.low c.loop.r.at ≡ refused c.in_err-pair.field-0.0 =
+    rw (← l.same_record) c.in_err-pair.ensures.told in
+    let all : rest a.r.now.bytes.now a.sizes.now a.base a.count 0 a.pairs.now 0 a.r.now.at ≡ refused c.in_err-pair.field-0.0 =
+    l.left ∙ turns_stop _ _ _ _ _ (omega arith) (simp e) in
+    rw (p.1, p.2) (simp all)
 
-pub overflow_add-pairs : goal.overflow_add-pairs
-overflow_add-pairs c = omega (arith, pair_place _ _ _ _ _ c.in-Is.ensures)
+pub loop-preserved : goal.loop-preserved
+loop-preserved c =
+    let a = c.args in
+    let l = c.loop.invariant in
+    let e : pair_of (next_field a.r.now.bytes.now) a.sizes.now (length a.sizes.now) c.loop.low c.loop.r.at ≡ got c.in_ok-pair.pair c.read_pair.new.r.at =
+    rw (← l.same_record) c.in_ok-pair.ensures.told in
+    record {
+      near = omega (arith, c.in_ok-pair.ensures.near);
+      same_record = c.in_ok-pair.ensures.same_record ∙ l.same_record;
+      elsewhere = elsewhere_then l.elsewhere (elsewhere_set _ _ _ (omega arith) (omega (arith, c.in_ok-pair.ensures.known)));
+      left = l.left ∙ turns_on _ _ _ _ _ (omega arith) (simp e);
+    }
 
-pub bounds-pairs-base : goal.bounds-pairs-base
-bounds-pairs-base c = omega (arith, pair_place _ _ _ _ _ c.in-Is.ensures)
-
-pub overflow_add-low : goal.overflow_add-low
-overflow_add-low c = omega (arith, pair_place _ _ _ _ _ c.in-Is.ensures)
-
-pub loop-i-preserved : goal.loop-i-preserved
-loop-i-preserved c =
-    let l = c.loop-i in
-    let a = c.args in (
-      omega arith,
-      omega (arith, pair_place _ _ _ _ _ c.in-Is.ensures),
-      elsewhere_then l.invariant.2 (elsewhere_set _ _ _ (omega arith) (omega (arith, pair_place _ _ _ _ _ c.in-Is.ensures))),
-      sym (turns_on (pair_turn (next_field a.rec.now) a.sizes.now a.n a.base) a.count l.i (record { low = l.low; into = l.pairs }) l.k
-          (omega arith) (simp c.in-Is.ensures))
-          ∙ l.invariant.3,
-    )
-
-pub returns : goal.returns
+pub returns-clause-told : goal.returns-clause-told
 unfolding pairs_from
-returns c =
-    let l = c.loop-i in
+returns-clause-told c =
     let a = c.args in
-    let f = pair_turn (next_field a.rec.now) a.sizes.now a.n a.base in
-    let e = sym l.invariant.3 ∙ turns_end f a.count l.i (record { low = l.low; into = l.pairs }) l.k c.loop-i-test.false in
-    record { told = simp e; near = omega arith; elsewhere = l.invariant.2 }
+    let all : rest a.r.now.bytes.now a.sizes.now a.base a.count 0 a.pairs.now 0 a.r.now.at ≡ got (record { low = c.loop.low; into = c.loop.pairs }) c.loop.r.at =
+    c.loop.invariant.left ∙ turns_end _ _ _ _ _ c.loop-test.false in
+    simp all

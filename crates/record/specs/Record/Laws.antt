@@ -1,4 +1,4 @@
--- Laws of reading a record: the head first, and what is accepted is valid. Assumes nothing.
+-- Laws of reading a record: what is accepted is valid. Assumes nothing.
 use Rattle.std.specs.Prelude.{◌≡◌, refl, Bool, true, false, cond, List, ℕ}
 use Rattle.std.proofs.Common.{arith}
 use Rattle.loops.specs.Parsed.{got, refused, and_then}
@@ -10,41 +10,12 @@ use Rattle.fields.specs.Answers.{Reading}
 use Rattle.fields.specs.Answers.Laws.{record_number}
 use Rattle.fields.specs.Fields.{next_field}
 use Rattle.fields.specs.Fields.Laws.{next_is}
-use Rattle.parts.specs.Grammar.{Head, no_lists, task_with, head_of, lists_of, task_of}
+use Rattle.parts.specs.Grammar.{task_of}
 use Rattle.parts.specs.Grammar.Laws.{task_fields}
-use Rattle.whole.specs.declared.Verdict.{Verdict}
-use Rattle.whole.specs.declared.Verdict.TheVariants.{Accepted, Refused}
+use Rattle.whole.specs.Verdict.{Verdict, Accepted, Refused}
 use Rattle.whole.specs.Whole.{whole_task}
 use Rattle.whole.specs.Whole.Laws.{whole_valid}
-use Rattle.record.specs.declared.TaskRead.{TaskRead}
-use Rattle.record.specs.Record.{verdict_number, filled_of, task_verdict, answer_of, answer_for, answer_at, read_record, body_of}
-
--- ---- read_record
-
--- what follows from a reading in steps follows from the last of them
-answer_then : {A B : Type 0} (p : Reading A) (next : A → ℕ → Reading B) (end : B → ℕ → TaskRead)
-    → answer_of (and_then p next) end ≡ answer_of p (λ a k. answer_of (next a k) end)
-answer_then (got a k) next end = refl
-answer_then (refused why) next end = refl
-
--- a record reads as its head and what stands behind it
-pub read_head_first : (rec : List ℕ) → read_record rec ≡ answer_of (head_of (next_field rec) 0) (λ h k. body_of rec h.variables h.leaves h.actions k)
-unfolding read_record body_of task_of
-read_head_first rec = go (head_of (next_field rec) 0)
-  where
-    body : Head → ℕ → Reading Task
-    body h k =
-        and_then (lists_of (next_field rec) h.variables h.leaves h.actions no_lists k) λ ls k'.
-        got (task_with h.variables h.leaves h.actions ls) k'
-
-    behind : (h : Head) (k : ℕ) → answer_of (body h k) (answer_at rec)
-        ≡ answer_of (lists_of (next_field rec) h.variables h.leaves h.actions no_lists k) (λ ls k'. answer_at rec (task_with h.variables h.leaves h.actions ls) k')
-    behind h k = answer_then (lists_of (next_field rec) h.variables h.leaves h.actions no_lists k) _ (answer_at rec)
-
-    go : (p : Reading Head) → answer_of (and_then p body) (answer_at rec)
-        ≡ answer_of p (λ h k. answer_of (lists_of (next_field rec) h.variables h.leaves h.actions no_lists k) (λ ls k'. answer_at rec (task_with h.variables h.leaves h.actions ls) k'))
-    go (got h k) = behind h k
-    go (refused why) = refl
+use Rattle.record.specs.Record.{verdict_number, filled_of, task_verdict, answer_of, answer_for, answer_at, read_record}
 
 -- ---- what is accepted
 

@@ -1,7 +1,8 @@
-use Rattle.std.proofs.Common.{◌≡◌, refl, ◌+◌, ◌-◌, le_antisymm, arith, length-set}
+use Rattle.std.proofs.Common.{◌≡◌, refl, ◌+◌, le_antisymm, arith, length-set}
 use Rattle.loops.specs.Count.{sum}
 use Rattle.digits.specs.Digits.{entries, start_of}
 use Rattle.digits.specs.Digits.Laws.{start_capped, start_few}
+use Rattle.whole.specs.Whole.Ext.{states_row}
 use Rattle.tables.specs.Tables.Laws.{filled_more}
 use Rattle.tables.proofs.bases_of.Goals as goal
 
@@ -18,8 +19,9 @@ overflow_add-sum c =
 
 pub loop-i-preserved : goal.loop-i-preserved
 loop-i-preserved c =
+    let a = c.args in
     let l = c.loop-i in
-    let sum = start_capped _ _ _ l.i _ _ (c.requires.by_index l.i c.loop-i-test.true) l.invariant.2 c.states_capped.ensures in (
+    let sum = start_capped _ _ _ l.i _ _ (c.requires.by_index l.i c.loop-i-test.true) l.invariant.2 (rw (← states_row a.variables a.factors.now (omega arith) a.sizes.now (l.i + 1)) c.states_capped.ensures) in (
       omega arith,
       simp length-set l.invariant.1,
       sum,

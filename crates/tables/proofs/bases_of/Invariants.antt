@@ -1,7 +1,6 @@
 -- `tables::bases_of` meets its contract. The invariant: each entry up to the i-th counts the states of the leaves before, and the sum is the
 -- last of them; no leaf has more than 256 states, so the cap leaves each count as it is. Assumes nothing.
 use Rattle.std.proofs.Common.{◌≡◌, ◌+◌, ◌-◌, ◌≤◌, length}
-use Rattle.loops.specs.Count.{sum}
 use Rattle.digits.specs.Digits.{entries, Filled, start_of}
 use Rattle.tables.proofs.bases_of.Given as goal
 

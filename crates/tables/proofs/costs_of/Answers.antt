@@ -1,4 +1,4 @@
-use Rattle.std.proofs.Common.{ap, ℕ, ◌+◌, ◌-◌, le_antisymm, arith, get_or, length-set}
+use Rattle.std.proofs.Common.{ap, ℕ, ◌+◌, le_antisymm, arith, get_or, length-set}
 use Rattle.tables.specs.Tables.Laws.{filled_more}
 use Rattle.tables.proofs.costs_of.Goals as goal
 

@@ -1,4 +1,4 @@
-use Rattle.std.proofs.Common.{refl, ◌-◌, le_antisymm, not-suc-le-zero, arith, length-set, rules}
+use Rattle.std.proofs.Common.{refl, le_antisymm, not-suc-le-zero, arith, length-set, rules}
 use Rattle.tables.specs.Tables.Laws.{each_more}
 use Rattle.tables.proofs.kinds_of.Invariants.{kind}
 use Rattle.tables.proofs.kinds_of.Goals as goal

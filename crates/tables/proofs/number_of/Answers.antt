@@ -1,4 +1,4 @@
-use Rattle.std.proofs.Common.{refl, ◌∙◌, ◌-◌, le_antisymm, arith}
+use Rattle.std.proofs.Common.{refl, ◌∙◌, le_antisymm, arith}
 use Rattle.loops.specs.Count.Laws.{told}
 use Rattle.task.specs.Factors.{number_to}
 use Rattle.digits.specs.Digits.{entries}

@@ -1,4 +1,4 @@
-use Rattle.std.proofs.Common.{◌-◌, le_antisymm, add-one, arith, length-set, rules}
+use Rattle.std.proofs.Common.{le_antisymm, add-one, arith, length-set, rules}
 use Rattle.tables.specs.Tables.Laws.{filled_more}
 use Rattle.tables.proofs.starts_of.Goals as goal
 

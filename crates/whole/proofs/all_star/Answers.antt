@@ -1,24 +1,19 @@
-use Rattle.std.proofs.Common.{refl, sym, le_antisymm, arith}
-use Rattle.loops.specs.Count.{all}
-use Rattle.loops.specs.Count.Laws.{all_not, all_more, told}
+-- `whole::all_star` meets its contract: the test at each action, whose pairs are a part of each of the two tables. Assumes nothing.
+use Rattle.std.proofs.Common.{◌+◌, ◌*◌, arith, rules, length, get_or}
+use Rattle.std.proofs.lemmas.Iterator.{YieldsList-from_range}
+use Rattle.std.proofs.lemmas.Iterator.Search.{all_from_yields_List}
+use borrow.Author.Tests.{tests}
+use Rattle.loops.specs.Slices.{all_numbers}
+use Rattle.task.specs.Factors.{star_pairs}
 use Rattle.whole.specs.Whole.{all_star}
+use Rattle.whole.specs.Whole.Ext.{row_star}
 use Rattle.whole.proofs.all_star.Goals as goal
-
-pub loop-a-init : goal.loop-a-init
-unfolding all
-loop-a-init c = (omega arith, refl)
-
-pub returns-then-not-is_star : goal.returns-then-not-is_star
-unfolding all_star
-returns-then-not-is_star c =
-    let l = c.loop-a in
-    sym (all_not _ _ l.a (omega arith) (told c.is_star.ensures c.if-not-is_star.true))
-
-pub loop-a-preserved : goal.loop-a-preserved
-loop-a-preserved c =
-    let l = c.loop-a in
-    (omega arith, all_more _ _ l.invariant.1 (told c.is_star.ensures c.if-not-is_star.false))
 
 pub returns : goal.returns
 unfolding all_star
-returns c = sym (rw (le_antisymm c.loop-a.invariant.0 c.loop-a-test.false) at c.loop-a.invariant.1)
+returns c =
+    let a = c.args in
+    let n = length a.factors.now in
+    rw (all_numbers (λ k. star_pairs n (λ v. get_or a.factors.now v 0) a.leaves (λ v. get_or a.conditions.now (k * 32 + v) 0) (λ v. get_or a.effects.now (k * 32 + v) 0)) a.actions)
+    (all_from_yields_List (λ k. star_pairs n (λ v. get_or a.factors.now v 0) a.leaves (λ v. get_or a.conditions.now (k * 32 + v) 0) (λ v. get_or a.effects.now (k * 32 + v) 0)) _ _ c.all.result c.all.ensures.ran
+    (YieldsList-from_range 0 a.actions a.actions (cc) (omega arith)) (λ x b q k. rw (← row_star n (λ v. get_or a.factors.now v 0) a.leaves (x * 32) a.conditions.now a.effects.now) (search (rules, tests))))

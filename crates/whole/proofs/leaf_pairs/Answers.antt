@@ -3,10 +3,10 @@ use Rattle.loops.specs.Count.Laws.{told}
 use Rattle.task.specs.Factors.{leaf_pairs}
 use Rattle.whole.proofs.leaf_pairs.Goals as goal
 
-pub returns-then-not-names_within : goal.returns-then-not-names_within
+pub returns-then-names_within : goal.returns-then-names_within
 unfolding leaf_pairs
-returns-then-not-names_within c = rw (told c.names_within.ensures c.if-not-names_within.true)
+returns-then-names_within c = rw (told c.names_within.ensures c.if-names_within.true) c.names_within-then-names_within.ensures
 
-pub returns : goal.returns
+pub returns-else-names_within : goal.returns-else-names_within
 unfolding leaf_pairs
-returns c = rw (told c.names_within.ensures c.if-not-names_within.false) c.names_within-2.ensures
+returns-else-names_within c = rw (told c.names_within.ensures c.if-names_within.false) c.if-names_within.false

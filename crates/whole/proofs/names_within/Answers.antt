@@ -1,24 +1,16 @@
-use Rattle.std.proofs.Common.{refl, sym, le_antisymm, arith}
-use Rattle.loops.specs.Count.{all}
-use Rattle.loops.specs.Count.Laws.{all_not, all_more, told}
-use Rattle.task.specs.Factors.{within}
+-- `whole::names_within` meets its contract: the test at each variable's factor and entry. Assumes nothing.
+use Rattle.std.proofs.Common.{rules, not, ◌||◌, eqb}
+use Rattle.std.proofs.lemmas.Iterator.{YieldsList-from_slice, YieldsList-from_zip}
+use Rattle.std.proofs.lemmas.Iterator.Search.{all_from_yields_List}
+use borrow.Author.Tests.{tests}
+use Rattle.loops.specs.Slices.{all_pairs}
+use Rattle.task.specs.Factors.{named, within}
 use Rattle.whole.proofs.names_within.Goals as goal
-
-pub loop-v-init : goal.loop-v-init
-unfolding all
-loop-v-init c = (omega arith, refl)
-
-pub returns-then-not-entry_within : goal.returns-then-not-entry_within
-unfolding within
-returns-then-not-entry_within c =
-    let l = c.loop-v in
-    sym (all_not _ _ l.v (omega arith) (told c.entry_within.ensures c.if-not-entry_within.true))
-
-pub loop-v-preserved : goal.loop-v-preserved
-loop-v-preserved c =
-    let l = c.loop-v in
-    (omega arith, all_more _ _ l.invariant.1 (told c.entry_within.ensures c.if-not-entry_within.false))
 
 pub returns : goal.returns
 unfolding within
-returns c = sym (rw (le_antisymm c.loop-v.invariant.0 c.loop-v-test.false) at c.loop-v.invariant.1)
+returns c =
+    let a = c.args in
+    rw (all_pairs (λ w. not (named w.1) || (eqb w.0 a.g || eqb w.0 a.h)) a.factors.now a.pairs.now c.requires)
+    (all_from_yields_List (λ w. not (named w.1) || (eqb w.0 a.g || eqb w.0 a.h)) c.all.new.self _ c.all.result c.all.ensures.ran
+    (YieldsList-from_zip (YieldsList-from_slice a.factors.now cc) (YieldsList-from_slice a.pairs.now cc)) (λ x b q k. search (rules, tests)))

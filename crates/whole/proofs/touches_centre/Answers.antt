@@ -1,24 +1,16 @@
-use Rattle.std.proofs.Common.{refl, sym, le_antisymm, arith}
-use Rattle.loops.specs.Count.{any}
-use Rattle.loops.specs.Count.Laws.{any_in, any_more, told}
-use Rattle.task.specs.Factors.{touches}
+-- `whole::touches_centre` meets its contract: the test at each variable's factor and entry. Assumes nothing.
+use Rattle.std.proofs.Common.{rules, ◌&&◌, eqb}
+use Rattle.std.proofs.lemmas.Iterator.{YieldsList-from_slice, YieldsList-from_zip}
+use Rattle.std.proofs.lemmas.Iterator.Search.{any_from_yields_List}
+use borrow.Author.Tests.{tests}
+use Rattle.loops.specs.Slices.{any_pair}
+use Rattle.task.specs.Factors.{named, touches}
 use Rattle.whole.proofs.touches_centre.Goals as goal
-
-pub loop-v-init : goal.loop-v-init
-unfolding any
-loop-v-init c = (omega arith, refl)
-
-pub returns-then-names_centre : goal.returns-then-names_centre
-unfolding touches
-returns-then-names_centre c =
-    let l = c.loop-v in
-    sym (any_in _ _ l.v (omega arith) (told c.names_centre.ensures c.if-names_centre.true))
-
-pub loop-v-preserved : goal.loop-v-preserved
-loop-v-preserved c =
-    let l = c.loop-v in
-    (omega arith, any_more _ _ l.invariant.1 (told c.names_centre.ensures c.if-names_centre.false))
 
 pub returns : goal.returns
 unfolding touches
-returns c = sym (rw (le_antisymm c.loop-v.invariant.0 c.loop-v-test.false) at c.loop-v.invariant.1)
+returns c =
+    let a = c.args in
+    rw (any_pair (λ w. eqb w.0 0 && named w.1) a.factors.now a.pairs.now c.requires)
+    (any_from_yields_List (λ w. eqb w.0 0 && named w.1) c.any.new.self _ c.any.result c.any.ensures.ran
+    (YieldsList-from_zip (YieldsList-from_slice a.factors.now cc) (YieldsList-from_slice a.pairs.now cc)) (λ x b q k. search (rules, tests)))

@@ -15,7 +15,7 @@ use Rattle.task.specs.Meaning.{Partial, size, factor, condition, effect}
 use Rattle.task.specs.Factors.{touches, states_to, leaf_pairs, star_pairs, centre_action, leaf_action, states, all_states}
 use Rattle.task.specs.Valid.{WholeValid}
 use Rattle.fields.specs.declared.Refusal.TheVariants.{FactorEmpty, TooManyStates, NotStar}
-use Rattle.whole.specs.declared.Verdict.TheVariants.{Accepted, Refused}
+use Rattle.whole.specs.Verdict.{Accepted, Refused}
 use Rattle.whole.specs.Whole.{factors_used, states_few, all_star, whole_of, whole_task}
 
 -- ---- the count of a leaf's states, capped
