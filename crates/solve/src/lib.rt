@@ -9,11 +9,13 @@ ghost use Rattle.layer.specs.Held.{board_in};
 ghost use Rattle.edges.specs.Edges.{Edges};
 ghost use Rattle.tables.specs.Tables.{Bases, Goals};
 ghost use Rattle.search.specs.Explore.{explored};
+ghost use Rattle.offers.specs.Held.{best_number};
 ghost use Rattle.explore.specs.Held.{reason_of};
 ghost use Rattle.solve.specs.Solve.{Outcome, at_best, at_stop, table_words, searched};
 ghost use Rattle.solve.specs.Solve.Stops.{run_in, Sound};
 
 use answers::{Counts, PlanAnswer, PlanRefusal, Solution};
+use blocks::SCAN_WORDS;
 use edges::{EdgeTable, fill_edges};
 use explore::{Stop, Why, explore};
 use offers::Run;
@@ -32,21 +34,20 @@ fn finish(
     edges: &EdgeTable<'_>,
 ) -> PlanAnswer
     requires valid { Valid tables.now.task.now }
-    requires tabled { Goals tables.now.task.now goals.now }
-    requires sound { Sound tables.now.task.now table.now run × Edges (board_in tables.now.board)
-        edges.now.list.now edges.now.ends.now }
+    requires goals { Goals tables.now.task.now goals.now }
+    requires sound { Sound tables.now.task.now table.now run }
+    requires edges { Edges (board_in tables.now.board) edges.now.list.now edges.now.ends.now }
     ensures { ◌≡◌ {A = Outcome} (record { answer = result; plan = plan.new; words = [] })
-        (at_best tables.now.task.now (run_in (all_states tables.now.task.now) table.now run) run.best plan.old []) }
+        (at_best tables.now.task.now (run_in (all_states tables.now.task.now) table.now run) (best_number run.best) plan.old []) }
 {
     let counts = Counts {
         expanded: run.begun,
         kept: run.count,
     };
-    let best = run.best;
-    if best == 0 {
+    let Some(best) = run.best else {
         return PlanAnswer::Unsolvable(counts);
-    }
-    let length = write_plan(tables, goals, table, run.count, best - 1, plan, edges);
+    };
+    let length = write_plan(tables, goals, table, run.count, best, plan, edges);
     if length > plan.len() {
         return PlanAnswer::Refused(PlanRefusal::PlanLong, counts);
     }
@@ -69,9 +70,9 @@ fn answer_of(
     edges: &EdgeTable<'_>,
 ) -> PlanAnswer
     requires valid { Valid tables.now.task.now }
-    requires tabled { Goals tables.now.task.now goals.now }
-    requires sound { Sound tables.now.task.now table.now stop.run × Edges (board_in tables.now.board)
-        edges.now.list.now edges.now.ends.now }
+    requires goals { Goals tables.now.task.now goals.now }
+    requires sound { Sound tables.now.task.now table.now stop.run }
+    requires edges { Edges (board_in tables.now.board) edges.now.list.now edges.now.ends.now }
     ensures { ◌≡◌ {A = Outcome} (record { answer = result; plan = plan.new; words = [] })
         (at_stop tables.now.task.now (reason_of stop.why) (run_in (all_states tables.now.task.now) table.now stop.run) plan.old []) }
 {
@@ -117,7 +118,7 @@ fn search_with(
         list: edges,
         ends: &ends,
     };
-    let mut scan = [0u64; 17696];
+    let mut scan = [0u64; SCAN_WORDS];
     let stop = explore(&tables, &goals, nodes, budget, &leads, table, &mut scan);
     answer_of(&tables, &goals, table, stop, plan, &leads)
 }
