@@ -21,6 +21,7 @@ use rows::{class_of, read_spot};
 use words::copy_words;
 
 // What an expansion works in: the bench of its offers, its actions that need a turn, its node's prices, and the states that they reach.
+#[derive(Drop)]
 pub struct Desk {
     pub bench: Bench,
     pub mets: [u8; 256],

@@ -52,6 +52,7 @@ pub struct Successor {
 
 // What an offer works in: what is known of centre states, the prices of a layer's begin and of its layer, and room for a list of states that has the recent
 // numbers behind its first 1,024 words.
+#[derive(Drop)]
 pub struct Bench {
     pub known: [u8; 36864],
     pub next: [u64; 1024],
