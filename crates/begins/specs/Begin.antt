@@ -1,7 +1,7 @@
 -- The begin of a layer behind an action: the old layer where the action leaves each state of each leaf as it is. The key behind an action, known before a
 -- layer is made. And actions that are stuck. Assumes nothing.
-use Rattle.std.specs.Prelude.{◌≡◌, refl, ◌⊎◌, Bool, true, false, not, ◌&&◌, ltb, eqb, length, drop}
-use Rattle.std.proofs.Common.{sym, ◌∙◌, inl, inr, arith, length-take, length-drop, take_at, drop_at, take-add, get_or-take}
+use Rattle.std.specs.Prelude.{◌≡◌, refl, Bool, true, false, not, ◌&&◌, ltb, eqb, length, drop}
+use Rattle.std.proofs.Common.{sym, ◌∙◌, arith, length-take, length-drop, take_at, drop_at, take-add, get_or-take}
 use Rattle.std.proofs.Math.Path.{ap}
 use Rattle.std.proofs.Math.Bool.{and-false}
 use mathlib.Core.List.{List, ◌++◌}
@@ -12,7 +12,7 @@ use Rattle.std.proofs.Math.ListN.{get_or, take, get_or-eq_default}
 use Rattle.std.proofs.Math.Seq.{get_or-drop}
 use Rattle.std.proofs.lemmas.Bool.{not-true}
 use Rattle.loops.specs.Count.{any, sum}
-use Rattle.loops.specs.Count.Laws.{and_out, below_cases, all_not, any_out, sum_more, sum_ext}
+use Rattle.loops.specs.Count.Laws.{and_out, all_not, any_out, sum_more, sum_ext}
 use Rattle.task.specs.declared.Centre.{Centre}
 use Rattle.task.specs.declared.Task.{Task}
 use Rattle.task.specs.Meaning.{cost}
@@ -26,7 +26,7 @@ use Rattle.layer.specs.Layer.Laws.{joined_part}
 use Rattle.layer.specs.Layer.Front.{part_take}
 use Rattle.layer.specs.Board.{Board, Sound, base_on, row_on, states_on, to_on, met_on, pass_on, passes_on, part_on, begin_on, applies_on}
 use Rattle.layer.specs.Board.Laws.{joined_ext}
-use Rattle.layer.specs.Board.Turns.{leaf_passes}
+use Rattle.layer.specs.Board.Turns.{base_in, leaf_passes}
 use Rattle.price.specs.Sums.{sum_le}
 use Rattle.search.specs.Node.{Node, next_node, least_of, key}
 use Rattle.search.specs.Node.Laws.{least_of_le, least_of_cap, least_of_ge}
@@ -107,20 +107,9 @@ module _ (r : ℕ) (P R Q : List ℕ) (long : r ≤ length P) (isQ : Q ≡ take 
 -- ---- the begin of all leaves
 
 module _ (b : Board) (sound : Sound b) where
-  -- where the states of a leaf begin is not behind where those of later leaves do
-  bases_rise : (n i : ℕ) → i ≤ n → n ≤ b.leaves → base_on b i ≤ base_on b n
-  bases_rise zero i h l = let e : i ≡ 0 = omega arith in rw e (omega arith)
-  bases_rise (suc n) i h l = go (below_cases (omega arith)) (λ k. bases_rise n i k (omega arith))
-    where
-      go : (i < suc n) ⊎ (i ≡ suc n) → (i ≤ n → base_on b i ≤ base_on b n) → base_on b i ≤ base_on b (suc n)
-      go (inl k) r =
-          let e : base_on b (suc n) ≡ base_on b (n + 1) = rw add-one in
-          omega (arith, r (omega arith), sound.bases_rise n (omega arith))
-      go (inr q) r = rw q (omega arith)
-
   -- the states of a leaf lie within all
   part_fits : (i : ℕ) → i < b.leaves → base_on b i + states_on b i ≤ row_on b
-  part_fits i l = omega (arith, sound.bases_rise i l, bases_rise b.leaves (i + 1) (omega arith) (omega arith))
+  part_fits i l = omega (arith, sound.bases_rise i l, base_in b sound i l)
 
   -- the parts of n leaves, one behind the other, are the front of the list
   parts_front : (P : List ℕ) (n : ℕ) → n ≤ b.leaves → joined n (λ i. part_on b i P) ≡ take (base_on b n) P

@@ -3,7 +3,7 @@
 -- 16 g + 15.
 pub mod Laws
 pub mod Stored
-use Rattle.std.specs.Prelude.{◌≡◌, ◌⊎◌, List, ℕ, zero, suc, ◌+◌, ◌-◌, ◌*◌, ◌/◌, ◌≤◌, ◌<◌, min, get_or, set, drop}
+use Rattle.std.specs.Prelude.{◌≡◌, ◌⊎◌, Option, None, Some, MatchOption, List, ℕ, zero, suc, ◌+◌, ◌-◌, ◌*◌, ◌/◌, ◌≤◌, ◌<◌, min, get_or, set, drop}
 use Rattle.leaf.specs.Price.{mark}
 use Rattle.blocks.specs.Choice.{key_of, choose_by}
 
@@ -21,11 +21,31 @@ least_in K n = key_of mark K (choose_by mark K n)
 abbrev pub least_of_block : List ℕ → ℕ → ℕ → ℕ
 least_of_block K n b = least_in (drop (b * 16) K) (block_size n b)
 
--- k is the first of n keys that is w; n if none is
+-- none of the first n keys is w
+abbrev pub NoneIs : List ℕ → ℕ → ℕ → Type 0
+NoneIs K n w = (i : ℕ) → i < n → get_or K i 0 ≡ w → ⊥
+
+-- k is the first of n keys that is w
 pub record FirstOf (K : List ℕ) (n w k : ℕ) : Type 0 where
-  pub most : k ≤ n
-  pub before : (i : ℕ) → i < k → get_or K i 0 ≡ w → ⊥
-  pub here : k < n → get_or K k 0 ≡ w
+  pub inside : k < n
+  pub before : NoneIs K k w
+  pub here : get_or K k 0 ≡ w
+
+-- r is the first of n keys that is w; it is None only where none is
+abbrev pub Found : List ℕ → ℕ → ℕ → Option ℕ → Type 0
+Found K n w r = MatchOption r (NoneIs K n w) (FirstOf K n w)
+
+-- u is the first of those of n keys that are in block b and are w
+pub record FirstInBlock (K : List ℕ) (n b w u : ℕ) : Type 0 where
+  pub place : ℕ
+  pub is : u ≡ b * 16 + place
+  pub first : FirstOf (drop (b * 16) K) (block_size n b) w place
+
+-- the place in two parts that stand one behind the other, m in the first of them: that of the first part, else that of the second behind it
+abbrev pub joined_by : Option ℕ → ℕ → Option ℕ → Option ℕ
+joined_by None m None = None
+joined_by None m (Some b) = Some (m + b)
+joined_by (Some a) m r = Some a
 
 -- r is the least of the n words from place f on
 pub record LeastFrom (C : List ℕ) (f n r : ℕ) : Type 0 where

@@ -19,7 +19,10 @@ pub record Picked (bound : ℕ) (keys : List ℕ) (n u : ℕ) : Type 0 where
   pub least : (w : ℕ) → w < n → get_or keys u 0 ≤ get_or keys w 0
   pub first : (w : ℕ) → w < u → get_or keys u 0 < get_or keys w 0
 
+-- none of the first n nodes has a key below the bound
+abbrev pub NoneBelow : ℕ → List ℕ → ℕ → Type 0
+NoneBelow bound keys n = (w : ℕ) → w < n → bound ≤ get_or keys w 0
+
 -- what a choice r among the first n nodes says: there is no key below the bound, or r is one more than the node that is chosen
 abbrev pub Choice : ℕ → List ℕ → ℕ → ℕ → Type 0
-Choice bound keys n r =
-    ((r ≡ 0) × ((w : ℕ) → w < n → bound ≤ get_or keys w 0)) ⊎ ((u : ℕ) × ((r ≡ suc u) × Picked bound keys n u))
+Choice bound keys n r = ((r ≡ 0) × NoneBelow bound keys n) ⊎ ((u : ℕ) × ((r ≡ suc u) × Picked bound keys n u))

@@ -179,10 +179,10 @@ fn next_state(
 {
     let mut values = [0u8; 32];
     write_values(sizes, number, &mut values, n);
-    if !holds(conditions, at, &values, n) {
+    if !holds(&conditions[at..at + n], &values) {
         return OVER;
     }
-    put(effects, at, &mut values, n);
+    put(&effects[at..at + n], &mut values);
     number_of(sizes, &values, n)
 }
 
@@ -256,7 +256,7 @@ fn is_goal(sizes: &[u8], goal: &[u8], state: usize, n: usize) -> bool
 {
     let mut values = [0u8; 32];
     write_values(sizes, state, &mut values, n);
-    holds(goal, 0, &values, n)
+    holds(&goal[..n], &values)
 }
 
 // The least cost from the state `start` to the goal, or none: settles the nearest states first, until one meets the goal.
@@ -363,13 +363,14 @@ fn carry_out(
         if a >= actions {
             return NONE;
         }
-        if !holds(conditions, a * 32, values, n) {
+        let row = a * 32;
+        if !holds(&conditions[row..row + n], values) {
             return NONE;
         }
-        put(effects, a * 32, values, n);
+        put(&effects[row..row + n], values);
         sum = plus(sum, costs[a]);
     }
-    if !holds(goal, 0, values, n) {
+    if !holds(&goal[..n], values) {
         return NONE;
     }
     sum

@@ -2,17 +2,22 @@
 // that the other reaches are listed first.
 #![tactic(auto)]
 
-ghost use Rattle.std.specs.Prelude.{◌≡◌, ◌+◌, ◌≤◌, ◌<◌, eqb, length, take};
+ghost use Rattle.std.specs.Prelude.{◌≡◌, ◌+◌, ◌≤◌, ◌<◌, eqb, length};
 ghost use Rattle.loops.specs.Count.{all};
 ghost use Rattle.task.specs.Centre.{value_in};
-ghost use Rattle.rows.specs.Reach.{Reaches, ReachesIn, AboveInList};
-ghost use Rattle.rows.specs.Row.{spot_of, node_of, node_with, Packed, NotAbove, Above, Tested};
-ghost use Rattle.rows.specs.Sign.{sign_of};
+ghost use Rattle.search.specs.Node.{dominates};
+ghost use Rattle.rows.specs.Reach.{ReachesIn};
+ghost use Rattle.rows.specs.Row.{spot_of, node_of, Packed, NotAbove, Above};
 ghost use Rattle.rows.specs.Sign.Bits.{AboveInBits};
+ghost use Rattle.dominance.specs.Held.{node_held};
 
 use leaf::MARK;
 use rows::pack;
 use task::Centre;
+
+mod held;
+
+pub use held::Candidate;
 
 // ---- the states that are reached
 
@@ -80,141 +85,99 @@ fn same_spot(row: &[u64], spot: Centre) -> bool
     requires { (40 ≤ length row.now) × Packed row.now }
     ensures { result ≡ all 32 (λ v. eqb (value_in (spot_of row.now) v) (value_in spot v)) }
 {
-    if row[35] != pack(spot, 0) {
-        return false;
-    }
-    if row[36] != pack(spot, 8) {
-        return false;
-    }
-    if row[37] != pack(spot, 16) {
-        return false;
-    }
-    if row[38] != pack(spot, 24) {
-        return false;
-    }
-    true
+    row[35] == pack(spot, 0)
+        && row[36] == pack(spot, 8)
+        && row[37] == pack(spot, 16)
+        && row[38] == pack(spot, 24)
 }
 
-// A place where the row's price is higher, the number of states if there is none; up to `from` none is.
-fn place_from(row: &[u64], states: usize, prices: &[u64], from: usize) -> usize
-    requires { (length row.now ≡ 40 + states) × (states ≤ length prices.now) × (from ≤ states) × NotAbove row.now prices.now from }
-    ensures { Above states row.now prices.now result }
+// A place where the row's price is higher, if there is one; before `from` none is.
+fn place_from(row: &[u64], candidate: &Candidate<'_>, from: usize) -> Option<usize>
+    requires { (length row.now ≡ 40 + candidate.now.states) × (from ≤ candidate.now.states) × NotAbove row.now candidate.now.prices.now from }
+    ensures { Above candidate.now.states row.now candidate.now.prices.now result }
 {
-    for k in from..states {
-        if row[40 + k] > prices[k] {
-            return k;
+    for k in from..candidate.states {
+        if row[40 + k] > candidate.prices[k] {
+            return Some(k);
         }
     }
-    states
+    None
 }
 
-// A place where the row's price is higher among the bits of the prices' signature, each that of one state below 64; the number of states if there is
-// none.
-fn place_in_bits(row: &[u64], states: usize, prices: &[u64], sign: u64) -> usize
-    requires { (length row.now ≡ 40 + states) × (states ≤ length prices.now) × (sign ≡ sign_of (take states prices.now)) }
-    ensures { AboveInBits states row.now prices.now sign result }
+// A place where the row's price is higher among the bits of the prices' signature, each that of one state below 64, if there is one.
+fn place_in_bits(row: &[u64], candidate: &Candidate<'_>) -> Option<usize>
+    requires { length row.now ≡ 40 + candidate.now.states }
+    ensures { AboveInBits candidate.now.states row.now candidate.now.prices.now candidate.now.sign result }
 {
-    let mut rest = sign;
+    let mut rest = candidate.sign;
     while rest > 0 {
         let k = u64::trailing_zeros(rest) as usize;
-        if row[40 + k] > prices[k] {
-            return k;
+        if row[40 + k] > candidate.prices[k] {
+            return Some(k);
         }
         rest = rest & (rest - 1);
     }
-    states
+    None
 }
 
-// A place where the row's price is higher, the number of states if there is none: below 64 by the bits of the prices' signature, as what cannot be
-// reached has no lower price, and from there on one by one.
-fn place_by_sign(row: &[u64], states: usize, prices: &[u64], sign: u64) -> usize
-    requires { (states < 128) × (length row.now ≡ 40 + states) × (states ≤ length prices.now) × (sign ≡ sign_of (take states prices.now)) }
-    ensures { Above states row.now prices.now result }
+// A place where the row's price is higher, if there is one: below 64 by the bits of the prices' signature, as what cannot be reached has no lower price,
+// and from there on one by one.
+fn place_by_sign(row: &[u64], candidate: &Candidate<'_>) -> Option<usize>
+    requires { (candidate.now.states < 128) × (length row.now ≡ 40 + candidate.now.states) }
+    ensures { Above candidate.now.states row.now candidate.now.prices.now result }
 {
-    let place = place_in_bits(row, states, prices, sign);
-    if place < states {
-        return place;
+    if let Some(place) = place_in_bits(row, candidate) {
+        return Some(place);
     }
-    if states <= 64 {
-        return states;
+    if candidate.states <= 64 {
+        return None;
     }
-    place_from(row, states, prices, 64)
+    place_from(row, candidate, 64)
 }
 
-// A place where the row's price is higher among the states of a list, the number of states if there is none.
-fn place_in_list(row: &[u64], states: usize, prices: &[u64], list: &[u16]) -> usize
-    requires { (length row.now ≡ 40 + states) × (states ≤ length prices.now) × Reaches states prices.now list.now }
-    ensures { AboveInList states row.now prices.now list.now result }
+// A place where the row's price is higher, if there is one: along the list of the states that are reached, as what cannot be reached has no lower price.
+fn place_in_list(row: &[u64], candidate: &Candidate<'_>) -> Option<usize>
+    requires { (128 ≤ candidate.now.states) × (length row.now ≡ 40 + candidate.now.states) }
+    ensures { Above candidate.now.states row.now candidate.now.prices.now result }
 {
-    for j in 0..list.len() {
-        let x = list[j] as usize;
-        if row[40 + x] > prices[x] {
-            return x;
+    for &state in candidate.list {
+        let x = state as usize;
+        if row[40 + x] > candidate.prices[x] {
+            return Some(x);
         }
     }
-    states
-}
-
-// A place where the row's price is higher, the number of states if there is none: along the list of the states that are reached, as what cannot be
-// reached has no lower price.
-fn place_listed(row: &[u64], states: usize, prices: &[u64], list: &[u16]) -> usize
-    requires { (length row.now ≡ 40 + states) × (states ≤ length prices.now) × Reaches states prices.now list.now }
-    ensures { Above states row.now prices.now result }
-{
-    place_in_list(row, states, prices, list)
+    None
 }
 
 // The same of any number of states: by the signature where they are few, along the list where they are many. `hint` is tried first: where one node was
 // too high the next is often too.
-fn place_above(
-    row: &[u64],
-    states: usize,
-    prices: &[u64],
-    sign: u64,
-    list: &[u16],
-    hint: usize,
-) -> usize
-    requires { (length row.now ≡ 40 + states) × (states ≤ length prices.now) × (sign ≡ sign_of (take states prices.now))
-        × (128 ≤ states → Reaches states prices.now list.now) }
-    ensures { Above states row.now prices.now result }
+fn place_above(row: &[u64], candidate: &Candidate<'_>, hint: usize) -> Option<usize>
+    requires { length row.now ≡ 40 + candidate.now.states }
+    ensures { Above candidate.now.states row.now candidate.now.prices.now result }
 {
-    if hint < states {
-        if row[40 + hint] > prices[hint] {
-            return hint;
+    if hint < candidate.states {
+        if row[40 + hint] > candidate.prices[hint] {
+            return Some(hint);
         }
     }
-    if states < 128 {
-        return place_by_sign(row, states, prices, sign);
+    if candidate.states < 128 {
+        return place_by_sign(row, candidate);
     }
-    place_listed(row, states, prices, list)
+    place_in_list(row, candidate)
 }
 
-// Whether the row's node has the same centre state, no higher centre cost and no higher price anywhere: then the answer is one more than the number of
-// states. Else it is the hint for the next node, which is left to the program: any number up to that of the states. `sign` is the signature of the prices, and `list` has the states that they reach
-// where there are 128 or more.
-pub fn test_row(
-    row: &[u64],
-    states: usize,
-    spot: Centre,
-    paid: u64,
-    prices: &[u64],
-    sign: u64,
-    list: &[u16],
-    hint: usize,
-) -> usize
-    requires { (states ≤ 1024) × (length row.now ≡ 40 + states) × (states ≤ length prices.now) × (hint ≤ states) × Packed row.now
-        × (sign ≡ sign_of (take states prices.now)) × (128 ≤ states → Reaches states prices.now list.now) }
-    ensures { Tested states (node_of states row.now) (node_with spot paid (take states prices.now) 0 0) result }
+// Whether the row's node has the same centre state, no higher centre cost and no higher price anywhere. `hint` is the place to look at first; where a price
+// is higher it is that place afterwards, for the next node.
+pub fn test_row(row: &[u64], candidate: &Candidate<'_>, hint: &mut usize) -> bool
+    requires { (length row.now ≡ 40 + candidate.now.states) × Packed row.now }
+    ensures { result ≡ dominates (node_of candidate.now.states row.now) (node_held candidate.now) }
 {
-    if row[32] > paid {
-        return hint;
+    if row[32] > candidate.paid {
+        return false;
     }
-    let place = place_above(row, states, prices, sign, list, hint);
-    if place < states {
-        return place;
+    if let Some(place) = place_above(row, candidate, *hint) {
+        *hint = place;
+        return false;
     }
-    if same_spot(row, spot) {
-        return states + 1;
-    }
-    hint
+    same_spot(row, candidate.spot)
 }

@@ -1,7 +1,7 @@
 -- What a turn and an expansion say of the search that the lent table holds.
 pub mod Lists
 pub mod Turns
-use Rattle.std.specs.Prelude.{◌≡◌, ◌⊎◌, Bool, true, false, cond, List, ℕ, ◌+◌, ◌≤◌, ◌<◌, min, get_or, take}
+use Rattle.std.specs.Prelude.{◌≡◌, ◌⊎◌, Bool, true, false, cond, List, ℕ, ◌+◌, ◌≤◌, ◌<◌, min, get_or, take, Result, is_err}
 use Rattle.task.specs.declared.Task.{Task}
 use Rattle.task.specs.declared.Centre.{Centre}
 use Rattle.task.specs.Factors.{all_states}
@@ -19,8 +19,8 @@ use Rattle.keys.specs.Scan.{key_by}
 use Rattle.nodes.specs.Chain.{Chained}
 use Rattle.hops.specs.Hops.{HopOn}
 use Rattle.offers.specs.declared.Run.{Run}
-use Rattle.offers.specs.declared.Turned.{Turned}
-use Rattle.offers.specs.Held.{search_of, Cached, Has, Went, Stands}
+use Rattle.offers.specs.declared.Full.{Full}
+use Rattle.offers.specs.Held.{search_of, run_of, Cached, Has, Went, Stands}
 
 -- the tables are those of the task
 pub record Suits (t : Task) (b : Board) (effects goals goalPairs : List ℕ) : Type 0 where
@@ -31,8 +31,8 @@ pub record Suits (t : Task) (b : Board) (effects goals goalPairs : List ℕ) : T
   pub goal_is : goalPairs ≡ t.goal
 
 -- what an expansion says
-abbrev pub expanded_of : Turned → Search → Expanded
-expanded_of r s = cond r.full (filled s) (through s)
+abbrev pub expanded_of : Result Run Full → Search → Expanded
+expanded_of w s = cond (is_err w) (filled s) (through s)
 
 -- action a at node u is a detour: a hop behind the hop that made the node, which has its parent's prices, the first of `old`; it goes back, or one hop
 -- goes all the way at no higher cost
@@ -61,21 +61,21 @@ pub record Useful (b : Board) (effects : List ℕ) (spot : Centre) (T : List ℕ
 -- action a had its turn at node u, for every task whose tables these are; the node's parts are given, with words behind the prices, and `opens` is
 -- lent as its key
 pub record Moved (b : Board) (effects goals goalPairs : List ℕ) (nodes : ℕ) (spot : Centre) (paid : ℕ) (old : List ℕ) (opens u a : ℕ) (T O : List ℕ)
-    (r : Run) (T' O' : List ℕ) (w : Turned) : Type 0 where
+    (r : Run) (T' O' : List ℕ) (w : Result Run Full) : Type 0 where
   pub went : Went (row_on b) nodes T O r T' O' w
   pub moved : (t : Task) → Suits t b effects goals goalPairs → Base t nodes (search_of (row_on b) T O r) → Cached t (row_on b) T O r
       → Has (node_in (row_on b) T u) spot paid (take (row_on b) old) → opens ≡ key_by b.leaves b.bases paid old
       → Stands t (row_on b) T' O' w (turn t nodes u a (search_of (row_on b) T O r))
 
 -- what an expansion leaves true whatever the task: the nodes did not become fewer, they stay within `nodes` and chained
-abbrev pub Grown : Board → ℕ → Run → List ℕ → List ℕ → Turned → Type 0
+abbrev pub Grown : Board → ℕ → Run → List ℕ → List ℕ → Result Run Full → Type 0
 Grown b nodes r T' O' w =
-    (r.count ≤ w.run.count) × (w.run.count ≤ nodes) × (w.run.begun ≡ r.begun) × Chained (row_on b) T' O' w.run.count
+    (r.count ≤ (run_of w).count) × ((run_of w).count ≤ nodes) × ((run_of w).begun ≡ r.begun) × Chained (row_on b) T' O' (run_of w).count
 
 -- node u was expanded, for every task whose tables these are: the search says the same. `opens` is lent as its key
-abbrev pub Done : Board → List ℕ → List ℕ → List ℕ → ℕ → ℕ → ℕ → List ℕ → List ℕ → Run → List ℕ → List ℕ → Turned → Type 0
+abbrev pub Done : Board → List ℕ → List ℕ → List ℕ → ℕ → ℕ → ℕ → List ℕ → List ℕ → Run → List ℕ → List ℕ → Result Run Full → Type 0
 Done b effects goals goalPairs nodes u opens T O r T' O' w =
     (t : Task) → Suits t b effects goals goalPairs → Base t nodes (search_of (all_states t) T O r) → Cached t (all_states t) T O r
     → opens ≡ min (key t (node_in (all_states t) T u)) mark → (0 < u → Sprung t (search_of (all_states t) T O r) u)
-    → (expand t nodes u t.actions 0 (search_of (all_states t) T O r) ≡ expanded_of w (search_of (all_states t) T' O' w.run))
-    × Cached t (all_states t) T' O' w.run
+    → (expand t nodes u t.actions 0 (search_of (all_states t) T O r) ≡ expanded_of w (search_of (all_states t) T' O' (run_of w)))
+    × Cached t (all_states t) T' O' (run_of w)

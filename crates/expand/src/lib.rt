@@ -2,352 +2,241 @@
 #![tactic(auto)]
 
 ghost use Rattle.std.specs.Prelude.{◌≡◌, true, ◌+◌, ◌*◌, ◌≤◌, ◌<◌, length, get_or, take};
-ghost use Rattle.layer.specs.Board.{Sound, met_on};
-ghost use Rattle.layer.specs.First.{Firsts};
-ghost use Rattle.layer.specs.Lent.{board_of};
+ghost use Rattle.layer.specs.Board.{base_on, row_on, states_on, met_on};
+ghost use Rattle.layer.specs.Held.{board_in};
 ghost use Rattle.mets.specs.Known.{Known};
-ghost use Rattle.edges.specs.Edges.{Edges};
-ghost use Rattle.rows.specs.Reach.{Reaches};
 ghost use Rattle.rows.specs.Row.{node_in};
-ghost use Rattle.rows.specs.Sign.{sign_of};
 ghost use Rattle.offers.specs.Held.{Room, Has};
-ghost use Rattle.stills.specs.Still.{Still, Stills};
-ghost use Rattle.hops.specs.Hops.{Hops, Ways};
 ghost use Rattle.expand.specs.Held.{Useful, Moved, Grown, Done};
 
 use begins::{begin_of, is_stuck};
+use blocks::SCAN_WORDS;
 use detours::{drop_detours, hop_behind};
-use dominance::list_reached;
-use layer::pairs_of;
+use dominance::{Candidate, list_reached};
+use layer::{Board, pairs_of};
 use leaf::add_price;
 use mets::list_mets;
-use offers::{Run, Turned, offer};
+use offers::{Bench, Full, Opened, Run, SearchTables, Successor, offer};
 use rows::{class_of, read_spot};
-use task::Centre;
 use words::copy_words;
 
-// Action a, whose centre conditions hold, at node u, whose parts, key, signature and list of reached states are given: a centre action has its layer's begin
-// offered. No leaf's least price falls over it, so nothing is made where the key and the action's cost are not below best, nor where it does not apply.
+// What an expansion works in: the bench of its offers, its actions that need a turn, its node's prices, and the states that they reach.
+#[derive(Drop)]
+pub struct Desk {
+    pub bench: Bench,
+    pub mets: [u8; 256],
+    pub prices: [u64; 1024],
+    pub reached: [u16; 1024],
+}
+
+// Action a, whose centre conditions hold, at the node: a centre action has its layer's begin offered. No leaf's least price falls over it, so nothing is made where
+// the key and the action's cost are not below best, nor where it does not apply.
 fn turn(
-    leaves: usize,
-    actions: usize,
-    bases: &[usize],
-    moves: &[u16],
-    costs: &[u16],
-    kinds: &[u8],
-    factors: [u8; 32],
-    conditions: &[u8],
-    still: &[u8],
-    stills: &[u8],
-    firsts: &[u8],
-    edges: &[u8],
-    ends: &[usize],
-    effects: &[u8],
-    goals: &[u16],
-    goal: [u8; 32],
-    nodes: usize,
-    spot: Centre,
-    paid: u64,
-    key: u64,
-    sign: u64,
-    old: &[u64],
-    u: usize,
+    tables: &SearchTables<'_>,
+    opened: &Opened<'_>,
     a: usize,
-    next: &mut [u64],
+    bench: &mut Bench,
     table: &mut [u64],
-    scan: &mut [u64],
-    known: &mut [u8],
-    list: &[u16],
-    room: &mut [u16],
+    scan: &mut [u64; SCAN_WORDS],
     run: Run,
-) -> Turned
-    requires sound { Sound (board_of leaves actions bases.now moves.now costs.now kinds.now factors conditions.now) }
-    requires still { Still leaves actions bases.now moves.now still.now
-        × Firsts (board_of leaves actions bases.now moves.now costs.now kinds.now factors conditions.now) firsts.now
-        × Edges (board_of leaves actions bases.now moves.now costs.now kinds.now factors conditions.now) edges.now ends.now
-        × Known (board_of leaves actions bases.now moves.now costs.now kinds.now factors conditions.now) known.old
-        × (met_on (board_of leaves actions bases.now moves.now costs.now kinds.now factors conditions.now) spot a ≡ true)
-        × Stills leaves actions bases.now moves.now stills.now }
-    requires effects_len { (length effects.now ≡ 8192) × (length goals.now ≡ 1024) × (length old.now ≡ 1024) × (length next.old ≡ 1024) × (u < run.count) × (a < actions)
-        × (128 ≤ get_or bases.now leaves 0 → Reaches (get_or bases.now leaves 0) old.now list.now) × (5120 ≤ length room.old) }
-    requires sign_value { sign ≡ sign_of (take (get_or bases.now leaves 0) old.now) }
-    requires room { Room (get_or bases.now leaves 0) nodes table.old scan.old run }
-    ensures moved { Moved (board_of leaves actions bases.now moves.now costs.now kinds.now factors
-        conditions.now) effects.now goals.now goal nodes spot paid old.now key u a
-        table.old scan.old run table.new scan.new result }
-    ensures known { Known (board_of leaves actions bases.now moves.now costs.now kinds.now factors
-        conditions.now) known.new }
+) -> Result<Run, Full>
+    requires known { Known (board_in tables.now.board) bench.old.known }
+    requires states { opened.now.node.states ≡ row_on (board_in tables.now.board) }
+    requires met { met_on (board_in tables.now.board) opened.now.node.spot a ≡ true }
+    requires inside { (opened.now.number < run.count) × (a < tables.now.board.actions) }
+    requires room { Room (row_on (board_in tables.now.board)) tables.now.nodes table.old scan.old run }
+    ensures moved { Moved (board_in tables.now.board) tables.now.effects.now tables.now.goals.now tables.now.goal tables.now.nodes
+        opened.now.node.spot opened.now.node.paid opened.now.node.prices.now opened.now.key opened.now.number a table.old scan.old run table.new scan.new result }
+    ensures known { Known (board_in tables.now.board) bench.new.known }
 {
-    if kinds[a] != 0 {
-        return Turned { full: false, run };
+    let board = &tables.board;
+    if board.kinds[a] != 0 {
+        return Ok(run);
     }
-    let cost = costs[a] as u64;
-    let low = add_price(key, cost);
+    let cost = cost_of(board, a) as u64;
+    let low = add_price(opened.key, cost);
     if low >= run.best_cost {
-        return Turned { full: false, run };
+        return Ok(run);
     }
-    if is_stuck(
-        leaves, actions, bases, moves, costs, kinds, factors, conditions, still, stills, old, a,
-    ) {
-        return Turned { full: false, run };
+    if is_stuck(board, tables.still, tables.stills, opened.node.prices, a) {
+        return Ok(run);
     }
-    let behind = spot.after(factors, pairs_of(effects, a));
-    let spent = add_price(paid, cost);
+    let spot = opened
+        .node
+        .spot
+        .after(board.factors, pairs_of(tables.effects, a));
+    let paid = add_price(opened.node.paid, cost);
     let begun = begin_of(
-        leaves, actions, bases, moves, costs, kinds, factors, conditions, still, stills, a, old,
-        low, sign, next,
+        board,
+        tables.still,
+        tables.stills,
+        a,
+        opened.node.prices,
+        low,
+        opened.node.sign,
+        &mut bench.next,
     );
+    let next = Successor {
+        spot,
+        paid,
+        parent: opened.number,
+        action: a,
+        key: begun.key,
+        sign: begun.sign,
+    };
     offer(
-        leaves, actions, bases, moves, costs, kinds, factors, conditions, firsts, edges, ends,
-        goals, goal, nodes, behind, spent, u, a, begun.key, begun.sign, still[a], old, next, table,
-        scan, known, list, room, run,
+        tables,
+        opened,
+        next,
+        tables.still[a],
+        bench,
+        table,
+        scan,
+        run,
     )
 }
 
-// All actions of node u that need a turn, which `mets` lists by rising number; the node's parts, key, signature and list of reached states are given.
+// All actions of the node that need a turn, which `mets` lists by rising number.
 fn turns(
-    leaves: usize,
-    actions: usize,
-    bases: &[usize],
-    moves: &[u16],
-    costs: &[u16],
-    kinds: &[u8],
-    factors: [u8; 32],
-    conditions: &[u8],
-    still: &[u8],
-    stills: &[u8],
-    firsts: &[u8],
-    edges: &[u8],
-    ends: &[usize],
-    effects: &[u8],
-    goals: &[u16],
-    goal: [u8; 32],
-    nodes: usize,
-    spot: Centre,
-    paid: u64,
-    key: u64,
-    sign: u64,
+    tables: &SearchTables<'_>,
+    opened: &Opened<'_>,
     mets: &[u8],
-    old: &[u64],
-    u: usize,
-    next: &mut [u64],
+    bench: &mut Bench,
     table: &mut [u64],
-    scan: &mut [u64],
-    known: &mut [u8],
-    list: &[u16],
-    room: &mut [u16],
+    scan: &mut [u64; SCAN_WORDS],
     run: Run,
-) -> Turned
-    requires sound { Sound (board_of leaves actions bases.now moves.now costs.now kinds.now factors conditions.now) }
-    requires still { Still leaves actions bases.now moves.now still.now
-        × Firsts (board_of leaves actions bases.now moves.now costs.now kinds.now factors conditions.now) firsts.now
-        × Edges (board_of leaves actions bases.now moves.now costs.now kinds.now factors conditions.now) edges.now ends.now
-        × Known (board_of leaves actions bases.now moves.now costs.now kinds.now factors conditions.now) known.old
-        × Useful (board_of leaves actions bases.now moves.now costs.now kinds.now factors conditions.now) effects.now spot table.old u old.now
-        (length mets.now) (λ j. get_or mets.now j 0)
-        × Stills leaves actions bases.now moves.now stills.now }
-    requires effects_len { (length effects.now ≡ 8192) × (length goals.now ≡ 1024) × (length old.now ≡ 1024) × (length next.old ≡ 1024) × (u < run.count)
-        × (128 ≤ get_or bases.now leaves 0 → Reaches (get_or bases.now leaves 0) old.now list.now) × (5120 ≤ length room.old) }
-    requires sign_value { (sign ≡ sign_of (take (get_or bases.now leaves 0) old.now))
-        × Has (node_in (get_or bases.now leaves 0) table.old u) spot paid (take (get_or bases.now leaves 0) old.now) }
-    requires room { Room (get_or bases.now leaves 0) nodes table.old scan.old run }
-    ensures grown { Grown (board_of leaves actions bases.now moves.now costs.now kinds.now factors
-        conditions.now) nodes run table.new scan.new result }
-    ensures expanded { Done (board_of leaves actions bases.now moves.now costs.now kinds.now factors
-        conditions.now) effects.now goals.now goal nodes u key table.old scan.old run
-        table.new scan.new result }
-    ensures known { Known (board_of leaves actions bases.now moves.now costs.now kinds.now factors
-        conditions.now) known.new }
+) -> Result<Run, Full>
+    requires known { Known (board_in tables.now.board) bench.old.known }
+    requires states { opened.now.node.states ≡ row_on (board_in tables.now.board) }
+    requires useful { Useful (board_in tables.now.board) tables.now.effects.now opened.now.node.spot table.old opened.now.number opened.now.node.prices.now
+        (length mets.now) (λ j. get_or mets.now j 0) }
+    requires has { Has (node_in (row_on (board_in tables.now.board)) table.old opened.now.number) opened.now.node.spot opened.now.node.paid
+        (take (row_on (board_in tables.now.board)) opened.now.node.prices.now) }
+    requires inside { opened.now.number < run.count }
+    requires room { Room (row_on (board_in tables.now.board)) tables.now.nodes table.old scan.old run }
+    ensures grown { Grown (board_in tables.now.board) tables.now.nodes run table.new scan.new result }
+    ensures expanded { Done (board_in tables.now.board) tables.now.effects.now tables.now.goals.now tables.now.goal tables.now.nodes
+        opened.now.number opened.now.key table.old scan.old run table.new scan.new result }
+    ensures known { Known (board_in tables.now.board) bench.new.known }
 {
     let mut going = run;
-    for j in 0..mets.len() {
-        let a = mets[j] as usize;
-        let r = turn(
-            leaves, actions, bases, moves, costs, kinds, factors, conditions, still, stills,
-            firsts, edges, ends, effects, goals, goal, nodes, spot, paid, key, sign, old, u, a,
-            next, table, scan, known, list, room, going,
-        );
-        if r.full {
-            return r;
-        }
-        going = r.run;
+    for a in mets {
+        going = turn(tables, opened, *a as usize, bench, table, scan, going)?;
     }
-    Turned {
-        full: false,
-        run: going,
-    }
+    Ok(going)
 }
 
-// The actions of node u that need a turn, by rising number, at the front of `mets`: those whose centre conditions hold, but for detours behind the hop that
-// made the node, if it has its parent's prices, which `old` begins with. How many.
+// What an action costs.
+fn cost_of(board: &Board<'_>, a: usize) -> u16
+    requires { a < board.now.actions }
+    ensures { result ≡ get_or board.now.costs.now a 0 }
+{
+    board.costs[a]
+}
+
+// The actions of the node that need a turn, by rising number, at the front of `mets`: those whose centre conditions hold, but for detours behind the hop that
+// made the node, if it has its parent's prices. How many.
 fn list_turns(
-    leaves: usize,
-    actions: usize,
-    bases: &[usize],
-    moves: &[u16],
-    costs: &[u16],
-    kinds: &[u8],
-    factors: [u8; 32],
-    conditions: &[u8],
-    effects: &[u8],
-    firsts: &[u8],
-    hops: &[u16],
-    ways: &[u8],
-    spot: Centre,
-    u: usize,
-    old: &[u64],
+    tables: &SearchTables<'_>,
+    opened: &Opened<'_>,
     table: &[u64],
     known: &mut [u8],
     mets: &mut [u8],
 ) -> usize
-    requires sound { Sound (board_of leaves actions bases.now moves.now costs.now kinds.now factors conditions.now) }
-    requires firsts { Firsts (board_of leaves actions bases.now moves.now costs.now kinds.now factors conditions.now) firsts.now
-        × Known (board_of leaves actions bases.now moves.now costs.now kinds.now factors conditions.now) known.old
-        × Hops actions (board_of leaves actions bases.now moves.now costs.now kinds.now factors conditions.now) effects.now hops.now
-        × Ways actions hops.now ways.now }
-    requires mets_len { (length mets.old ≡ 256) × (length old.now ≡ 1024) × (u < 4096)
-        × (u * (40 + get_or bases.now leaves 0) + (40 + get_or bases.now leaves 0) ≤ length table.now) }
-    ensures { Known (board_of leaves actions bases.now moves.now costs.now kinds.now factors
-        conditions.now) known.new × (result ≤ 256)
-        × Useful (board_of leaves actions bases.now moves.now costs.now kinds.now factors
-        conditions.now) effects.now spot table.now u old.now result (λ j. get_or mets.new j 0) }
+    requires known { Known (board_in tables.now.board) known.old }
+    requires states { opened.now.node.states ≡ row_on (board_in tables.now.board) }
+    requires mets_len { (length mets.old ≡ 256) × (opened.now.number < 4096)
+        × (opened.now.number * (40 + row_on (board_in tables.now.board)) + (40 + row_on (board_in tables.now.board)) ≤ length table.now) }
+    ensures { Known (board_in tables.now.board) known.new × (result ≤ 256)
+        × Useful (board_in tables.now.board) tables.now.effects.now opened.now.node.spot table.now opened.now.number opened.now.node.prices.now
+        result (λ j. get_or mets.new j 0) }
 {
-    let states = bases[leaves];
+    let board = &tables.board;
     let many = list_mets(
-        actions,
-        firsts,
-        factors,
-        conditions,
-        spot,
-        class_of(spot),
+        board.actions,
+        tables.firsts,
+        board.factors,
+        board.conditions,
+        opened.node.spot,
+        class_of(opened.node.spot),
         known,
         mets,
     );
-    let word = hop_behind(table, states, actions, hops, u, old);
+    let word = hop_behind(
+        table,
+        opened.node.states,
+        board.actions,
+        tables.hops,
+        opened.number,
+        opened.node.prices,
+    );
     if word == 0 {
         return many;
     }
-    let wide = 40 + states;
-    let made_by = table[u * wide + 34] as usize;
-    drop_detours(hops, ways, costs, word, costs[made_by], mets, many)
+    let made_by = table[opened.number * (40 + opened.node.states) + 34] as usize;
+    let cost = cost_of(board, made_by);
+    drop_detours(
+        tables.hops,
+        tables.ways,
+        board.costs,
+        word,
+        cost,
+        mets,
+        many,
+    )
 }
 
-// All actions of node u, whose key is given, by rising number; `mets`, `old`, `next` and `list` are lent to work in, and `room` has recent numbers behind
-// 1,024 words to work in (`offers::offer`). The words of these five afterwards are left to the program, their lengths stay; those of `known` too, of which
-// `Known` holds.
+// All actions of node u, whose key is given, by rising number. The words of the desk afterwards are left to the program, but for `Known`.
 pub fn expand(
-    leaves: usize,
-    actions: usize,
-    bases: &[usize],
-    moves: &[u16],
-    costs: &[u16],
-    kinds: &[u8],
-    factors: [u8; 32],
-    conditions: &[u8],
-    still: &[u8],
-    stills: &[u8],
-    firsts: &[u8],
-    edges: &[u8],
-    ends: &[usize],
-    hops: &[u16],
-    ways: &[u8],
-    effects: &[u8],
-    goals: &[u16],
-    goal: [u8; 32],
-    nodes: usize,
+    tables: &SearchTables<'_>,
     u: usize,
     key: u64,
+    desk: &mut Desk,
     table: &mut [u64],
-    scan: &mut [u64],
-    known: &mut [u8],
-    mets: &mut [u8],
-    old: &mut [u64],
-    next: &mut [u64],
-    list: &mut [u16],
-    room: &mut [u16],
+    scan: &mut [u64; SCAN_WORDS],
     run: Run,
-) -> Turned
-    requires sound { Sound (board_of leaves actions bases.now moves.now costs.now kinds.now factors conditions.now) }
-    requires still { Still leaves actions bases.now moves.now still.now
-        × Firsts (board_of leaves actions bases.now moves.now costs.now kinds.now factors conditions.now) firsts.now
-        × Edges (board_of leaves actions bases.now moves.now costs.now kinds.now factors conditions.now) edges.now ends.now
-        × Known (board_of leaves actions bases.now moves.now costs.now kinds.now factors conditions.now) known.old
-        × (length mets.old ≡ 256) × Stills leaves actions bases.now moves.now stills.now
-        × Hops actions (board_of leaves actions bases.now moves.now costs.now kinds.now factors conditions.now) effects.now hops.now
-        × Ways actions hops.now ways.now }
-    requires effects_len { (length effects.now ≡ 8192) × (length goals.now ≡ 1024) × (u < run.count) }
-    requires room { Room (get_or bases.now leaves 0) nodes table.old scan.old run }
-    requires len { (length old.old ≡ 1024) × (length next.old ≡ 1024) × (1024 ≤ length list.old) × (5120 ≤ length room.old) }
-    ensures grown { Grown (board_of leaves actions bases.now moves.now costs.now kinds.now factors
-        conditions.now) nodes run table.new scan.new result }
-    ensures expanded { Done (board_of leaves actions bases.now moves.now costs.now kinds.now factors
-        conditions.now) effects.now goals.now goal nodes u key table.old scan.old run
-        table.new scan.new result }
-    ensures known { Known (board_of leaves actions bases.now moves.now costs.now kinds.now factors
-        conditions.now) known.new }
-    ensures lengths { (length mets.new ≡ length mets.old) × (length old.new ≡ length old.old) × (length next.new ≡ length next.old)
-        × (length list.new ≡ length list.old) × (length room.new ≡ length room.old) }
+) -> Result<Run, Full>
+    requires known { Known (board_in tables.now.board) desk.old.bench.known }
+    requires inside { u < run.count }
+    requires room { Room (row_on (board_in tables.now.board)) tables.now.nodes table.old scan.old run }
+    ensures grown { Grown (board_in tables.now.board) tables.now.nodes run table.new scan.new result }
+    ensures expanded { Done (board_in tables.now.board) tables.now.effects.now tables.now.goals.now tables.now.goal tables.now.nodes
+        u key table.old scan.old run table.new scan.new result }
+    ensures known { Known (board_in tables.now.board) desk.new.bench.known }
 {
-    let states = bases[leaves];
+    let states = tables.board.states();
     let wide = 40 + states;
     let at = u * wide;
     let end = at + wide;
-    let spot = read_spot(&table[at..end]);
-    let paid = table[at + 32];
-    let sign = table[at + 39];
-    copy_words(&table[at + 40..end], old, states);
-    let many = list_turns(
-        leaves,
-        actions,
-        bases,
-        moves,
-        costs,
-        kinds,
-        factors,
-        conditions,
-        effects,
-        firsts,
-        hops,
-        ways,
-        spot,
-        u,
-        &old[..],
-        &table[..],
-        known,
-        mets,
-    );
-    let reached = list_reached(states, &old[..], list);
-    turns(
-        leaves,
-        actions,
-        bases,
-        moves,
-        costs,
-        kinds,
-        factors,
-        conditions,
-        still,
-        stills,
-        firsts,
-        edges,
-        ends,
-        effects,
-        goals,
-        goal,
-        nodes,
-        spot,
-        paid,
+    copy_words(&table[at + 40..end], &mut desk.prices, states);
+    let reached = list_reached(states, &desk.prices, &mut desk.reached);
+    let node = Candidate {
+        states,
+        spot: read_spot(&table[at..end]),
+        paid: table[at + 32],
+        prices: &desk.prices,
+        sign: table[at + 39],
+        list: &desk.reached[..reached],
+    };
+    let opened = Opened {
+        number: u,
         key,
-        sign,
-        &mets[..many],
-        &old[..],
-        u,
-        next,
+        node,
+    };
+    let many = list_turns(
+        tables,
+        &opened,
+        table,
+        &mut desk.bench.known,
+        &mut desk.mets,
+    );
+    turns(
+        tables,
+        &opened,
+        &desk.mets[..many],
+        &mut desk.bench,
         table,
         scan,
-        known,
-        &list[..reached],
-        room,
         run,
     )
 }

@@ -1,305 +1,212 @@
 // The exploration over the lent table.
 #![tactic(auto)]
 
-ghost use Rattle.std.specs.Prelude.{◌≡◌, ℕ, ◌+◌, ◌*◌, ◌≤◌, ◌<◌, length, get_or};
+ghost use Rattle.std.specs.Prelude.{◌≡◌, ℕ, ◌+◌, ◌*◌, ◌≤◌, ◌<◌, length, get_or, nat_eq};
 ghost use Rattle.task.specs.declared.Task.{Task};
 ghost use Rattle.task.specs.Factors.{all_states};
 ghost use Rattle.task.specs.Valid.{Valid};
-ghost use Rattle.layer.specs.Board.{Sound};
-ghost use Rattle.layer.specs.First.{Firsts};
-ghost use Rattle.layer.specs.Lent.{board_of};
+ghost use Rattle.layer.specs.Board.{base_on, row_on, states_on};
+ghost use Rattle.layer.specs.Held.{board_in};
 ghost use Rattle.mets.specs.Known.{Known};
 ghost use Rattle.edges.specs.Edges.{Edges};
-ghost use Rattle.tables.specs.Tables.{Tabled, Goals};
+ghost use Rattle.tables.specs.Tables.{Goals};
 ghost use Rattle.search.specs.Explore.{start, explored};
 ghost use Rattle.nodes.specs.Chain.{Chained};
 ghost use Rattle.offers.specs.Held.{search_of, Cached, Room};
 ghost use Rattle.expand.specs.Held.{Suits};
+ghost use Rattle.explore.specs.declared.Why.TheVariants.{TableFull};
 ghost use Rattle.explore.specs.Held.{stopped_of};
 ghost use Rattle.explore.specs.Held.Rounds.{Ahead, Rounded};
-ghost use Rattle.stills.specs.Still.{Still, Stills};
-ghost use Rattle.hops.specs.Hops.{Hops, Ways};
 
-use blocks::{choose, fresh, retire};
-use expand::expand;
+use blocks::{SCAN_WORDS, choose, fresh, retire};
+use edges::EdgeTable;
+use expand::{Desk, expand};
 use hops::{list_hops, list_ways};
 use keys::key_of;
 use layer::{first_conditions, first_layer};
 use leaf::MARK;
-use offers::{Run, keep};
-use rows::class_of;
+use offers::{Bench, Full, Run, SearchTables, Successor, keep};
+use rows::{class_of, sign_of};
 use stills::{still_actions, still_leaves};
-use task::{Centre, Task};
+use tables::TaskTables;
+use task::Centre;
 
 // Why a search stops.
-#[derive(Clone, Copy)]
+#[derive(Clone, Copy, PartialEq, Eq)]
 pub enum Why {
     Finished,
     TableFull,
     BudgetSpent,
 }
 
-#[derive(Clone, Copy)]
+// A search that has stopped: why, and what it has come to.
+#[derive(Clone, Copy, PartialEq, Eq)]
 pub struct Stop {
     pub why: Why,
     pub run: Run,
 }
 
-// What a round gives: the search stops, or it goes on.
-#[derive(Clone, Copy)]
-pub enum Round {
-    Stops(Stop),
-    Goes(Run),
+impl From<Full> for Stop {
+    ghost from_gives = { λ full stop. stop ≡ record { why = TableFull; run = full.0 } };
+
+    fn from(full: Full) -> Stop {
+        Stop {
+            why: Why::TableFull,
+            run: full.0,
+        }
+    }
 }
 
 // The block words are set to the mark, and node 0 is made and kept: the search at its start.
 fn start(
-    task: Task,
-    bases: &[usize],
-    moves: &[u16],
-    costs: &[u16],
-    kinds: &[u8],
-    starts: &[usize],
-    goals: &[u16],
+    tables: &TaskTables<'_>,
+    search: &SearchTables<'_>,
     table: &mut [u64],
-    scan: &mut [u64],
+    scan: &mut [u64; SCAN_WORDS],
 ) -> Run
-    requires valid { Valid task }
-    requires tabled { Tabled task bases.now moves.now costs.now kinds.now starts.now × Goals task goals.now }
-    requires task_in_bounds { (40 + all_states task ≤ length table.old) × (length scan.old ≡ 17696)
-        × ((h : ℕ) → h < 1025 → get_or scan.old (6144 + h) 0 ≡ 0) }
-    ensures { (search_of (all_states task) table.new scan.new result ≡ start task)
-        × Cached task (all_states task) table.new scan.new result
-        × Chained (all_states task) table.new scan.new result.count }
+    requires suits { Suits tables.now.task.now (board_in search.now.board) search.now.effects.now search.now.goals.now search.now.goal }
+    requires table { 40 + all_states tables.now.task.now ≤ length table.old }
+    requires heads { (h : ℕ) → h < 1025 → get_or scan.old (6144 + h) 0 ≡ 0 }
+    ensures { (search_of (all_states tables.now.task.now) table.new scan.new result ≡ start tables.now.task.now)
+        × Cached tables.now.task.now (all_states tables.now.task.now) table.new scan.new result
+        × Chained (all_states tables.now.task.now) table.new scan.new result.count }
 {
     fresh(scan);
-    let leaves = task.leaves as usize;
-    let actions = task.actions as usize;
-    let factors = task.factors;
-    let initial = task.initial;
-    let goal = task.goal;
-    let spot = Centre::blank().after(factors, initial);
+    let board = &search.board;
+    let spot = Centre::default().after(board.factors, tables.task.initial);
     let mut prices = [MARK; 1024];
-    first_layer(
-        leaves,
-        actions,
-        bases,
-        moves,
-        costs,
-        kinds,
-        factors,
-        &task.conditions,
+    first_layer(board, spot, tables.starts, &mut prices);
+    let first = Successor {
         spot,
-        starts,
-        &mut prices,
-    );
-    let key = key_of(leaves, bases, 0, &prices);
+        paid: 0,
+        parent: 0,
+        action: 0,
+        key: key_of(board, 0, &prices),
+        sign: sign_of(&prices[..board.states()]),
+    };
     let none = Run {
         count: 0,
         begun: 0,
-        best: 0,
+        best: None,
         best_cost: MARK,
     };
-    keep(
-        leaves,
-        bases,
-        goals,
-        factors,
-        goal,
-        spot,
-        class_of(spot),
-        0,
-        0,
-        0,
-        key,
-        0,
-        true,
-        &prices,
-        table,
-        scan,
-        none,
-    )
+    keep(search, first, class_of(spot), &prices, table, scan, none)
 }
 
-// One round: the least key is chosen, and where the budget is not used up its node is expanded, with `mets`, `old`, `next` and `list` to work in and `room`,
-// whose recent numbers stay from round to round.
-fn next_round<'a>(
-    leaves: usize,
-    actions: usize,
-    bases: &[usize],
-    moves: &[u16],
-    costs: &[u16],
-    kinds: &[u8],
-    factors: [u8; 32],
-    conditions: &'a [u8],
-    still: &[u8],
-    stills: &[u8],
-    firsts: &[u8],
-    edges: &[u8],
-    ends: &[usize],
-    hops: &[u16],
-    ways: &[u8],
-    effects: &'a [u8],
-    goals: &[u16],
-    goal: [u8; 32],
-    nodes: usize,
-    budget: u32,
-    table: &mut [u64],
-    scan: &mut [u64],
-    known: &mut [u8],
-    mets: &mut [u8],
-    old: &mut [u64],
-    next: &mut [u64],
-    list: &mut [u16],
-    room: &mut [u16],
-    run: Run,
-) -> Round
-    requires sound { Sound (board_of leaves actions bases.now moves.now costs.now kinds.now factors conditions.now) }
-    requires still { Still leaves actions bases.now moves.now still.now
-        × Firsts (board_of leaves actions bases.now moves.now costs.now kinds.now factors conditions.now) firsts.now
-        × Edges (board_of leaves actions bases.now moves.now costs.now kinds.now factors conditions.now) edges.now ends.now
-        × Known (board_of leaves actions bases.now moves.now costs.now kinds.now factors conditions.now) known.old
-        × (length mets.old ≡ 256) × Stills leaves actions bases.now moves.now stills.now
-        × Hops actions (board_of leaves actions bases.now moves.now costs.now kinds.now factors conditions.now) effects.now hops.now
-        × Ways actions hops.now ways.now }
-    requires effects_len { (length effects.now ≡ 8192) × (length goals.now ≡ 1024) × (run.begun ≤ 4096) }
-    requires room { Room (get_or bases.now leaves 0) nodes table.old scan.old run }
-    requires len { (length old.old ≡ 1024) × (length next.old ≡ 1024) × (1024 ≤ length list.old) × (5120 ≤ length room.old) }
-    ensures rounded { (t : Task) → Suits t (board_of leaves actions bases.now moves.now costs.now kinds.now factors
-        conditions.now) effects.now goals.now goal
-        → Ahead t nodes budget (all_states t) table.old scan.old run
-        → Rounded t nodes budget run.begun (all_states t) table.new scan.new result }
-    ensures known { Known (board_of leaves actions bases.now moves.now costs.now kinds.now factors
-        conditions.now) known.new }
+// Whether so many expansions have begun as the budget allows.
+fn is_spent(run: Run, budget: u32) -> bool
+    ensures { result ≡ nat_eq run.begun budget }
 {
-    let chosen = choose(scan, run.count, run.best_cost);
-    if chosen == 0 {
-        return Round::Stops(Stop {
+    run.begun == budget as usize
+}
+
+// One round: the least key is chosen, and where the budget is not used up its node is expanded. The recent numbers on the desk stay from round to round.
+fn next_round(
+    search: &SearchTables<'_>,
+    budget: u32,
+    desk: &mut Desk,
+    table: &mut [u64],
+    scan: &mut [u64; SCAN_WORDS],
+    run: Run,
+) -> Result<Run, Stop>
+    requires known { Known (board_in search.now.board) desk.old.bench.known }
+    requires begun { run.begun ≤ 4096 }
+    requires room { Room (row_on (board_in search.now.board)) search.now.nodes table.old scan.old run }
+    ensures rounded { (t : Task) → Suits t (board_in search.now.board) search.now.effects.now search.now.goals.now search.now.goal
+        → Ahead t search.now.nodes budget (all_states t) table.old scan.old run
+        → Rounded t search.now.nodes budget run.begun (all_states t) table.new scan.new result }
+    ensures known { Known (board_in search.now.board) desk.new.bench.known }
+{
+    let Some(u) = choose(scan, run.count, run.best_cost) else {
+        return Err(Stop {
             why: Why::Finished,
             run,
         });
-    }
-    if run.begun == budget as usize {
-        return Round::Stops(Stop {
+    };
+    if is_spent(run, budget) {
+        return Err(Stop {
             why: Why::BudgetSpent,
             run,
         });
     }
-    let u = chosen - 1;
     let key = scan[u];
     retire(scan, u, run.count);
     let more = run.begun + 1;
-    let begun = Run {
-        count: run.count,
-        begun: more,
-        best: run.best,
-        best_cost: run.best_cost,
+    let begun = Run { begun: more, ..run };
+    Ok(expand(search, u, key, desk, table, scan, begun)?)
+}
+
+// Rounds from the start to the search's end.
+fn rounds(
+    tables: &TaskTables<'_>,
+    search: &SearchTables<'_>,
+    budget: u32,
+    table: &mut [u64],
+    scan: &mut [u64; SCAN_WORDS],
+) -> Stop
+    requires suits { Suits tables.now.task.now (board_in search.now.board) search.now.effects.now search.now.goals.now search.now.goal }
+    requires nodes { (1 ≤ search.now.nodes) × (search.now.nodes ≤ 4096) × ((search.now.nodes + 1) * (40 + all_states tables.now.task.now) ≤ length table.old) }
+    requires heads { (h : ℕ) → h < 1025 → get_or scan.old (6144 + h) 0 ≡ 0 }
+    ensures { (stopped_of (all_states tables.now.task.now) table.new scan.new result ≡ explored tables.now.task.now search.now.nodes budget)
+        × Cached tables.now.task.now (all_states tables.now.task.now) table.new scan.new result.run }
+{
+    let mut run = start(tables, search, table, scan);
+    let mut desk = Desk {
+        bench: Bench {
+            known: [0; 36864],
+            next: [MARK; 1024],
+            room: [0; 5120],
+        },
+        mets: [0; 256],
+        prices: [MARK; 1024],
+        reached: [0; 1024],
     };
-    let r = expand(
-        leaves, actions, bases, moves, costs, kinds, factors, conditions, still, stills, firsts,
-        edges, ends, hops, ways, effects, goals, goal, nodes, u, key, table, scan, known, mets,
-        old, next, list, room, begun,
-    );
-    let after = r.run;
-    if r.full {
-        return Round::Stops(Stop {
-            why: Why::TableFull,
-            run: after,
-        });
+    loop {
+        match next_round(search, budget, &mut desk, table, scan, run) {
+            Ok(after) => run = after,
+            Err(stop) => return stop,
+        }
     }
-    Round::Goes(after)
 }
 
 // The whole exploration of a task that the reader accepted. The table and the scan words hold the search it ends with; what else stands in them is left to the
-// program, their lengths stay.
+// program.
 pub fn explore(
-    task: Task,
-    bases: &[usize],
-    moves: &[u16],
-    costs: &[u16],
-    kinds: &[u8],
-    starts: &[usize],
+    tables: &TaskTables<'_>,
     goals: &[u16],
     nodes: usize,
     budget: u32,
-    edges: &[u8],
-    ends: &[usize],
+    edges: &EdgeTable<'_>,
     table: &mut [u64],
-    scan: &mut [u64],
+    scan: &mut [u64; SCAN_WORDS],
 ) -> Stop
-    requires valid { Valid task }
-    requires tabled { Tabled task bases.now moves.now costs.now kinds.now starts.now × Goals task goals.now }
-    requires edges { Edges (board_of task.leaves task.actions bases.now moves.now costs.now kinds.now task.factors task.conditions)
-        edges.now ends.now }
-    requires le_nodes { (1 ≤ nodes) × (nodes ≤ 4096) × ((nodes + 1) * (40 + all_states task) ≤ length table.old) × (length scan.old ≡ 17696)
-        × ((h : ℕ) → h < 1025 → get_or scan.old (6144 + h) 0 ≡ 0) }
-    ensures searched { (stopped_of (all_states task) table.new scan.new result ≡ explored task nodes budget)
-        × Cached task (all_states task) table.new scan.new result.run }
-    ensures lengths { (length table.new ≡ length table.old) × (length scan.new ≡ length scan.old) }
+    requires valid { Valid tables.now.task.now }
+    requires goals { Goals tables.now.task.now goals.now }
+    requires edges { Edges (board_in tables.now.board) edges.now.list.now edges.now.ends.now }
+    requires nodes { (1 ≤ nodes) × (nodes ≤ 4096) × ((nodes + 1) * (40 + all_states tables.now.task.now) ≤ length table.old) }
+    requires heads { (h : ℕ) → h < 1025 → get_or scan.old (6144 + h) 0 ≡ 0 }
+    ensures searched { (stopped_of (all_states tables.now.task.now) table.new scan.new result ≡ explored tables.now.task.now nodes budget)
+        × Cached tables.now.task.now (all_states tables.now.task.now) table.new scan.new result.run }
+    ensures lengths { length table.new ≡ length table.old }
 {
-    let leaves = task.leaves as usize;
-    let actions = task.actions as usize;
-    let factors = task.factors;
-    let goal = task.goal;
-    let stills = still_leaves(leaves, actions, bases, moves);
-    let still = still_actions(leaves, actions, &stills);
-    let firsts = first_conditions(factors, &task.conditions, actions);
-    let hops = list_hops(
-        leaves,
-        actions,
-        bases,
-        moves,
-        costs,
-        kinds,
-        factors,
-        &task.conditions,
-        &task.effects,
-        &firsts,
-        &still,
-    );
-    let ways = list_ways(actions, &hops);
-    let mut run = start(task, bases, moves, costs, kinds, starts, goals, table, scan);
-    let mut known = [0u8; 36864];
-    let mut mets = [0u8; 256];
-    let mut old = [MARK; 1024];
-    let mut next = [MARK; 1024];
-    let mut list = [0u16; 1024];
-    let mut room = [0u16; 5120];
-    loop {
-        let round = next_round(
-            leaves,
-            actions,
-            bases,
-            moves,
-            costs,
-            kinds,
-            factors,
-            &task.conditions,
-            &still,
-            &stills,
-            &firsts,
-            edges,
-            ends,
-            &hops,
-            &ways,
-            &task.effects,
-            goals,
-            goal,
-            nodes,
-            budget,
-            table,
-            scan,
-            &mut known,
-            &mut mets,
-            &mut old,
-            &mut next,
-            &mut list,
-            &mut room,
-            run,
-        );
-        match round {
-            Round::Stops(stop) => return stop,
-            Round::Goes(after) => run = after,
-        }
-    }
+    let board = tables.board;
+    let stills = still_leaves(board.leaves, board.actions, board.bases, board.moves);
+    let still = still_actions(board.leaves, board.actions, &stills);
+    let firsts = first_conditions(&board);
+    let hops = list_hops(&board, &tables.task.effects, &firsts, &still);
+    let ways = list_ways(board.actions, &hops);
+    let search = SearchTables {
+        board,
+        edges: *edges,
+        still: &still,
+        stills: &stills,
+        firsts: &firsts,
+        hops: &hops,
+        ways: &ways,
+        effects: &tables.task.effects,
+        goals,
+        goal: tables.task.goal,
+        nodes,
+    };
+    rounds(tables, &search, budget, table, scan)
 }

@@ -2,15 +2,16 @@
 #![tactic(auto)]
 
 ghost use Rattle.std.specs.Prelude.{◌≡◌, ℕ, ◌+◌, ◌*◌, ◌≤◌, ◌<◌, length, get_or};
-ghost use Rattle.layer.specs.Board.{Sound};
 ghost use Rattle.layer.specs.First.{Firsts};
-ghost use Rattle.layer.specs.Lent.{board_of};
+ghost use Rattle.layer.specs.Held.{board_in};
 ghost use Rattle.stills.specs.Still.{Still};
 ghost use Rattle.hops.specs.Hops.{names_only, pair_word, hop_word, hops_by, ways_by};
 
+use layer::Board;
 use task::FREE;
 
 // Whether an action's row of conditions or effects, which begins at `at`, names no variable but v. All are looked at: without a branch that is quicker.
+#[tactic(auto, unfolding(crate::specs::Hops::names_only))]
 fn names_only(pairs: &[u8], at: usize, v: usize) -> bool
     requires { at + 32 ≤ length pairs.now }
     ensures { result ≡ names_only pairs.now at v }
@@ -23,6 +24,7 @@ fn names_only(pairs: &[u8], at: usize, v: usize) -> bool
 }
 
 // The word of action a where its conditions and effects name variable v and no other, else 0.
+#[tactic(auto, using(std::proofs::lemmas::Grind::common_steps), unfolding(crate::specs::Hops::pair_word))]
 fn pair_word(conditions: &[u8], effects: &[u8], a: usize, v: usize) -> u16
     requires { (length conditions.now ≡ 8192) × (length effects.now ≡ 8192) × (a < 256) × (v < 32) }
     ensures { result ≡ pair_word conditions.now effects.now a v }
@@ -45,27 +47,15 @@ fn pair_word(conditions: &[u8], effects: &[u8], a: usize, v: usize) -> u16
 }
 
 // Action a's word: 0, or that of a hop.
-fn hop_word(
-    leaves: usize,
-    actions: usize,
-    bases: &[usize],
-    moves: &[u16],
-    costs: &[u16],
-    kinds: &[u8],
-    factors: [u8; 32],
-    conditions: &[u8],
-    effects: &[u8],
-    firsts: &[u8],
-    still: &[u8],
-    a: usize,
-) -> u16
-    requires sound { Sound (board_of leaves actions bases.now moves.now costs.now kinds.now factors conditions.now)
-        × (length effects.now ≡ 8192) × (a < actions) }
-    requires still { Still leaves actions bases.now moves.now still.now
-        × Firsts (board_of leaves actions bases.now moves.now costs.now kinds.now factors conditions.now) firsts.now }
-    ensures { result ≡ hop_word kinds.now conditions.now effects.now firsts.now still.now a }
+#[tactic(auto, using(std::proofs::lemmas::Grind::common_steps), unfolding(crate::specs::Hops::hop_word))]
+fn hop_word(board: &Board<'_>, effects: &[u8], firsts: &[u8], still: &[u8], a: usize) -> u16
+    requires effects { length effects.now ≡ 8192 }
+    requires firsts { Firsts (board_in board.now) firsts.now }
+    requires still { Still board.now.leaves board.now.actions board.now.bases.now board.now.moves.now still.now }
+    requires a_lt_actions { a < board.now.actions }
+    ensures { result ≡ hop_word board.now.kinds.now board.now.conditions.now effects.now firsts.now still.now a }
 {
-    if kinds[a] != 0 {
+    if board.kinds[a] != 0 {
         return 0;
     }
     if still[a] == 0 {
@@ -75,40 +65,27 @@ fn hop_word(
     if v >= 32 {
         return 0;
     }
-    pair_word(conditions, effects, a, v)
+    pair_word(board.conditions, effects, a, v)
 }
 
 // The word of each action.
-pub fn list_hops<'a>(
-    leaves: usize,
-    actions: usize,
-    bases: &[usize],
-    moves: &[u16],
-    costs: &[u16],
-    kinds: &[u8],
-    factors: [u8; 32],
-    conditions: &'a [u8],
-    effects: &'a [u8],
-    firsts: &[u8],
-    still: &[u8],
-) -> [u16; 256]
-    requires sound { Sound (board_of leaves actions bases.now moves.now costs.now kinds.now factors conditions.now) × (length effects.now ≡ 8192) }
-    requires still { Still leaves actions bases.now moves.now still.now
-        × Firsts (board_of leaves actions bases.now moves.now costs.now kinds.now factors conditions.now) firsts.now }
-    ensures { result ≡ hops_by actions kinds.now conditions.now effects.now firsts.now still.now }
+#[tactic(auto, unfolding(crate::specs::Hops::hops_by, loops::specs::Count::list))]
+pub fn list_hops(board: &Board<'_>, effects: &[u8], firsts: &[u8], still: &[u8]) -> [u16; 256]
+    requires effects { length effects.now ≡ 8192 }
+    requires firsts { Firsts (board_in board.now) firsts.now }
+    requires still { Still board.now.leaves board.now.actions board.now.bases.now board.now.moves.now still.now }
+    ensures { result ≡ hops_by board.now.actions board.now.kinds.now board.now.conditions.now effects.now firsts.now still.now }
 {
     let mut hops = [0u16; 256];
-    for a in 0..actions {
-        let word = hop_word(
-            leaves, actions, bases, moves, costs, kinds, factors, conditions, effects, firsts,
-            still, a,
-        );
+    for a in 0..board.actions {
+        let word = hop_word(board, effects, firsts, still, a);
         hops[a] = word;
     }
     hops
 }
 
 // For each hop from a value of a variable to another, one more than the last action that makes it; 0 where none does.
+#[tactic(auto, using(crate::specs::Hops::Laws::way_pass, crate::specs::Hops::Laws::way_more), unfolding(crate::specs::Hops::ways_by))]
 pub fn list_ways(actions: usize, hops: &[u16]) -> [u8; 8192]
     requires { (actions ≤ 255) × (length hops.now ≡ 256) × ((k : ℕ) → get_or hops.now k 0 ≤ 8192) }
     ensures { result ≡ ways_by hops.now actions }

@@ -1,23 +1,15 @@
 // What is read from prices: least prices, keys and goal costs.
 #![tactic(auto)]
 
-ghost use Rattle.std.specs.Prelude.{◌≡◌, ◌+◌, ◌*◌, ◌≤◌, ◌<◌, min, length, take};
+ghost use Rattle.std.specs.Prelude.{◌≡◌, ◌*◌, ◌≤◌, length, take};
+ghost use Rattle.layer.specs.Board.{row_on};
+ghost use Rattle.layer.specs.Held.{board_in};
 ghost use Rattle.search.specs.Node.{least_of};
-ghost use Rattle.keys.specs.Scan.{Cut, goals_by, key_by, goal_sum_by, goal_cost_by};
+ghost use Rattle.keys.specs.Scan.{goals_by, key_by, goal_sum_by, goal_cost_by};
 
-use layer::is_met;
+use layer::{Board, is_met};
 use leaf::{MARK, add_price};
 use task::Centre;
-
-// The lesser of two words.
-pub fn lesser(a: u64, b: u64) -> u64
-    ensures { result ≡ min a b }
-{
-    if b < a {
-        return b;
-    }
-    a
-}
 
 // The least of the prices at the front, four times as many as `fours`. Those of a turn are compared in pairs, so that few comparisons wait for another.
 fn least_in_fours(prices: &[u64], fours: usize) -> u64
@@ -27,9 +19,9 @@ fn least_in_fours(prices: &[u64], fours: usize) -> u64
     let mut low = MARK;
     for j in 0..fours {
         let k = j * 4;
-        let first = lesser(prices[k], prices[k + 1]);
-        let second = lesser(prices[k + 2], prices[k + 3]);
-        low = lesser(low, lesser(first, second));
+        let first = prices[k].min(prices[k + 1]);
+        let second = prices[k + 2].min(prices[k + 3]);
+        low = low.min(first.min(second));
     }
     low
 }
@@ -40,8 +32,8 @@ pub fn least(prices: &[u64]) -> u64
 {
     let from = prices.len() / 4 * 4;
     let mut low = least_in_fours(prices, prices.len() / 4);
-    for k in from..prices.len() {
-        low = lesser(low, prices[k]);
+    for &price in &prices[from..] {
+        low = low.min(price);
     }
     low
 }
@@ -52,10 +44,10 @@ pub fn least_goal(prices: &[u64], goals: &[u16]) -> u64
     ensures { result ≡ least_of (goals_by goals.now prices.now) }
 {
     let mut low = MARK;
-    for k in 0..prices.len() {
+    for (k, &price) in prices.iter().enumerate() {
         if goals[k] != 0 {
-            if prices[k] < low {
-                low = prices[k];
+            if price < low {
+                low = price;
             }
         }
     }
@@ -63,29 +55,28 @@ pub fn least_goal(prices: &[u64], goals: &[u16]) -> u64
 }
 
 // The key: the centre cost and the least price of each leaf.
-pub fn key_of(leaves: usize, bases: &[usize], paid: u64, prices: &[u64]) -> u64
-    requires { Cut leaves bases.now (length prices.now) }
-    ensures { result ≡ key_by leaves bases.now paid prices.now }
+pub fn key_of(board: &Board<'_>, paid: u64, prices: &[u64]) -> u64
+    requires { row_on (board_in board.now) ≤ length prices.now }
+    ensures { result ≡ key_by board.now.leaves board.now.bases.now paid prices.now }
 {
     let mut key = paid;
-    for i in 0..leaves {
-        let from = bases[i];
-        let to = bases[i + 1];
-        key = add_price(key, least(&prices[from..to]));
+    for i in 0..board.leaves {
+        let states = board.leaf(i);
+        key = add_price(key, least(&prices[states]));
     }
     key
 }
 
 // The centre cost and the least price of a goal state of each leaf; the mark where a leaf has none.
-fn goal_sum(leaves: usize, bases: &[usize], goals: &[u16], paid: u64, prices: &[u64]) -> u64
-    requires { Cut leaves bases.now (length prices.now) × Cut leaves bases.now (length goals.now) }
-    ensures { result ≡ goal_sum_by leaves bases.now goals.now paid prices.now }
+fn goal_sum(board: &Board<'_>, goals: &[u16], paid: u64, prices: &[u64]) -> u64
+    requires { (row_on (board_in board.now) ≤ length prices.now) × (row_on (board_in board.now) ≤ length goals.now) }
+    ensures { result ≡ goal_sum_by board.now.leaves board.now.bases.now goals.now paid prices.now }
 {
     let mut sum = paid;
-    for i in 0..leaves {
-        let from = bases[i];
-        let to = bases[i + 1];
-        sum = add_price(sum, least_goal(&prices[from..to], &goals[from..to]));
+    for i in 0..board.leaves {
+        let states = board.leaf(i);
+        let low = least_goal(&prices[states.start..states.end], &goals[states]);
+        sum = add_price(sum, low);
         if sum >= MARK {
             return MARK;
         }
@@ -95,20 +86,18 @@ fn goal_sum(leaves: usize, bases: &[usize], goals: &[u16], paid: u64, prices: &[
 
 // The goal cost, the mark for a node that is no goal node.
 pub fn goal_cost(
-    leaves: usize,
-    bases: &[usize],
+    board: &Board<'_>,
     goals: &[u16],
-    factors: [u8; 32],
     goal: [u8; 32],
     spot: Centre,
     paid: u64,
     prices: &[u64],
 ) -> u64
-    requires { Cut leaves bases.now (length prices.now) × Cut leaves bases.now (length goals.now) }
-    ensures { result ≡ goal_cost_by leaves bases.now goals.now factors goal spot paid prices.now }
+    requires { (row_on (board_in board.now) ≤ length prices.now) × (row_on (board_in board.now) ≤ length goals.now) }
+    ensures { result ≡ goal_cost_by board.now.leaves board.now.bases.now goals.now board.now.factors goal spot paid prices.now }
 {
-    if !is_met(factors, &goal, spot, 0) {
+    if !is_met(board.factors, &goal, spot, 0) {
         return MARK;
     }
-    goal_sum(leaves, bases, goals, paid, prices)
+    goal_sum(board, goals, paid, prices)
 }

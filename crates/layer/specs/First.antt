@@ -40,9 +40,8 @@ first_more factors conditions firsts n v h before here a l = go (below_cases (om
     go (inr e) = rw (e, get_or-set_same firsts n v 0 h) here
 
 -- the entries of all actions make the table
-pub firsts_all : (actions : ℕ) (factors conditions firsts : List ℕ) → length firsts ≡ 256
-    → ((a : ℕ) → a < actions → First factors conditions a (get_or firsts a 0)) → Firsts (asks_of actions factors conditions) firsts
-firsts_all actions factors conditions firsts e f = record { long = e; inside = λ a l. (f a l).inside; named = λ a l. (f a l).named }
+pub firsts_all : (b : Board) (firsts : List ℕ) → length firsts ≡ 256 → ((a : ℕ) → a < b.actions → First b.factors b.conditions a (get_or firsts a 0)) → Firsts b firsts
+firsts_all b firsts e f = record { long = e; inside = λ a l. (f a l).inside; named = λ a l. (f a l).named }
 
 -- where that one condition fails the action's centre conditions do not hold
 pub first_fails : (factors conditions : List ℕ) (c : Centre) (a v : ℕ) → First factors conditions a v → v < 32

@@ -1,4 +1,5 @@
 pub mod Layer
 pub mod Board
 pub mod Lent
+pub mod Held
 pub mod First

@@ -5,13 +5,39 @@ ghost use Rattle.std.specs.Prelude.{◌≡◌, not, ◌&&◌, ◌||◌, [], ◌+
 ghost use Rattle.loops.specs.Count.{list};
 ghost use Rattle.task.specs.Meaning.{met};
 ghost use Rattle.leaf.specs.Price.{mark};
-ghost use Rattle.layer.specs.Board.{Sound, met_on, enabled_on, settle_on, first_on, begin_on, settled_on, next_on, applies_on};
-ghost use Rattle.layer.specs.Lent.{Front, Unreached, board_of, tests_of, first_leaf_on};
+ghost use Rattle.layer.specs.Board.{base_on, row_on, states_on, met_on, enabled_on, settle_on, first_on, begin_on, settled_on, next_on, applies_on};
+ghost use Rattle.layer.specs.Lent.{Front, Unreached, tests_of, first_leaf_on};
+ghost use Rattle.layer.specs.Held.{board_in};
 ghost use Rattle.layer.specs.First.{First, Firsts, asks_of};
 
 use leaf::{pass, passes};
 use settle::settle;
+use std::ops::Range;
 use task::{Centre, FREE};
+
+mod held;
+
+pub use held::Board;
+
+impl Board<'_> {
+    // How many states all leaves have together.
+    pub fn states(&self) -> usize
+        ensures is { result ≡ row_on (board_in self.now) }
+        ensures few { result ≤ 1024 }
+    {
+        self.bases[self.leaves]
+    }
+
+    // The states of the leaf behind i leaves, among those of all leaves.
+    pub fn leaf(&self, i: usize) -> Range<usize>
+        requires { i < self.now.leaves }
+        ensures begins { result.start ≡ base_on (board_in self.now) i }
+        ensures stops { result.end ≡ base_on (board_in self.now) (i + 1) }
+        ensures inside { (result.start ≤ result.end) × (result.end ≤ row_on (board_in self.now)) × (result.end ≤ 1024) }
+    {
+        self.bases[i]..self.bases[i + 1]
+    }
+}
 
 // The conditions of an action.
 pub fn pairs_of(conditions: &[u8], action: usize) -> [u8; 32]
@@ -74,13 +100,12 @@ fn first_condition(factors: [u8; 32], conditions: &[u8], action: usize) -> u8
 }
 
 // For each action the first centre variable that its conditions name, 32 where there is none.
-pub fn first_conditions(factors: [u8; 32], conditions: &[u8], actions: usize) -> [u8; 256]
-    requires { (actions ≤ 255) × (length conditions.now ≡ 8192) }
-    ensures { Firsts (asks_of actions factors conditions.now) result }
+pub fn first_conditions(board: &Board<'_>) -> [u8; 256]
+    ensures { Firsts (board_in board.now) result }
 {
     let mut firsts = [32u8; 256];
-    for a in 0..actions {
-        firsts[a] = first_condition(factors, conditions, a);
+    for a in 0..board.actions {
+        firsts[a] = first_condition(board.factors, board.conditions, a);
     }
     firsts
 }
@@ -109,42 +134,24 @@ pub fn met_by(
 }
 
 // Whether an action is a leaf action of the leaf behind i leaves, and its centre conditions hold.
-fn is_enabled(
-    kinds: &[u8],
-    factors: [u8; 32],
-    conditions: &[u8],
-    centre: Centre,
-    i: usize,
-    action: usize,
-) -> bool
-    requires { (i < 8) × (action < length kinds.now) × (action * 32 + 32 ≤ length conditions.now) }
-    ensures { result
-        ≡ (eqb (get_or kinds.now action 0) (i + 1) && met_on (tests_of [] factors conditions.now) centre action) }
+fn is_enabled(board: &Board<'_>, centre: Centre, i: usize, action: usize) -> bool
+    requires { (i < 8) × (action < board.now.actions) }
+    ensures { result ≡ (eqb (get_or board.now.kinds.now action 0) (i + 1) && met_on (board_in board.now) centre action) }
 {
-    if kinds[action] as usize != i + 1 {
+    if board.kinds[action] as usize != i + 1 {
         return false;
     }
-    is_met(factors, conditions, centre, action)
+    is_met(board.factors, board.conditions, centre, action)
 }
 
 // The enabled leaf actions of the leaf behind i leaves, at the front of `acts`. How many there are.
-pub fn enabled(
-    kinds: &[u8],
-    factors: [u8; 32],
-    conditions: &[u8],
-    centre: Centre,
-    i: usize,
-    actions: usize,
-    acts: &mut [u8],
-) -> usize
-    requires { (i < 8) × (actions ≤ 255) × (actions ≤ length kinds.now) × (actions * 32 ≤ length conditions.now)
-        × (actions ≤ length acts.old) }
-    ensures { Front (enabled_on (tests_of kinds.now factors conditions.now) i centre actions) acts.old result
-        acts.new }
+pub fn enabled(board: &Board<'_>, centre: Centre, i: usize, acts: &mut [u8]) -> usize
+    requires { (i < 8) × (board.now.actions ≤ length acts.old) }
+    ensures { Front (enabled_on (board_in board.now) i centre board.now.actions) acts.old result acts.new }
 {
     let mut count = 0;
-    for a in 0..actions {
-        if is_enabled(kinds, factors, conditions, centre, i, a) {
+    for a in 0..board.actions {
+        if is_enabled(board, centre, i, a) {
             acts[count] = a as u8;
             count += 1;
         }
@@ -153,227 +160,103 @@ pub fn enabled(
 }
 
 // The enabled leaf actions of the leaf behind i leaves settle its prices.
-fn settle_leaf(
-    leaves: usize,
-    actions: usize,
-    bases: &[usize],
-    moves: &[u16],
-    costs: &[u16],
-    kinds: &[u8],
-    factors: [u8; 32],
-    conditions: &[u8],
-    centre: Centre,
-    i: usize,
-    prices: &mut [u64],
-)
-    requires { Sound (board_of leaves actions bases.now moves.now costs.now kinds.now factors conditions.now)
-        × (i < leaves) × (length prices.old ≡ get_or bases.now (i + 1) 0 - get_or bases.now i 0) }
-    ensures { prices.new ≡ settle_on (board_of leaves actions bases.now moves.now costs.now kinds.now
-        factors conditions.now) i centre prices.old }
+fn settle_leaf(board: &Board<'_>, centre: Centre, i: usize, prices: &mut [u64])
+    requires { (i < board.now.leaves) × (length prices.old ≡ states_on (board_in board.now) i) }
+    ensures { prices.new ≡ settle_on (board_in board.now) i centre prices.old }
 {
     let mut acts = [0u8; 256];
-    let count = enabled(kinds, factors, conditions, centre, i, actions, &mut acts);
-    let row = bases[leaves];
-    let at = bases[i];
-    settle(prices, moves, row, at, costs, &acts[..count], count);
+    let count = enabled(board, centre, i, &mut acts);
+    let row = board.states();
+    let at = board.bases[i];
+    settle(
+        prices,
+        board.moves,
+        row,
+        at,
+        board.costs,
+        &acts[..count],
+        count,
+    );
 }
 
 // The first prices of the leaf behind i leaves: every state starts as unreachable, its initial state has price 0, and settling reaches the others.
-fn first_leaf(
-    leaves: usize,
-    actions: usize,
-    bases: &[usize],
-    moves: &[u16],
-    costs: &[u16],
-    kinds: &[u8],
-    factors: [u8; 32],
-    conditions: &[u8],
-    centre: Centre,
-    i: usize,
-    start: usize,
-    prices: &mut [u64],
-)
-    requires { Sound (board_of leaves actions bases.now moves.now costs.now kinds.now factors conditions.now)
-        × (i < leaves) × (start < length prices.old) × (prices.old ≡ replicate (get_or bases.now (i + 1) 0 - get_or bases.now i 0) mark) }
-    ensures { prices.new ≡ first_leaf_on (board_of leaves actions bases.now moves.now costs.now kinds.now
-        factors conditions.now) i centre start }
+fn first_leaf(board: &Board<'_>, centre: Centre, i: usize, start: usize, prices: &mut [u64])
+    requires { (i < board.now.leaves) × (start < length prices.old) × (prices.old ≡ replicate (states_on (board_in board.now) i) mark) }
+    ensures { prices.new ≡ first_leaf_on (board_in board.now) i centre start }
 {
     prices[start] = 0;
-    settle_leaf(
-        leaves, actions, bases, moves, costs, kinds, factors, conditions, centre, i, prices,
-    );
+    settle_leaf(board, centre, i, prices);
 }
 
 // The first layer: the prices of all leaves, one behind the other, at the front of `new`, where every state starts as unreachable. Leaf i + 1 begins
 // in state `starts[i]`.
-pub fn first_layer(
-    leaves: usize,
-    actions: usize,
-    bases: &[usize],
-    moves: &[u16],
-    costs: &[u16],
-    kinds: &[u8],
-    factors: [u8; 32],
-    conditions: &[u8],
-    centre: Centre,
-    starts: &[usize],
-    new: &mut [u64],
-)
-    requires { Sound (board_of leaves actions bases.now moves.now costs.now kinds.now factors conditions.now)
-        × (get_or bases.now leaves 0 ≤ length new.old) × (leaves ≤ length starts.now)
-        × ((i : ℕ) → i < leaves → get_or starts.now i 0 < get_or bases.now (i + 1) 0 - get_or bases.now i 0)
-        × Unreached (get_or bases.now leaves 0) new.old }
-    ensures { new.new ≡ first_on (board_of leaves actions bases.now moves.now costs.now kinds.now
-        factors conditions.now) starts.now centre ++ drop (get_or bases.now leaves 0) new.old }
+pub fn first_layer(board: &Board<'_>, centre: Centre, starts: &[usize], new: &mut [u64])
+    requires { (row_on (board_in board.now) ≤ length new.old) × (board.now.leaves ≤ length starts.now)
+        × ((i : ℕ) → i < board.now.leaves → get_or starts.now i 0 < states_on (board_in board.now) i)
+        × Unreached (row_on (board_in board.now)) new.old }
+    ensures { new.new ≡ first_on (board_in board.now) starts.now centre ++ drop (row_on (board_in board.now)) new.old }
 {
-    for i in 0..leaves {
-        let from = bases[i];
-        let to = bases[i + 1];
-        first_leaf(
-            leaves,
-            actions,
-            bases,
-            moves,
-            costs,
-            kinds,
-            factors,
-            conditions,
-            centre,
-            i,
-            starts[i],
-            &mut new[from..to],
-        );
+    for i in 0..board.leaves {
+        let states = board.leaf(i);
+        first_leaf(board, centre, i, starts[i], &mut new[states]);
     }
 }
 
 // The begin of the layer behind a centre action, at the front of `new`, where every state starts as unreachable: what comes through of the prices of
 // `old`, before it settles.
-pub fn begin_layer(
-    leaves: usize,
-    actions: usize,
-    bases: &[usize],
-    moves: &[u16],
-    costs: &[u16],
-    kinds: &[u8],
-    factors: [u8; 32],
-    conditions: &[u8],
-    action: usize,
-    old: &[u64],
-    new: &mut [u64],
-)
-    requires { Sound (board_of leaves actions bases.now moves.now costs.now kinds.now factors conditions.now)
-        × (action < actions) × (get_or bases.now leaves 0 ≤ length old.now) × (get_or bases.now leaves 0 ≤ length new.old)
-        × Unreached (get_or bases.now leaves 0) new.old }
-    ensures { new.new ≡ begin_on (board_of leaves actions bases.now moves.now costs.now kinds.now
-        factors conditions.now) action old.now ++ drop (get_or bases.now leaves 0) new.old }
+pub fn begin_layer(board: &Board<'_>, action: usize, old: &[u64], new: &mut [u64])
+    requires { (action < board.now.actions) × (row_on (board_in board.now) ≤ length old.now) × (row_on (board_in board.now) ≤ length new.old)
+        × Unreached (row_on (board_in board.now)) new.old }
+    ensures { new.new ≡ begin_on (board_in board.now) action old.now ++ drop (row_on (board_in board.now)) new.old }
 {
-    let row = bases[leaves];
-    for i in 0..leaves {
-        let from = bases[i];
-        let to = bases[i + 1];
+    let row = board.states();
+    for i in 0..board.leaves {
+        let states = board.leaf(i);
+        let at = action * row + states.start;
         pass(
-            &old[from..to],
-            moves,
-            action * row + from,
-            &mut new[from..to],
+            &old[states.start..states.end],
+            board.moves,
+            at,
+            &mut new[states],
         );
     }
 }
 
 // The prices at the front of `new` settle, leaf by leaf; `centre` is the layer's centre state.
-fn settle_layer(
-    leaves: usize,
-    actions: usize,
-    bases: &[usize],
-    moves: &[u16],
-    costs: &[u16],
-    kinds: &[u8],
-    factors: [u8; 32],
-    conditions: &[u8],
-    centre: Centre,
-    new: &mut [u64],
-)
-    requires { Sound (board_of leaves actions bases.now moves.now costs.now kinds.now factors conditions.now)
-        × (get_or bases.now leaves 0 ≤ length new.old) }
-    ensures { new.new ≡ settled_on (board_of leaves actions bases.now moves.now costs.now kinds.now
-        factors conditions.now) centre new.old ++ drop (get_or bases.now leaves 0) new.old }
+fn settle_layer(board: &Board<'_>, centre: Centre, new: &mut [u64])
+    requires { (row_on (board_in board.now) ≤ length new.old) }
+    ensures { new.new ≡ settled_on (board_in board.now) centre new.old ++ drop (row_on (board_in board.now)) new.old }
 {
-    for i in 0..leaves {
-        let from = bases[i];
-        let to = bases[i + 1];
-        settle_leaf(
-            leaves,
-            actions,
-            bases,
-            moves,
-            costs,
-            kinds,
-            factors,
-            conditions,
-            centre,
-            i,
-            &mut new[from..to],
-        );
+    for i in 0..board.leaves {
+        let states = board.leaf(i);
+        settle_leaf(board, centre, i, &mut new[states]);
     }
 }
 
 // The layer behind a centre action, at the front of `new`, where every state starts as unreachable; `old` has the prices before it, and `centre` is the
 // centre state behind it.
-pub fn next_layer(
-    leaves: usize,
-    actions: usize,
-    bases: &[usize],
-    moves: &[u16],
-    costs: &[u16],
-    kinds: &[u8],
-    factors: [u8; 32],
-    conditions: &[u8],
-    centre: Centre,
-    action: usize,
-    old: &[u64],
-    new: &mut [u64],
-)
-    requires { Sound (board_of leaves actions bases.now moves.now costs.now kinds.now factors conditions.now)
-        × (action < actions) × (get_or bases.now leaves 0 ≤ length old.now) × (get_or bases.now leaves 0 ≤ length new.old)
-        × Unreached (get_or bases.now leaves 0) new.old }
-    ensures { new.new ≡ next_on (board_of leaves actions bases.now moves.now costs.now kinds.now
-        factors conditions.now) centre action old.now ++ drop (get_or bases.now leaves 0) new.old }
+pub fn next_layer(board: &Board<'_>, centre: Centre, action: usize, old: &[u64], new: &mut [u64])
+    requires { (action < board.now.actions) × (row_on (board_in board.now) ≤ length old.now) × (row_on (board_in board.now) ≤ length new.old)
+        × Unreached (row_on (board_in board.now)) new.old }
+    ensures { new.new ≡ next_on (board_in board.now) centre action old.now ++ drop (row_on (board_in board.now)) new.old }
 {
-    begin_layer(
-        leaves, actions, bases, moves, costs, kinds, factors, conditions, action, old, new,
-    );
-    settle_layer(
-        leaves, actions, bases, moves, costs, kinds, factors, conditions, centre, new,
-    );
+    begin_layer(board, action, old, new);
+    settle_layer(board, centre, new);
 }
 
 // Whether a centre action applies to a node: its centre conditions hold, and in each leaf a state that is reached passes.
-pub fn applies(
-    leaves: usize,
-    actions: usize,
-    bases: &[usize],
-    moves: &[u16],
-    costs: &[u16],
-    kinds: &[u8],
-    factors: [u8; 32],
-    conditions: &[u8],
-    centre: Centre,
-    old: &[u64],
-    action: usize,
-) -> bool
-    requires { Sound (board_of leaves actions bases.now moves.now costs.now kinds.now factors conditions.now)
-        × (action < actions) × (get_or bases.now leaves 0 ≤ length old.now) }
-    ensures { result ≡ applies_on (board_of leaves actions bases.now moves.now costs.now kinds.now
-        factors conditions.now) centre old.now action }
+pub fn applies(board: &Board<'_>, centre: Centre, old: &[u64], action: usize) -> bool
+    requires { (action < board.now.actions) × (row_on (board_in board.now) ≤ length old.now) }
+    ensures { result ≡ applies_on (board_in board.now) centre old.now action }
 {
-    if !is_met(factors, conditions, centre, action) {
+    if !is_met(board.factors, board.conditions, centre, action) {
         return false;
     }
-    let row = bases[leaves];
-    for i in 0..leaves {
-        let from = bases[i];
-        let to = bases[i + 1];
-        if !passes(&old[from..to], moves, action * row + from) {
+    let row = board.states();
+    for i in 0..board.leaves {
+        let states = board.leaf(i);
+        let at = action * row + states.start;
+        if !passes(&old[states], board.moves, at) {
             return false;
         }
     }

@@ -58,9 +58,7 @@ pub fn lowered(prices: &mut [u64], dirty: &mut [u8], k: usize, v: u64, x: usize)
 pub fn fill(prices: &mut [u64])
     ensures { prices.new ≡ replicate (length prices.old) mark }
 {
-    for x in 0..prices.len() {
-        prices[x] = MARK;
-    }
+    prices.fill(MARK);
 }
 
 // Each state of a leaf passes over a centre action, at its own price. The action's moves of the leaf begin at `at`; every state of `new` starts as
@@ -71,8 +69,8 @@ pub fn pass(old: &[u64], moves: &[u16], at: usize, new: &mut [u64])
     ensures { new.new
         ≡ pass mark (length old.now) (λ x. get_or moves.now (at + x) 0) old.now (length old.now) }
 {
-    for x in 0..old.len() {
-        lower(new, moves[at + x] as usize, old[x]);
+    for (x, price) in old.iter().enumerate() {
+        lower(new, moves[at + x] as usize, *price);
     }
 }
 
@@ -80,10 +78,7 @@ pub fn pass(old: &[u64], moves: &[u16], at: usize, new: &mut [u64])
 fn state_passes(p: u64, k: u16) -> bool
     ensures { result ≡ (ltb p mark && not (eqb k 0)) }
 {
-    if p >= MARK {
-        return false;
-    }
-    k != 0
+    p < MARK && k != 0
 }
 
 // Whether a state of a leaf passes over a centre action.
@@ -92,10 +87,8 @@ pub fn passes(prices: &[u64], moves: &[u16], at: usize) -> bool
     ensures { result ≡ any (length prices.now)
         (λ x. ltb (get_or prices.now x mark) mark && not (eqb (get_or moves.now (at + x) 0) 0)) }
 {
-    for x in 0..prices.len() {
-        if state_passes(prices[x], moves[at + x]) {
-            return true;
-        }
-    }
-    false
+    prices
+        .iter()
+        .zip(&moves[at..])
+        .any(|(price, next)| state_passes(*price, *next))
 }

@@ -47,43 +47,6 @@ known_none b =
       slots = λ s l d. absurd (d (get_or-replicate {A = ℕ} 36864 (s * 576 + 288) 0 0 (omega arith)));
     }
 
--- what is stored one by one
-pub stored_none : (at : ℕ) (xs K : List ℕ) → Stored at 0 xs K K
-stored_none at xs K = record { long = refl; inside = λ j l. absurd (omega (arith, l)); outside = λ k _. refl }
-
-pub stored_more : (at n : ℕ) (xs K K' : List ℕ) → at + n < length K → Stored at n xs K K' → Stored at (n + 1) xs K (set K' (at + n) (get_or xs n 0))
-stored_more at n xs K K' h s =
-    record {
-      long = length-set K' (at + n) (get_or xs n 0) ∙ s.long;
-      inside = λ j l. inside j (below_cases (omega arith));
-      outside = λ k o. get_or-set_other K' (at + n) k (get_or xs n 0) 0 (apart k o) ∙ s.outside k (wider k o);
-    }
-  where
-    inside : (j : ℕ) → (j < n) ⊎ (j ≡ n) → get_or (set K' (at + n) (get_or xs n 0)) (at + j) 0 ≡ get_or xs j 0
-    inside j (inl l) = get_or-set_other K' (at + n) (at + j) (get_or xs n 0) 0 (λ e. omega arith) ∙ s.inside j l
-    inside j (inr e) = rw (e, get_or-set_same K' (at + n) (get_or xs n 0) 0 (omega (arith, s.long)))
-
-    apart : (k : ℕ) → (k < at) ⊎ (at + (n + 1) ≤ k) → k ≡ at + n → ⊥
-    apart k (inl l) e = omega arith
-    apart k (inr l) e = omega arith
-
-    wider : (k : ℕ) → (k < at) ⊎ (at + (n + 1) ≤ k) → (k < at) ⊎ (at + n ≤ k)
-    wider k (inl l) = inl l
-    wider k (inr l) = inr (omega arith)
-
--- a flag more
-pub flagged_none : (b : Board) (c : Centre) (flags : List ℕ) → length flags ≡ 256 → Flagged b c 0 flags
-flagged_none b c flags h = record { long = h; right = λ a l. absurd (omega (arith, l)) }
-
-pub flagged_more : (b : Board) (c : Centre) (n : ℕ) (flags : List ℕ) (f : ℕ) → n < 256 → f ≡ cond (met_on b c n) 1 0 → Flagged b c n flags
-    → Flagged b c (n + 1) (set flags n f)
-flagged_more b c n flags f h e s =
-    record { long = length-set flags n f ∙ s.long; right = λ a l. go a (below_cases (omega arith)) }
-  where
-    go : (a : ℕ) → (a < n) ⊎ (a ≡ n) → get_or (set flags n f) a 0 ≡ cond (met_on b c a) 1 0
-    go a (inl l) = get_or-set_other flags n a f 0 (λ q. omega arith) ∙ s.right a l
-    go a (inr q) = rw (q, get_or-set_same flags n f 0 (omega (arith, s.long))) e
-
 -- a flag of 0 or 1 tells whether the conditions hold
 flag_unmet : (m : Bool) (f : ℕ) → f ≡ cond m 1 0 → f ≡ 0 → m ≡ false
 flag_unmet true f e z = absurd (omega arith)
@@ -174,6 +137,21 @@ stored_part K S at end h room long =
 -- a place from 0 on
 zero_first : (a : ℕ) → a ≡ 0 + a
 zero_first a = omega arith
+
+-- a list's front is put in its place
+pub stored_front : (K S : List ℕ) (n : ℕ) → n ≤ length K → length S ≡ n → Stored 0 n S K (S ++ drop n K)
+stored_front K S n room long =
+    record {
+      long = simp (length-append, length-drop) (omega arith);
+      inside = λ j l. ap (λ k. get_or (S ++ drop n K) k 0) (sym (zero_first j)) ∙ get_or-append S (drop n K) 0 j (omega arith);
+      outside = outside;
+    }
+  where
+    outside : (k : ℕ) → (k < 0) ⊎ (0 + n ≤ k) → get_or (S ++ drop n K) k 0 ≡ get_or K k 0
+    outside k (inl l) = absurd (omega (arith, l))
+    outside k (inr l) =
+        let z : k ≡ n + (k - n) = omega arith in
+        rw z (rw long at (get_or-append-add S (drop n K) (k - n) 0) ∙ get_or-drop n K (k - n) 0)
 
 -- ---- a slot is filled: the flags, the values, that it is filled, and then the list
 

@@ -9,30 +9,10 @@ ghost use Rattle.std.specs.Prelude.{◌≡◌, Bool, cond, true, ℕ, ◌+◌, �
 ghost use Rattle.layer.specs.Board.{met_on};
 ghost use Rattle.layer.specs.First.{Firsts, asks_of};
 ghost use Rattle.mets.specs.Listed.{Listed};
-ghost use Rattle.mets.specs.Known.{Flagged, Stored, Told, Slot, Known};
+ghost use Rattle.mets.specs.Known.{Flagged, Told, Slot, Known};
 
 use layer::met_by;
 use task::Centre;
-
-// The first `count` bytes of `from`, in `into` from `at` on.
-fn store(from: &[u8], into: &mut [u8], at: usize, count: usize)
-    requires { (count ≤ length from.now) × (at + count ≤ length into.old) }
-    ensures { Stored at count from.now into.old into.new }
-{
-    for j in 0..count {
-        into[at + j] = from[j];
-    }
-}
-
-// 1 where the conditions hold, else 0.
-fn flag_of(met: bool) -> u8
-    ensures { result ≡ cond met 1 0 }
-{
-    if met {
-        return 1;
-    }
-    0
-}
 
 // The flags of all actions, at the front of `flags`.
 fn find(
@@ -48,8 +28,8 @@ fn find(
         × (length flags.old ≡ 256) × (values.now ≡ centre.values) × (length values.now ≡ 32) }
     ensures { Flagged (asks_of actions factors conditions.now) centre actions flags.new }
 {
-    for a in 0..actions {
-        flags[a] = flag_of(met_by(firsts, values, factors, conditions, centre, a));
+    for (a, flag) in flags[..actions].iter_mut().enumerate() {
+        *flag = u8::from(met_by(firsts, values, factors, conditions, centre, a));
     }
 }
 
@@ -117,7 +97,7 @@ fn fill(
         centre,
         &mut slot[0..256],
     );
-    store(values, slot, 256, 32);
+    slot[256..288].copy_from_slice(values);
     slot[288] = 1;
     list_flagged(actions, slot);
 }
@@ -179,6 +159,6 @@ pub fn list_mets(
     let count = known[at + 289] as usize;
     let from = at + 320;
     let end = from + count;
-    store(&known[from..end], list, 0, count);
+    list[..count].copy_from_slice(&known[from..end]);
     count
 }

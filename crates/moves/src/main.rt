@@ -151,10 +151,11 @@ fn stepped(
     if a >= actions {
         return false;
     }
-    if !holds(conditions, a * 32, values, n) {
+    let row = a * 32;
+    if !holds(&conditions[row..row + n], values) {
         return false;
     }
-    put(effects, a * 32, values, n);
+    put(&effects[row..row + n], values);
     true
 }
 
@@ -257,7 +258,7 @@ fn arrives(
             return false;
         }
     }
-    holds(goal, 0, &values, n)
+    holds(&goal[..n], &values)
 }
 
 // The columns of a task's leaves.

@@ -11,7 +11,7 @@ pub mod Groups
 pub mod Laws
 pub mod Room
 pub mod Walk
-use Rattle.std.specs.Prelude.{◌≡◌, Bool, true, false, not, cond, ◌&&◌, List, ℕ, zero, suc, ◌+◌, ◌-◌, ◌*◌, ◌/◌, ◌%◌, ◌^◌, ◌≤◌, ◌<◌, eqb, ltb, length, get_or, set}
+use Rattle.std.specs.Prelude.{◌≡◌, Option, MatchOption, Bool, true, false, not, cond, ◌&&◌, List, ℕ, zero, suc, ◌+◌, ◌-◌, ◌*◌, ◌/◌, ◌%◌, ◌^◌, ◌≤◌, ◌<◌, eqb, ltb, length, get_or, set}
 use Rattle.std.specs.Int.Bits.{bit_or}
 use Rattle.loops.specs.Count.{any, sum}
 use Rattle.search.specs.Node.{Node, dominates}
@@ -151,21 +151,22 @@ pub record Chained (S : ℕ) (T C : List ℕ) (n : ℕ) : Type 0 where
 
 -- ---- the node that dominates
 
--- r is one more than the number of one of the n nodes, which dominates m; it is 0 only where none does
-pub record Dominator (S : ℕ) (T : List ℕ) (n : ℕ) (m : Node) (r : ℕ) : Type 0 where
-  pub inside : r ≤ n
-  pub found : (u : ℕ) → r ≡ suc u → dominates (node_in S T u) m ≡ true
-  pub none : r ≡ 0 → any n (λ u. dominates (node_in S T u) m) ≡ false
+-- u is one of the n nodes, and dominates m
+pub record Dominating (S : ℕ) (T : List ℕ) (n : ℕ) (m : Node) (u : ℕ) : Type 0 where
+  pub inside : u < n
+  pub dominates : dominates (node_in S T u) m ≡ true
+
+-- r is one of the n nodes, which dominates m; it is None only where none does
+abbrev pub Dominator : ℕ → List ℕ → ℕ → Node → Option ℕ → Type 0
+Dominator S T n m r = MatchOption r (any n (λ u. dominates (node_in S T u) m) ≡ false) (Dominating S T n m)
 
 -- no entry of group g before place k dominates m
 abbrev pub Missed : ℕ → List ℕ → List ℕ → Node → ℕ → ℕ → Type 0
 Missed S T C m g k = (i : ℕ) → i < k → dominates (node_in S T (entry_at C g i)) m ≡ false
 
--- the entries of group g were tried: r is above S by one more than the number of one that dominates m, or at most S, which it is only where none does
-pub record Tried (S : ℕ) (T C : List ℕ) (n : ℕ) (m : Node) (g r : ℕ) : Type 0 where
-  pub inside : r ≤ S + n
-  pub found : (u : ℕ) → r ≡ S + suc u → dominates (node_in S T u) m ≡ true
-  pub none : r ≤ S → Missed S T C m g (fill_at C g)
+-- the entries of group g were tried: r is one that dominates m; it is None only where none does
+abbrev pub Tried : ℕ → List ℕ → List ℕ → ℕ → Node → ℕ → Option ℕ → Type 0
+Tried S T C n m g r = MatchOption r (Missed S T C m g (fill_at C g)) (Dominating S T n m)
 
 -- a walk along the groups of m's class has come to `to`, one more than the next group: no entry of a group from there on dominates m
 pub record Walked (S : ℕ) (T C : List ℕ) (m : Node) (to : ℕ) : Type 0 where

@@ -1,20 +1,19 @@
 // A successor is offered to the search that the lent table holds: dropped, refused for a full table, or settled and kept.
 #![tactic(auto)]
 
-ghost use Rattle.std.specs.Prelude.{◌≡◌, false, ◌++◌, ◌+◌, ◌*◌, ◌≤◌, ◌<◌, length, get_or, take, drop};
-ghost use Rattle.layer.specs.Board.{Sound, settled_on};
-ghost use Rattle.layer.specs.First.{Firsts};
-ghost use Rattle.layer.specs.Lent.{board_of};
+ghost use Rattle.std.specs.Prelude.{◌≡◌, false, ◌++◌, ◌+◌, ◌*◌, ◌≤◌, ◌<◌, length, get_or, take, drop, IfSome, nat_le};
+ghost use Rattle.layer.specs.Board.{base_on, row_on, states_on, settled_on};
+ghost use Rattle.layer.specs.Held.{board_in};
 ghost use Rattle.mets.specs.Known.{Known};
-ghost use Rattle.edges.specs.Edges.{Edges};
 ghost use Rattle.rows.specs.Begun.{read_from, begun_words};
-ghost use Rattle.rows.specs.Reach.{Reaches, ReachesIn};
+ghost use Rattle.rows.specs.Reach.{ReachesIn};
 ghost use Rattle.rows.specs.Row.{node_with};
-ghost use Rattle.keys.specs.Scan.{Cut, goal_cost_by};
+ghost use Rattle.keys.specs.Scan.{goal_cost_by};
 ghost use Rattle.rows.specs.Sign.{class_of, sign_of};
-ghost use Rattle.offers.specs.Held.{Room, Kept, Offered};
+ghost use Rattle.offers.specs.Held.{Room, kept_run, Kept, Offered, is_beaten};
 
-use dominance::list_reached;
+use blocks::SCAN_WORDS;
+use dominance::{Candidate, list_reached};
 use keys::goal_cost;
 use mets::slot_for;
 use nodes::{dominator, link, slot_of};
@@ -23,20 +22,41 @@ use sweeps::settle_edges;
 use task::Centre;
 use words::copy_words;
 
-// The search beside its table: nodes kept, expansions begun, one more than best's node (0 for none), best's goal cost (the mark for none).
-#[derive(Clone, Copy)]
+mod held;
+
+pub use held::{Opened, SearchTables};
+
+// The search beside its table: nodes kept, expansions begun, best's node, best's goal cost (the mark for none).
+#[derive(Clone, Copy, PartialEq, Eq)]
 pub struct Run {
     pub count: usize,
     pub begun: usize,
-    pub best: usize,
+    pub best: Option<usize>,
     pub best_cost: u64,
 }
 
-// Whether the table was full, and the search to go on with.
+// The table was full, with the search as it was then.
+#[derive(Clone, Copy, PartialEq, Eq)]
+pub struct Full(pub Run);
+
+// A successor by its parts: its centre state and cost, the node and the action that it comes from, its key, and the signature of its prices.
 #[derive(Clone, Copy)]
-pub struct Turned {
-    pub full: bool,
-    pub run: Run,
+pub struct Successor {
+    pub spot: Centre,
+    pub paid: u64,
+    pub parent: usize,
+    pub action: usize,
+    pub key: u64,
+    pub sign: u64,
+}
+
+// What an offer works in: what is known of centre states, the prices of a layer's begin and of its layer, and room for a list of states that has the recent
+// numbers behind its first 1,024 words.
+#[derive(Drop)]
+pub struct Bench {
+    pub known: [u8; 36864],
+    pub next: [u64; 1024],
+    pub room: [u16; 5120],
 }
 
 // The signature of a layer whose begin has the signature `sign`: the same where no leaf was swept.
@@ -50,125 +70,108 @@ fn sign_behind(swept: bool, sign: u64, prices: &[u64]) -> u64
     sign
 }
 
-// A node under the next number: its row with its signature, its scan words (key, links), and the new best. `class` is its centre state's class, `sign` the signature of
-// its layer's begin, and `swept` whether a leaf was swept since. The scan words behind the keys are left to the program: they chain the nodes (`Kept`). So are
-// the words of the table that hold no node.
-pub fn keep(
-    leaves: usize,
-    bases: &[usize],
-    goals: &[u16],
-    factors: [u8; 32],
-    goal: [u8; 32],
-    spot: Centre,
-    class: usize,
-    paid: u64,
-    parent: usize,
-    action: usize,
-    key: u64,
-    sign: u64,
-    swept: bool,
-    prices: &[u64],
-    table: &mut [u64],
-    scan: &mut [u64],
-    run: Run,
-) -> Run
-    requires cut { Cut leaves bases.now (length prices.now) × Cut leaves bases.now (length goals.now) }
-    requires leaves_bound { (get_or bases.now leaves 0 ≤ 1024) × (run.count < 4096) × ((run.count + 1) * (40 + get_or bases.now leaves 0) ≤ length table.old)
-        × (length scan.old ≡ 17696) }
-    requires sign_value { (swept ≡ false → sign ≡ sign_of (take (get_or bases.now leaves 0) prices.now)) × (class ≡ class_of spot) }
-    ensures { Kept (get_or bases.now leaves 0) table.old scan.old run
-        (node_with spot paid (take (get_or bases.now leaves 0) prices.now) parent action) key
-        (goal_cost_by leaves bases.now goals.now factors goal spot paid prices.now)
-        table.new scan.new result }
+// The counts with one node more, whose goal cost is given: it is best where that is less than best's.
+fn counted(run: Run, cost: u64) -> Run
+    requires { run.count < 4096 }
+    ensures { result ≡ kept_run run cost }
 {
-    let states = bases[leaves];
-    let count = run.count;
-    let wide = 40 + states;
-    let at = count * wide;
-    let end = at + wide;
-    let own = sign_behind(swept, sign, &prices[..states]);
-    write_row(
-        &mut table[at..end],
-        states,
-        spot,
-        paid,
-        parent,
-        action,
-        own,
-        prices,
-    );
-    link(scan, count, key, own, class);
-    let cost = goal_cost(leaves, bases, goals, factors, goal, spot, paid, prices);
     if cost < run.best_cost {
         return Run {
-            count: count + 1,
+            count: run.count + 1,
             begun: run.begun,
-            best: count + 1,
+            best: Some(run.count),
             best_cost: cost,
         };
     }
     Run {
-        count: count + 1,
-        begun: run.begun,
-        best: run.best,
-        best_cost: run.best_cost,
+        count: run.count + 1,
+        ..run
     }
+}
+
+// A node under the next number: its row, its scan words (key, links), and the new best. `class` is its centre state's class, and its prices begin `prices`. The
+// scan words behind the keys are left to the program: they chain the nodes (`Kept`). So are the words of the table that hold no node.
+pub fn keep(
+    tables: &SearchTables<'_>,
+    made: Successor,
+    class: usize,
+    prices: &[u64],
+    table: &mut [u64],
+    scan: &mut [u64; SCAN_WORDS],
+    run: Run,
+) -> Run
+    requires prices { row_on (board_in tables.now.board) ≤ length prices.now }
+    requires room { (run.count < 4096) × ((run.count + 1) * (40 + row_on (board_in tables.now.board)) ≤ length table.old) }
+    requires sign { made.sign ≡ sign_of (take (row_on (board_in tables.now.board)) prices.now) }
+    requires class { class ≡ class_of made.spot }
+    ensures { Kept (row_on (board_in tables.now.board)) table.old scan.old run
+        (node_with made.spot made.paid (take (row_on (board_in tables.now.board)) prices.now) made.parent made.action) made.key
+        (goal_cost_by tables.now.board.leaves tables.now.board.bases.now tables.now.goals.now tables.now.board.factors tables.now.goal made.spot made.paid prices.now)
+        table.new scan.new result }
+{
+    let board = &tables.board;
+    let states = board.states();
+    let count = run.count;
+    let wide = 40 + states;
+    let at = count * wide;
+    let end = at + wide;
+    write_row(
+        &mut table[at..end],
+        states,
+        made.spot,
+        made.paid,
+        made.parent,
+        made.action,
+        made.sign,
+        prices,
+    );
+    link(scan, count, made.key, made.sign, class);
+    let cost = goal_cost(
+        board,
+        tables.goals,
+        tables.goal,
+        made.spot,
+        made.paid,
+        prices,
+    );
+    counted(run, cost)
 }
 
 // A layer's begin settles; `spot` is its centre state, of this class. Whether a leaf was swept: else all is as it was.
 fn settle_begin(
-    leaves: usize,
-    actions: usize,
-    bases: &[usize],
-    moves: &[u16],
-    costs: &[u16],
-    kinds: &[u8],
-    factors: [u8; 32],
-    conditions: &[u8],
-    firsts: &[u8],
-    edges: &[u8],
-    ends: &[usize],
+    tables: &SearchTables<'_>,
     spot: Centre,
     class: usize,
     begin: &mut [u64],
     known: &mut [u8],
 ) -> bool
-    requires sound { Sound (board_of leaves actions bases.now moves.now costs.now kinds.now factors conditions.now) }
-    requires firsts { Firsts (board_of leaves actions bases.now moves.now costs.now kinds.now factors conditions.now) firsts.now
-        × Edges (board_of leaves actions bases.now moves.now costs.now kinds.now factors conditions.now) edges.now ends.now
-        × Known (board_of leaves actions bases.now moves.now costs.now kinds.now factors conditions.now) known.old
-        × (class < 4096) × (get_or bases.now leaves 0 ≤ length begin.old) }
-    ensures { (begin.new ≡ settled_on (board_of leaves actions bases.now moves.now costs.now kinds.now factors
-        conditions.now) spot begin.old ++ drop (get_or bases.now leaves 0) begin.old)
-        × Known (board_of leaves actions bases.now moves.now costs.now kinds.now factors
-        conditions.now) known.new
+    requires known { Known (board_in tables.now.board) known.old }
+    requires begin { (class < 4096) × (row_on (board_in tables.now.board) ≤ length begin.old) }
+    ensures { (begin.new ≡ settled_on (board_in tables.now.board) spot begin.old ++ drop (row_on (board_in tables.now.board)) begin.old)
+        × Known (board_in tables.now.board) known.new
         × (result ≡ false → begin.new ≡ begin.old) }
 {
-    let slot = slot_for(actions, firsts, factors, conditions, spot, class, known);
-    let end = slot + 256;
-    settle_edges(
-        leaves,
-        actions,
-        bases,
-        moves,
-        costs,
-        kinds,
-        factors,
-        conditions,
-        &known[slot..end],
-        edges,
-        ends,
+    let board = &tables.board;
+    let slot = slot_for(
+        board.actions,
+        tables.firsts,
+        board.factors,
+        board.conditions,
         spot,
-        begin,
-    )
+        class,
+        known,
+    );
+    let end = slot + 256;
+    settle_edges(board, &known[slot..end], &tables.edges, spot, begin)
 }
 
-// Where the prices of a layer's begin are read: in the layer before, where the action is still, else where they were made.
-fn read_from<'a>(old: &'a [u64], begin: &'a [u64], still: u8) -> &'a [u64]
-    ensures { result.now ≡ read_from still old.now begin.now }
+// Where the prices of a layer's begin, or a list of the states that they reach, are read: in the layer before, where the action is still, else where they were made.
+fn read_from<'a, T>(old: &'a [T], made: &'a [T], still: u8) -> &'a [T]
+    ensures moves { still ≡ 0 → result.now ≡ made.now }
+    ensures stays { (still ≡ 0 → ⊥) → result.now ≡ old.now }
 {
     if still == 0 {
-        return begin;
+        return made;
     }
     old
 }
@@ -184,25 +187,13 @@ fn list_begin(states: usize, begin: &[u64], room: &mut [u16], still: u8) -> usiz
     list_reached(states, begin, room)
 }
 
-// Which list has the states that a layer's begin reaches: that of the layer before, where the action is still, else the one that was made.
-fn list_of<'a>(old: &'a [u16], made: &'a [u16], still: u8) -> &'a [u16]
-    ensures { result.now ≡ read_from still old.now made.now }
+// The next recent number: one more than the number of the node that was found, or else of the one behind the first `count` nodes, which is kept next if it is
+// kept. Any number is right.
+fn recent_next(found: Option<usize>, count: usize) -> u16
+    requires found { IfSome found (λ u. u < count) }
+    requires count { count ≤ 4096 }
 {
-    if still == 0 {
-        return made;
-    }
-    old
-}
-
-// The next recent number: that of the node that was found, one more than its own, or else of the one behind the first `count` nodes, which is kept next if
-// it is kept. Any number is right.
-fn recent_next(found: usize, count: usize) -> u16
-    requires { (found ≤ count) × (count ≤ 4096) }
-{
-    if found == 0 {
-        return (count + 1) as u16;
-    }
-    found as u16
+    (found.unwrap_or(count) + 1) as u16
 }
 
 // The prices of a layer's begin, at the front of `begin`.
@@ -216,113 +207,93 @@ fn fill_begin(old: &[u64], begin: &mut [u64], still: u8, states: usize)
     copy_words(old, begin, states);
 }
 
-// A successor of node `parent` by `action`, from its layer's begin, which is `old` where `still` is not 0: dropped, refused for a full table, or settled
-// and kept under the next number. `list` has the states that `old` reaches where there are 128 or more; `room` is for another such list, and
-// has the recent numbers behind its first 1,024 words. The words of `begin` and `room` afterwards are left to the program, their lengths stay; those of
-// `known` too, of which `Known` holds.
-pub fn offer(
-    leaves: usize,
-    actions: usize,
-    bases: &[usize],
-    moves: &[u16],
-    costs: &[u16],
-    kinds: &[u8],
-    factors: [u8; 32],
-    conditions: &[u8],
-    firsts: &[u8],
-    edges: &[u8],
-    ends: &[usize],
-    goals: &[u16],
-    goal: [u8; 32],
-    nodes: usize,
-    spot: Centre,
-    paid: u64,
-    parent: usize,
-    action: usize,
-    key: u64,
-    sign: u64,
-    still: u8,
-    old: &[u64],
-    begin: &mut [u64],
-    table: &mut [u64],
-    scan: &mut [u64],
-    known: &mut [u8],
-    list: &[u16],
-    room: &mut [u16],
-    run: Run,
-) -> Turned
-    requires sound { Sound (board_of leaves actions bases.now moves.now costs.now kinds.now factors conditions.now) }
-    requires firsts { Firsts (board_of leaves actions bases.now moves.now costs.now kinds.now factors conditions.now) firsts.now
-        × Edges (board_of leaves actions bases.now moves.now costs.now kinds.now factors conditions.now) edges.now ends.now
-        × Known (board_of leaves actions bases.now moves.now costs.now kinds.now factors conditions.now) known.old }
-    requires cut { Cut leaves bases.now (length begin.old) × Cut leaves bases.now (length goals.now) }
-    requires sign_value { (sign ≡ sign_of (take (get_or bases.now leaves 0) (begun_words still (get_or bases.now leaves 0) old.now begin.old)))
-        × (get_or bases.now leaves 0 ≤ length old.now)
-        × (128 ≤ get_or bases.now leaves 0 → Reaches (get_or bases.now leaves 0) old.now list.now) × (5120 ≤ length room.old) }
-    requires room { Room (get_or bases.now leaves 0) nodes table.old scan.old run }
-    ensures offered { Offered (board_of leaves actions bases.now moves.now costs.now kinds.now factors
-        conditions.now) goals.now goal nodes table.old scan.old run spot paid
-        (begun_words still (get_or bases.now leaves 0) old.now begin.old) parent action key
-        table.new scan.new result }
-    ensures known { Known (board_of leaves actions bases.now moves.now costs.now kinds.now factors
-        conditions.now) known.new }
-    ensures lengths { (length begin.new ≡ length begin.old) × (length room.new ≡ length room.old) }
+// Where the recent number of a class and a signature stands in the room.
+fn recent_place(class: usize, sign: u64) -> usize
+    requires { class < 4096 }
+    ensures { result < 5120 }
 {
-    let states = bases[leaves];
-    let count = run.count;
-    if key >= run.best_cost {
-        return Turned { full: false, run };
-    }
-    let class = class_of(spot);
-    let many = list_begin(states, &begin[..], room, still);
-    let place = 1024 + slot_of(class, sign);
-    let recent = room[place] as usize;
-    let found = dominator(
-        table,
+    1024 + slot_of(class, sign)
+}
+
+// Whether a node that is kept dominates a successor with its layer's begin, whose prices are those of `from` where `still` is not 0. The node that was found, or
+// else the next, is noted as recent. Of the bench only the room is written; its words are left to the program.
+fn is_dominated(
+    tables: &SearchTables<'_>,
+    from: &Opened<'_>,
+    next: Successor,
+    still: u8,
+    bench: &mut Bench,
+    table: &[u64],
+    scan: &[u64; SCAN_WORDS],
+    run: Run,
+) -> bool
+    requires states { from.now.node.states ≡ row_on (board_in tables.now.board) }
+    requires sign { next.sign ≡ sign_of (take (row_on (board_in tables.now.board)) (begun_words still (row_on (board_in tables.now.board)) from.now.node.prices.now bench.old.next)) }
+    requires room { Room (row_on (board_in tables.now.board)) tables.now.nodes table.now scan.now run }
+    ensures dominated { result ≡ is_beaten (row_on (board_in tables.now.board)) table.now run next.spot next.paid
+        (begun_words still (row_on (board_in tables.now.board)) from.now.node.prices.now bench.old.next) }
+    ensures lent { (bench.new.known ≡ bench.old.known) × (bench.new.next ≡ bench.old.next) }
+{
+    let states = tables.board.states();
+    let class = class_of(next.spot);
+    let many = list_begin(states, &bench.next, &mut bench.room, still);
+    let place = recent_place(class, next.sign);
+    let recent = bench.room[place] as usize;
+    let candidate = Candidate {
         states,
-        count,
-        scan,
-        class,
-        sign,
-        spot,
-        paid,
-        read_from(old, &begin[..], still),
-        list_of(list, &room[..many], still),
-        recent,
-    );
-    room[place] = recent_next(found, count);
-    if found > 0 {
-        return Turned { full: false, run };
+        spot: next.spot,
+        paid: next.paid,
+        prices: read_from(from.node.prices, &bench.next, still),
+        sign: next.sign,
+        list: read_from(from.node.list, &bench.room[..many], still),
+    };
+    let found = dominator(table, run.count, scan, class, &candidate, recent);
+    bench.room[place] = recent_next(found, run.count);
+    found.is_some()
+}
+
+// Whether a search that may keep so many nodes has kept them.
+fn is_full(run: Run, nodes: usize) -> bool
+    ensures { result ≡ nat_le nodes run.count }
+{
+    run.count >= nodes
+}
+
+// A successor from its layer's begin, whose prices are those of `from` where `still` is not 0, else those that were made: dropped, refused for a full table, or
+// settled and kept under the next number. The words of the bench afterwards are left to the program, but for `Known`.
+pub fn offer(
+    tables: &SearchTables<'_>,
+    from: &Opened<'_>,
+    next: Successor,
+    still: u8,
+    bench: &mut Bench,
+    table: &mut [u64],
+    scan: &mut [u64; SCAN_WORDS],
+    run: Run,
+) -> Result<Run, Full>
+    requires known { Known (board_in tables.now.board) bench.old.known }
+    requires states { from.now.node.states ≡ row_on (board_in tables.now.board) }
+    requires sign { next.sign ≡ sign_of (take (row_on (board_in tables.now.board)) (begun_words still (row_on (board_in tables.now.board)) from.now.node.prices.now bench.old.next)) }
+    requires room { Room (row_on (board_in tables.now.board)) tables.now.nodes table.old scan.old run }
+    ensures offered { Offered (board_in tables.now.board) tables.now.goals.now tables.now.goal tables.now.nodes table.old scan.old run next.spot next.paid
+        (begun_words still (row_on (board_in tables.now.board)) from.now.node.prices.now bench.old.next) next.parent next.action next.key
+        table.new scan.new result }
+    ensures known { Known (board_in tables.now.board) bench.new.known }
+{
+    if next.key >= run.best_cost {
+        return Ok(run);
     }
-    if count >= nodes {
-        return Turned { full: true, run };
+    if is_dominated(tables, from, next, still, bench, table, scan, run) {
+        return Ok(run);
     }
-    fill_begin(old, begin, still, states);
-    let swept = settle_begin(
-        leaves, actions, bases, moves, costs, kinds, factors, conditions, firsts, edges, ends,
-        spot, class, begin, known,
-    );
-    let more = keep(
-        leaves,
-        bases,
-        goals,
-        factors,
-        goal,
-        spot,
-        class,
-        paid,
-        parent,
-        action,
-        key,
-        sign,
-        swept,
-        &begin[..],
-        table,
-        scan,
-        run,
-    );
-    Turned {
-        full: false,
-        run: more,
+    if is_full(run, tables.nodes) {
+        return Err(Full(run));
     }
+    let states = tables.board.states();
+    let class = class_of(next.spot);
+    fill_begin(from.node.prices, &mut bench.next, still, states);
+    let swept = settle_begin(tables, next.spot, class, &mut bench.next, &mut bench.known);
+    let sign = sign_behind(swept, next.sign, &bench.next[..states]);
+    let made = Successor { sign, ..next };
+    Ok(keep(tables, made, class, &bench.next, table, scan, run))
 }

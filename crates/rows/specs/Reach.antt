@@ -2,37 +2,26 @@
 -- so the prices of a row are compared along the list alone. Assumes nothing.
 use Rattle.std.specs.Prelude.{◌≡◌, ◌⊎◌, List, ℕ, ◌+◌, ◌≤◌, ◌<◌, length, get_or, set, take}
 use Rattle.std.proofs.Common.{sym, ◌∙◌, inl, inr, not-suc-le-zero, arith, length-take-le, get_or-take, get_or-set_same, get_or-set_other}
-use Rattle.std.proofs.Math.Decide.{dec_lt, ℕ_discrete}
+use Rattle.std.proofs.Math.Decide.{dec_le, dec_lt, ℕ_discrete}
 use Rattle.std.specs.Int.Bits.{bit_and}
 use Rattle.std.proofs.lemmas.Nat.{and_le_l, and_le_r}
 use Rattle.loops.specs.Count.Laws.{below_cases}
 use Rattle.leaf.specs.Price.{mark}
-use Rattle.rows.specs.Row.{Above}
+use Rattle.rows.specs.Row.{NotAbove}
 
--- x is the word of L at a place
-pub record Listed (L : List ℕ) (x : ℕ) : Type 0 where
-  pub place : ℕ
-  pub inside : place < length L
-  pub is : get_or L place 0 ≡ x
-
--- the words of L are states below S, and each state below S that P reaches is one of them
+-- the words of L are states below S, and a state below S that is none of them cannot be reached by P
 pub record Reaches (S : ℕ) (P L : List ℕ) : Type 0 where
   pub inside : (j : ℕ) → j < length L → get_or L j 0 < S
-  pub all : (x : ℕ) → x < S → get_or P x 0 < mark → Listed L x
+  pub all : (x : ℕ) → x < S → ((j : ℕ) → j < length L → get_or L j 0 ≡ x → ⊥) → mark ≤ get_or P x 0
 
--- k is a place below S where the row's price is higher than that of P, or S where there is none at the states of L
-pub record AboveInList (S : ℕ) (row P L : List ℕ) (k : ℕ) : Type 0 where
-  pub inside : k ≤ S
-  pub higher : k < S → get_or P k 0 < get_or row (40 + k) 0
-  pub none : k ≡ S → (j : ℕ) → j < length L → get_or row (40 + get_or L j 0) 0 ≤ get_or P (get_or L j 0) 0
-
--- no price is higher than that of a state that is not reached, so that none is at all where none is at the states of the list
-pub list_above : (S : ℕ) (row P L : List ℕ) (k : ℕ) → ((i : ℕ) → get_or row i 0 ≤ mark) → Reaches S P L → AboveInList S row P L k → Above S row P k
-list_above S row P L k capped h r = record { inside = r.inside; higher = r.higher; none = λ e i l. go e i l (dec_lt (get_or P i 0) mark) }
+-- no price is higher than that of a state that is not reached, so that none at all is where none is at the states of the list
+pub list_none : (S : ℕ) (row P L : List ℕ) → ((i : ℕ) → get_or row i 0 ≤ mark) → Reaches S P L
+    → ((j : ℕ) → j < length L → get_or row (40 + get_or L j 0) 0 ≤ get_or P (get_or L j 0) 0) → NotAbove row P S
+list_none S row P L capped h low i l = go (dec_le (get_or row (40 + i) 0) (get_or P i 0))
   where
-    go : k ≡ S → (i : ℕ) → i < S → Dec (get_or P i 0 < mark) → get_or row (40 + i) 0 ≤ get_or P i 0
-    go e i l (yes low) = let x = h.all i l low in rw x.is at (r.none e x.place x.inside)
-    go e i l (no far) = omega (arith, capped (40 + i))
+    go : Dec (get_or row (40 + i) 0 ≤ get_or P i 0) → get_or row (40 + i) 0 ≤ get_or P i 0
+    go (yes b) = b
+    go (no d) = omega (arith, h.all i l (λ j b e. d (rw e at (low j b))), capped (40 + i))
 
 -- ---- the front of a list
 
@@ -54,9 +43,7 @@ pub record ReachesIn (S : ℕ) (P L : List ℕ) (n : ℕ) : Type 0 where
 pub reaches_front : (S : ℕ) (P L : List ℕ) (n : ℕ) → n ≤ length L → ReachesIn S P L n → Reaches S P (take n L)
 reaches_front S P L n room r = record {
   inside = λ j l. omega (arith, word j (omega (arith, long)), r.inside j (omega (arith, long)));
-  all = λ x l low.
-      let k = r.all x l low in
-      record { place = k.place; inside = omega (arith, long, k.inside); is = word k.place k.inside ∙ k.is };
+  all = λ x l other. go x l other (dec_lt (get_or P x 0) mark);
 }
   where
     long : length (take n L) ≡ n
@@ -64,6 +51,12 @@ reaches_front S P L n room r = record {
 
     word : (j : ℕ) → j < n → get_or (take n L) j 0 ≡ get_or L j 0
     word j l = get_or-take n L j 0 l
+
+    go : (x : ℕ) → x < S → ((j : ℕ) → j < length (take n L) → get_or (take n L) j 0 ≡ x → ⊥) → Dec (get_or P x 0 < mark) → mark ≤ get_or P x 0
+    go x l other (yes low) =
+        let k = r.all x l low in
+        absurd (other k.place (omega (arith, long, k.inside)) (word k.place k.inside ∙ k.is))
+    go x l other (no far) = omega arith
 
 -- four words that share all bits of the mark are at least that
 all_marks : {p q r s : ℕ} → bit_and (bit_and p q) (bit_and r s) ≡ mark → (mark ≤ p) × (mark ≤ q) × (mark ≤ r) × (mark ≤ s)

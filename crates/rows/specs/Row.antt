@@ -3,10 +3,10 @@
 -- A pack is eight of the 32 values in one word, the first its lowest byte, so that two centre states are told apart by four words.
 pub mod Packs
 pub mod Laws
-use Rattle.std.specs.Prelude.{◌≡◌, true, false, List, [], ◌∷◌, ◌++◌, ℕ, zero, suc, ◌+◌, ◌*◌, ◌/◌, ◌%◌, ◌^◌, ◌≤◌, ◌<◌, get_or, take, drop}
+use Rattle.std.specs.Prelude.{◌≡◌, Option, MatchOption, List, [], ◌∷◌, ◌++◌, ℕ, zero, suc, ◌+◌, ◌*◌, ◌/◌, ◌%◌, ◌^◌, ◌≤◌, ◌<◌, get_or, take, drop}
 use Rattle.loops.specs.Count.{list}
 use Rattle.task.specs.declared.Centre.{Centre}
-use Rattle.search.specs.Node.{Node, dominates}
+use Rattle.search.specs.Node.{Node}
 
 -- value v of the centre state in a row: byte v % 8 of its pack
 abbrev pub byte_in : List ℕ → ℕ → ℕ
@@ -57,13 +57,11 @@ node_with c paid P parent action = record { spot = c; paid = paid; prices = P; p
 abbrev pub NotAbove : List ℕ → List ℕ → ℕ → Type 0
 NotAbove row P k = (i : ℕ) → i < k → get_or row (40 + i) 0 ≤ get_or P i 0
 
--- k is a place below S where the row's price is higher than that of P, or S where there is none
-pub record Above (S : ℕ) (row P : List ℕ) (k : ℕ) : Type 0 where
-  pub inside : k ≤ S
-  pub higher : k < S → get_or P k 0 < get_or row (40 + k) 0
-  pub none : k ≡ S → NotAbove row P S
+-- k is a place below S where the row's price is higher than that of P
+pub record Higher (S : ℕ) (row P : List ℕ) (k : ℕ) : Type 0 where
+  pub inside : k < S
+  pub above : get_or P k 0 < get_or row (40 + k) 0
 
--- the answer r to whether m dominates n: it does where r is above S, and else r is a hint where to look next
-pub record Tested (S : ℕ) (m n : Node) (r : ℕ) : Type 0 where
-  pub found : S < r → dominates m n ≡ true
-  pub missed : r ≤ S → dominates m n ≡ false
+-- r is a place below S where the row's price is higher than that of P; it is None only where there is none
+abbrev pub Above : ℕ → List ℕ → List ℕ → Option ℕ → Type 0
+Above S row P r = MatchOption r (NotAbove row P S) (Higher S row P)

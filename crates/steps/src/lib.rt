@@ -11,42 +11,34 @@ use task::FREE;
 fn pair_holds(pair: u8, value: u8) -> bool
     ensures { result ≡ met pair value }
 {
-    if pair == FREE {
-        return true;
-    }
-    pair == value
+    pair == FREE || pair == value
 }
 
-// Whether each pair of the row that begins at `at` holds of the values of the first n variables.
-pub fn holds(pairs: &[u8], at: usize, values: &[u8], n: usize) -> bool
-    requires { (at + n ≤ length pairs.now) × (n ≤ length values.now) }
-    ensures { result ≡ holds n (λ v. get_or pairs.now (at + v) 0) (λ v. get_or values.now v 0) }
+// Whether each pair of a row of conditions or of the goal holds of the value at its place.
+pub fn holds(pairs: &[u8], values: &[u8]) -> bool
+    requires { length pairs.now ≤ length values.now }
+    ensures { result ≡ holds (length pairs.now) (λ v. get_or pairs.now v 0) (λ v. get_or values.now v 0) }
 {
-    for v in 0..n {
-        if !pair_holds(pairs[at + v], values[v]) {
-            return false;
-        }
-    }
-    true
+    pairs
+        .iter()
+        .zip(values)
+        .all(|(pair, value)| pair_holds(*pair, *value))
 }
 
 // The value of the pair, or the one there was if there is no pair.
 fn changed(pair: u8, value: u8) -> u8
     ensures { result ≡ cond (eqb pair free) value pair }
 {
-    if pair == FREE {
-        return value;
-    }
-    pair
+    if pair == FREE { value } else { pair }
 }
 
-// The values of the first n variables, changed where the row that begins at `at` names a variable.
-pub fn put(pairs: &[u8], at: usize, values: &mut [u8], n: usize)
-    requires { (at + n ≤ length pairs.now) × (n ≤ length values.old) }
-    ensures { values.new ≡ list n (put (λ v. get_or pairs.now (at + v) 0) (λ v. get_or values.old v 0))
-        ++ drop n values.old }
+// The values at the front, changed where the row of effects names a variable.
+pub fn put(pairs: &[u8], values: &mut [u8])
+    requires { length pairs.now ≤ length values.old }
+    ensures { values.new ≡ list (length pairs.now) (put (λ v. get_or pairs.now v 0) (λ v. get_or values.old v 0))
+        ++ drop (length pairs.now) values.old }
 {
-    for v in 0..n {
-        values[v] = changed(pairs[at + v], values[v]);
+    for (v, pair) in pairs.iter().enumerate() {
+        values[v] = changed(*pair, values[v]);
     }
 }

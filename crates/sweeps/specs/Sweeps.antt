@@ -7,6 +7,7 @@ use Rattle.std.specs.Prelude.{◌≡◌, Bool, not, List, ℕ, zero, suc, ◌+�
 use Rattle.loops.specs.Count.{any}
 use Rattle.leaf.specs.Settle.Walks.{Ranged}
 use Rattle.leaf.specs.Lent.{cost_by, move_by}
+use Rattle.settle.specs.Settling.{Aim}
 use Rattle.edges.specs.Edges.{edges_at}
 
 -- k where a flag is set, else 0
@@ -71,8 +72,5 @@ pub record Meant (moves : List ℕ) (row at : ℕ) (costs mets edges ends : List
       Covered (length acts) (cost_by costs acts) (move_met moves row at mets acts) m cost to x
 
 -- some actions do
-pub record Aims (moves : List ℕ) (row at : ℕ) (costs mets edges ends : List ℕ) (n : ℕ) : Type 0 where
-  pub count : ℕ
-  pub cost : ℕ → ℕ
-  pub to : ℕ → ℕ → ℕ
-  pub meant : Meant moves row at costs mets edges ends n count cost to
+abbrev pub Aims : (moves : List ℕ) (row at : ℕ) (costs mets edges ends : List ℕ) (n : ℕ) → Type 0
+Aims moves row at costs mets edges ends n = Aim (Meant moves row at costs mets edges ends n)

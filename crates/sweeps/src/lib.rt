@@ -1,305 +1,31 @@
 // A leaf's prices settle along the edges of its states, sweep by sweep, and a layer's leaf by leaf.
 #![tactic(auto)]
 
-ghost use Rattle.std.specs.Prelude.{◌≡◌, true, false, ◌++◌, ℕ, ◌+◌, ◌-◌, ◌<◌, ◌≤◌, min, length, get_or, drop};
-ghost use Rattle.leaf.specs.Price.{mark};
-ghost use Rattle.leaf.specs.Settle.{lower, relax, settled};
-ghost use Rattle.leaf.specs.Settle.Sweeps.{Fell, Swept, Reach};
-ghost use Rattle.leaf.specs.Lent.{cost_by};
-ghost use Rattle.layer.specs.Board.{Sound, settle_on, settled_on};
-ghost use Rattle.layer.specs.Lent.{board_of};
+ghost use Rattle.std.specs.Prelude.{◌≡◌, false, ◌++◌, ◌<◌, ◌≤◌, length, drop};
+ghost use Rattle.layer.specs.Board.{row_on, states_on, settle_on, settled_on};
+ghost use Rattle.layer.specs.Held.{board_in};
 ghost use Rattle.mets.specs.Mets.{Mets};
 ghost use Rattle.edges.specs.Edges.{Edges};
-ghost use Rattle.sweeps.specs.Sweeps.{gated, move_met, Along, Ways, some_met, edges_of, swept_by, Meant, Aims};
+ghost use Rattle.settle.specs.Settling.{SettledBy};
+ghost use Rattle.sweeps.specs.Sweeps.{some_met, edges_of, swept_by};
+ghost use Rattle.sweeps.specs.Held.{WaysIn, MeantIn, AimsIn};
 
-use leaf::{MARK, add_price, lowered};
+use edges::EdgeTable;
+use layer::Board;
+use settle::settle_by;
 use task::Centre;
 
-// An action whose flag is set lowers the price of what it makes of state x, whose price is d. Its move of the state stands at `place`. Whether a price
-// fell that is not behind x.
-fn follow(
-    prices: &mut [u64],
-    dirty: &mut [u8],
-    moves: &[u16],
-    costs: &[u16],
-    mets: &[u8],
-    action: usize,
-    place: usize,
-    x: usize,
-    d: u64,
-) -> bool
-    requires { (action < length costs.now) × (action < length mets.now) × (place < length moves.now)
-        × (get_or moves.now place 0 ≤ length prices.old) × (length prices.old ≤ length dirty.old) }
-    ensures { (prices.new ≡ lower mark prices.old
-        (gated (get_or mets.now action 0) (get_or moves.now place 0)) (min (d + get_or costs.now action 0) mark))
-        × Fell mark x prices.old dirty.old result prices.new dirty.new }
-{
-    if mets[action] == 0 {
-        return false;
-    }
-    let k = moves[place] as usize;
-    let v = add_price(d, costs[action] as u64);
-    lowered(prices, dirty, k, v, x)
-}
+mod held;
 
-// These actions, where their flags are set, lower the prices of what they make of state x, and a state whose price fell is dirty. Whether one fell
-// that is not behind x.
-fn relax_along(
-    prices: &mut [u64],
-    dirty: &mut [u8],
-    moves: &[u16],
-    row: usize,
-    at: usize,
-    costs: &[u16],
-    mets: &[u8],
-    acts: &[u8],
-    x: usize,
-) -> bool
-    requires { (x < length prices.old) × (length prices.old ≤ length dirty.old)
-        × Along moves.now row at costs.now mets.now acts.now x (length prices.old) }
-    ensures { (prices.new
-        ≡ relax mark (cost_by costs.now acts.now) (move_met moves.now row at mets.now acts.now)
-        x (get_or prices.old x mark) prices.old (length acts.now))
-        × Fell mark x prices.old dirty.old result prices.new dirty.new }
-{
-    let d = prices[x];
-    let mut fell = false;
-    for j in 0..acts.len() {
-        let a = acts[j] as usize;
-        let one = follow(
-            prices,
-            dirty,
-            moves,
-            costs,
-            mets,
-            a,
-            a * row + (at + x),
-            x,
-            d,
-        );
-        fell = fell | one;
-    }
-    fell
-}
-
-// State x, where it is reached, is clean afterwards and has lowered the prices of what its edges lead to. Whether one fell that
-// is not behind x.
-fn set_out(
-    prices: &mut [u64],
-    dirty: &mut [u8],
-    moves: &[u16],
-    row: usize,
-    at: usize,
-    costs: &[u16],
-    mets: &[u8],
-    edges: &[u8],
-    ends: &[usize],
-    x: usize,
-) -> bool
-    requires { (x < length prices.old) × (length prices.old ≤ length dirty.old)
-        × Ways moves.now row at costs.now mets.now edges.now ends.now (length prices.old) }
-    ensures { (m : ℕ) (cost : ℕ → ℕ) (to : ℕ → ℕ → ℕ)
-        → Meant moves.now row at costs.now mets.now edges.now ends.now
-        (length prices.old) m cost to
-        → (j k : ℕ) → Reach j k x (x + 1) → Swept mark (length prices.old) m cost to
-        j k x (x + 1) prices.old dirty.old result prices.new dirty.new }
-{
-    if prices[x] >= MARK {
-        return false;
-    }
-    dirty[x] = 0;
-    let from = ends[at + x];
-    let to = ends[at + x + 1];
-    relax_along(
-        prices,
-        dirty,
-        moves,
-        row,
-        at,
-        costs,
-        mets,
-        &edges[from..to],
-        x,
-    )
-}
-
-// State x sets out where it is dirty. Whether a price fell that is not behind x.
-fn visit(
-    prices: &mut [u64],
-    dirty: &mut [u8],
-    moves: &[u16],
-    row: usize,
-    at: usize,
-    costs: &[u16],
-    mets: &[u8],
-    edges: &[u8],
-    ends: &[usize],
-    x: usize,
-) -> bool
-    requires { (x < length prices.old) × (length prices.old ≤ length dirty.old)
-        × Ways moves.now row at costs.now mets.now edges.now ends.now (length prices.old) }
-    ensures { (m : ℕ) (cost : ℕ → ℕ) (to : ℕ → ℕ → ℕ)
-        → Meant moves.now row at costs.now mets.now edges.now ends.now
-        (length prices.old) m cost to
-        → Swept mark (length prices.old) m cost to (length prices.old) (length prices.old) x (x + 1)
-        prices.old dirty.old result prices.new dirty.new }
-{
-    if dirty[x] == 0 {
-        return false;
-    }
-    set_out(prices, dirty, moves, row, at, costs, mets, edges, ends, x)
-}
-
-// Whether none of the four states from x on is reached.
-fn four_far(prices: &[u64], x: usize) -> bool
-    requires { x + 4 ≤ length prices.now }
-    ensures { result ≡ true → (u : ℕ) → x ≤ u → u < x + 4 → mark ≤ get_or prices.now u mark }
-{
-    let a = prices[x] >= MARK;
-    let b = prices[x + 1] >= MARK;
-    let c = prices[x + 2] >= MARK;
-    let d = prices[x + 3] >= MARK;
-    (a & b) & (c & d)
-}
-
-// The states from `from` to `end`, by rising number, set out. Whether a price fell of a state that had its turn.
-fn set_out_part(
-    prices: &mut [u64],
-    dirty: &mut [u8],
-    moves: &[u16],
-    row: usize,
-    at: usize,
-    costs: &[u16],
-    mets: &[u8],
-    edges: &[u8],
-    ends: &[usize],
-    from: usize,
-    end: usize,
-) -> bool
-    requires { (from ≤ end) × (end ≤ length prices.old) × (length prices.old ≤ length dirty.old)
-        × Ways moves.now row at costs.now mets.now edges.now ends.now (length prices.old) }
-    ensures { (m : ℕ) (cost : ℕ → ℕ) (to : ℕ → ℕ → ℕ)
-        → Meant moves.now row at costs.now mets.now edges.now ends.now
-        (length prices.old) m cost to
-        → Swept mark (length prices.old) m cost to from end from end
-        prices.old dirty.old result prices.new dirty.new }
-{
-    let mut fell = false;
-    for x in from..end {
-        let one = set_out(prices, dirty, moves, row, at, costs, mets, edges, ends, x);
-        fell = fell | one;
-    }
-    fell
-}
-
-// The four states from x on set out, where one of them is reached. Whether a price fell of a state that had its turn.
-fn set_out_four(
-    prices: &mut [u64],
-    dirty: &mut [u8],
-    moves: &[u16],
-    row: usize,
-    at: usize,
-    costs: &[u16],
-    mets: &[u8],
-    edges: &[u8],
-    ends: &[usize],
-    x: usize,
-) -> bool
-    requires { (x + 4 ≤ length prices.old) × (length prices.old ≤ length dirty.old)
-        × Ways moves.now row at costs.now mets.now edges.now ends.now (length prices.old) }
-    ensures { (m : ℕ) (cost : ℕ → ℕ) (to : ℕ → ℕ → ℕ)
-        → Meant moves.now row at costs.now mets.now edges.now ends.now
-        (length prices.old) m cost to
-        → Swept mark (length prices.old) m cost to x (x + 4) x (x + 4)
-        prices.old dirty.old result prices.new dirty.new }
-{
-    if four_far(prices, x) {
-        return false;
-    }
-    set_out_part(
-        prices,
-        dirty,
-        moves,
-        row,
-        at,
-        costs,
-        mets,
-        edges,
-        ends,
-        x,
-        x + 4,
-    )
-}
-
-// Every state once, by rising number: most are not reached, so four are looked at together. Whether a price fell of a state that had its turn.
-fn first_sweep(
-    prices: &mut [u64],
-    dirty: &mut [u8],
-    moves: &[u16],
-    row: usize,
-    at: usize,
-    costs: &[u16],
-    mets: &[u8],
-    edges: &[u8],
-    ends: &[usize],
-) -> bool
-    requires { (length prices.old ≤ length dirty.old)
-        × Ways moves.now row at costs.now mets.now edges.now ends.now (length prices.old) }
-    ensures { (m : ℕ) (cost : ℕ → ℕ) (to : ℕ → ℕ → ℕ)
-        → Meant moves.now row at costs.now mets.now edges.now ends.now
-        (length prices.old) m cost to
-        → Swept mark (length prices.old) m cost to 0 (length prices.old) 0 (length prices.old)
-        prices.old dirty.old result prices.new dirty.new }
-{
-    let mut fell = false;
-    let mut x = 0;
-    while prices.len() - x >= 4 {
-        let one = set_out_four(prices, dirty, moves, row, at, costs, mets, edges, ends, x);
-        fell = fell | one;
-        x += 4;
-    }
-    let last = prices.len();
-    let rest = set_out_part(
-        prices, dirty, moves, row, at, costs, mets, edges, ends, x, last,
-    );
-    fell | rest
-}
-
-// Every dirty state once, by rising number. Whether a price fell of a state that had its turn.
-fn sweep(
-    prices: &mut [u64],
-    dirty: &mut [u8],
-    moves: &[u16],
-    row: usize,
-    at: usize,
-    costs: &[u16],
-    mets: &[u8],
-    edges: &[u8],
-    ends: &[usize],
-) -> bool
-    requires { (length prices.old ≤ length dirty.old)
-        × Ways moves.now row at costs.now mets.now edges.now ends.now (length prices.old) }
-    ensures { (m : ℕ) (cost : ℕ → ℕ) (to : ℕ → ℕ → ℕ)
-        → Meant moves.now row at costs.now mets.now edges.now ends.now
-        (length prices.old) m cost to
-        → Swept mark (length prices.old) m cost to (length prices.old) (length prices.old) 0 (length prices.old)
-        prices.old dirty.old result prices.new dirty.new }
-{
-    let mut fell = false;
-    for x in 0..prices.len() {
-        let one = visit(prices, dirty, moves, row, at, costs, mets, edges, ends, x);
-        fell = fell | one;
-    }
-    fell
-}
+pub use held::LeafWays;
 
 // Whether the flag of one of these actions is set.
 fn some_met(mets: &[u8], acts: &[u8]) -> bool
     requires { 256 ≤ length mets.now }
     ensures { result ≡ some_met mets.now acts.now }
 {
-    for j in 0..acts.len() {
-        if mets[acts[j] as usize] != 0 {
+    for &a in acts {
+        if mets[a as usize] != 0 {
             return true;
         }
     }
@@ -307,112 +33,66 @@ fn some_met(mets: &[u8], acts: &[u8]) -> bool
 }
 
 // Prices settle along the edges of their states: every state sets out once, and then the dirty ones as long as a price falls of one that had its turn.
-pub fn settle_along(
-    prices: &mut [u64],
-    moves: &[u16],
-    row: usize,
-    at: usize,
-    costs: &[u16],
-    mets: &[u8],
-    edges: &[u8],
-    ends: &[usize],
-)
-    requires { (length prices.old ≤ 256) × Ways moves.now row at costs.now mets.now edges.now ends.now (length prices.old)
-        × Aims moves.now row at costs.now mets.now edges.now ends.now (length prices.old) }
-    ensures { (m : ℕ) (cost : ℕ → ℕ) (to : ℕ → ℕ → ℕ)
-        → Meant moves.now row at costs.now mets.now edges.now ends.now
-        (length prices.old) m cost to → prices.new ≡ settled mark m cost to prices.old }
+pub fn settle_along(prices: &mut [u64], ways: &LeafWays<'_>)
+    requires { (length prices.old ≤ 256) × WaysIn ways.now (length prices.old)
+        × AimsIn ways.now (length prices.old) }
+    ensures { SettledBy (MeantIn ways.now (length prices.old)) prices.old prices.new }
 {
-    let mut dirty = [0u8; 256];
-    if !first_sweep(prices, &mut dirty, moves, row, at, costs, mets, edges, ends) {
-        return;
-    }
-    while sweep(prices, &mut dirty, moves, row, at, costs, mets, edges, ends) {}
+    settle_by(prices, ways);
 }
 
 // The prices of the leaf behind i leaves settle. Where no edge of the leaf has its flag set, they are settled as they are. Whether it was swept.
 fn settle_leaf(
-    leaves: usize,
-    actions: usize,
-    bases: &[usize],
-    moves: &[u16],
-    costs: &[u16],
-    kinds: &[u8],
-    factors: [u8; 32],
-    conditions: &[u8],
+    board: &Board<'_>,
     mets: &[u8],
-    edges: &[u8],
-    ends: &[usize],
+    edges: &EdgeTable<'_>,
     centre: Centre,
     i: usize,
     prices: &mut [u64],
 ) -> bool
-    requires { Sound (board_of leaves actions bases.now moves.now costs.now kinds.now factors conditions.now)
-        × Mets (board_of leaves actions bases.now moves.now costs.now kinds.now factors conditions.now) centre mets.now
-        × Edges (board_of leaves actions bases.now moves.now costs.now kinds.now factors conditions.now) edges.now ends.now
-        × (i < leaves) × (length prices.old ≡ get_or bases.now (i + 1) 0 - get_or bases.now i 0) }
-    ensures { (prices.new ≡ settle_on (board_of leaves actions bases.now moves.now costs.now kinds.now
-        factors conditions.now) i centre prices.old) × (result ≡ false → prices.new ≡ prices.old)
-        × (result ≡ some_met mets.now (edges_of bases.now edges.now ends.now i)) }
+    requires { Mets (board_in board.now) centre mets.now
+        × Edges (board_in board.now) edges.now.list.now edges.now.ends.now
+        × (i < board.now.leaves) × (length prices.old ≡ states_on (board_in board.now) i) }
+    ensures { (prices.new ≡ settle_on (board_in board.now) i centre prices.old) × (result ≡ false → prices.new ≡ prices.old)
+        × (result ≡ some_met mets.now (edges_of board.now.bases.now edges.now.list.now edges.now.ends.now i)) }
 {
-    let row = bases[leaves];
-    let at = bases[i];
-    let from = ends[at];
-    let to = ends[bases[i + 1]];
-    if !some_met(mets, &edges[from..to]) {
+    let states = board.leaf(i);
+    let at = states.start;
+    if !some_met(mets, &edges.list[edges.ends[at]..edges.ends[states.end]]) {
         return false;
     }
-    settle_along(prices, moves, row, at, costs, mets, edges, ends);
+    let ways = LeafWays {
+        moves: board.moves,
+        row: board.states(),
+        at,
+        costs: board.costs,
+        mets,
+        edges: *edges,
+    };
+    settle_along(prices, &ways);
     true
 }
 
 // The prices at the front of `new` settle along the edges, leaf by leaf; `centre` is the layer's centre state, and `mets` flags the actions whose
 // centre conditions hold there. Whether a leaf was swept, which is one of whose edges has its flag set: else all is as it was.
 pub fn settle_edges(
-    leaves: usize,
-    actions: usize,
-    bases: &[usize],
-    moves: &[u16],
-    costs: &[u16],
-    kinds: &[u8],
-    factors: [u8; 32],
-    conditions: &[u8],
+    board: &Board<'_>,
     mets: &[u8],
-    edges: &[u8],
-    ends: &[usize],
+    edges: &EdgeTable<'_>,
     centre: Centre,
     new: &mut [u64],
 ) -> bool
-    requires { Sound (board_of leaves actions bases.now moves.now costs.now kinds.now factors conditions.now)
-        × Mets (board_of leaves actions bases.now moves.now costs.now kinds.now factors conditions.now) centre mets.now
-        × Edges (board_of leaves actions bases.now moves.now costs.now kinds.now factors conditions.now) edges.now ends.now
-        × (get_or bases.now leaves 0 ≤ length new.old) }
-    ensures { (new.new ≡ settled_on (board_of leaves actions bases.now moves.now costs.now kinds.now
-        factors conditions.now) centre new.old ++ drop (get_or bases.now leaves 0) new.old)
+    requires { Mets (board_in board.now) centre mets.now
+        × Edges (board_in board.now) edges.now.list.now edges.now.ends.now
+        × (row_on (board_in board.now) ≤ length new.old) }
+    ensures { (new.new ≡ settled_on (board_in board.now) centre new.old ++ drop (row_on (board_in board.now)) new.old)
         × (result ≡ false → new.new ≡ new.old)
-        × (result ≡ swept_by leaves bases.now mets.now edges.now ends.now) }
+        × (result ≡ swept_by board.now.leaves board.now.bases.now mets.now edges.now.list.now edges.now.ends.now) }
 {
     let mut swept = false;
-    for i in 0..leaves {
-        let from = bases[i];
-        let to = bases[i + 1];
-        let one = settle_leaf(
-            leaves,
-            actions,
-            bases,
-            moves,
-            costs,
-            kinds,
-            factors,
-            conditions,
-            mets,
-            edges,
-            ends,
-            centre,
-            i,
-            &mut new[from..to],
-        );
-        swept = swept | one;
+    for i in 0..board.leaves {
+        let states = board.leaf(i);
+        swept |= settle_leaf(board, mets, edges, centre, i, &mut new[states]);
     }
     swept
 }

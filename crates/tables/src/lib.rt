@@ -6,10 +6,51 @@ ghost use Rattle.drive.specs.Drive.{drive_time};
 ghost use Rattle.task.specs.Factors.{number_to, star_pairs, states_to, all_states};
 ghost use Rattle.task.specs.Valid.{dearest, Valid};
 ghost use Rattle.digits.specs.Digits.{entries, entries_from, Each, Filled, Same, start_of};
-ghost use Rattle.tables.specs.Tables.{KindIs, Bases, Starts, Costs, Kinds, Moves, Goals};
+ghost use Rattle.layer.specs.Held.{board_in};
+ghost use Rattle.tables.specs.Tables.{KindIs, Bases, Starts, Costs, Kinds, Moves, Goals, Tabled};
+ghost use Rattle.tables.specs.Fit.{board_of};
 
 use digits::{fill_action, fill_rows};
+use layer::Board;
 use task::{FREE, Task};
+
+mod held;
+
+pub use held::TaskTables;
+
+impl<'a> TaskTables<'a> {
+    // The tables of a task, held together with it.
+    pub fn new(
+        task: &'a Task,
+        bases: &'a [usize],
+        moves: &'a [u16],
+        costs: &'a [u16],
+        kinds: &'a [u8],
+        starts: &'a [usize],
+    ) -> Self
+        requires valid { Valid task.now }
+        requires tabled { Tabled task.now bases.now moves.now costs.now kinds.now starts.now }
+        ensures task { result.task.now ≡ task.entry.now }
+        ensures board { board_in result.board ≡ board_of task.entry.now bases.entry.now moves.entry.now costs.entry.now kinds.entry.now }
+        ensures starts { result.starts.now ≡ starts.entry.now }
+    {
+        let board = Board {
+            leaves: task.leaves as usize,
+            actions: task.actions as usize,
+            bases,
+            moves,
+            costs,
+            kinds,
+            factors: task.factors,
+            conditions: &task.conditions,
+        };
+        TaskTables {
+            task,
+            board,
+            starts,
+        }
+    }
+}
 
 // ---- where each leaf's states begin
 

@@ -26,7 +26,7 @@ pub struct Task {
 }
 
 // A centre state: the value of each centre variable at its number, 0 elsewhere.
-#[derive(Clone, Copy)]
+#[derive(Clone, Copy, PartialEq, Eq)]
 pub struct Centre {
     pub values: [u8; 32],
 }
@@ -35,28 +35,28 @@ pub struct Centre {
 fn next_value(factor: u8, effect: u8, value: u8) -> u8
     ensures { result ≡ cond (eqb factor 0 && named effect) effect value }
 {
-    if factor == 0 {
-        if effect != FREE {
-            return effect;
-        }
+    if factor == 0 && effect != FREE {
+        return effect;
     }
     value
 }
 
-impl Centre {
-    // Every entry 0, before any value is set.
-    pub fn blank() -> Centre
-        ensures { result ≡ blank_centre }
-    {
+// Every entry 0, before any value is set.
+impl Default for Centre {
+    ghost is_default = { λ centre. centre ≡ blank_centre };
+
+    fn default() -> Centre {
         Centre { values: [0; 32] }
     }
+}
 
+impl Centre {
     // The next centre state: each centre variable that the effects name takes its value from them.
     pub fn after(mut self, factors: [u8; 32], effects: [u8; 32]) -> Centre
         ensures { result ≡ centre_after (λ v. get_or factors v 0) (λ v. get_or effects v 0) self }
     {
-        for v in 0..32 {
-            self.values[v] = next_value(factors[v], effects[v], self.values[v]);
+        for (v, value) in self.values.iter_mut().enumerate() {
+            *value = next_value(factors[v], effects[v], *value);
         }
         self
     }

@@ -52,7 +52,7 @@ module _ (moves : List ℕ) (row at : ℕ) (acts index tight stops B P : List �
 module _ (moves : List ℕ) (row at : ℕ) (costs acts : List ℕ) (m : ℕ) (B P : List ℕ) (y : ℕ) (w : Walkable moves row at costs acts m B P y) where
   -- a state that has kept its price: nothing is walked
   pub back_kept : (total p : ℕ) (plan : List ℕ) → cond (ltb (get_or P y mark) mark && eqb (get_or B y mark) (get_or P y mark)) 0 mark ≡ 0
-      → Walked (table_back moves row at costs acts m B P y) total p plan (record { state = y; place = p }) plan
+      → Walked (table_back moves row at costs acts m B P y) total p plan y p plan
   unfolding way_by back_by laid
   back_kept total p plan e =
       let kept : get_or (depth0 B P) y mark ≡ 0 = list_entry (length P) _ y mark w.inside ∙ e in
@@ -60,12 +60,12 @@ module _ (moves : List ℕ) (row at : ℕ) (costs acts : List ℕ) (m : ℕ) (B 
       rw (none, back_by) (record { state = refl; place = omega arith; plan = refl })
 
   -- without an action, too
-  pub back_none : m ≡ 0 → (total p : ℕ) (plan : List ℕ) → Walked (table_back moves row at costs acts m B P y) total p plan (record { state = y; place = p }) plan
+  pub back_none : m ≡ 0 → (total p : ℕ) (plan : List ℕ) → Walked (table_back moves row at costs acts m B P y) total p plan y p plan
   unfolding way_by back_by laid
   back_none z total p plan = go (get_or (table_depths moves row at costs acts m B P) y mark) refl
     where
       go : (k : ℕ) → get_or (table_depths moves row at costs acts m B P) y mark ≡ k
-          → Walked (table_back moves row at costs acts m B P y) total p plan (record { state = y; place = p }) plan
+          → Walked (table_back moves row at costs acts m B P y) total p plan y p plan
       go zero e = rw (e, back_by) (record { state = refl; place = omega arith; plan = refl })
       go (suc k) e =
           let s = depths_sourced (tight_by moves row at costs acts P) m B P (tight_ranged moves row at costs acts m P w.lent) k y e (omega (arith, w.deep)) in

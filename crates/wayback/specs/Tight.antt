@@ -4,6 +4,7 @@ use Rattle.std.proofs.Math.Bool.{true, false, cond}
 use Prim.Native.Nat.{ℕ, zero, suc, ◌+◌, ◌-◌, ◌≤◌, ◌<◌}
 use Rattle.std.proofs.Common.{not-suc-le-zero, eq-eqb, ne_eqb}
 use native.Mathlib.Omega.{arith}
+use Rattle.std.proofs.Math.Decide.{dec_lt, ℕ_discrete}
 use Rattle.std.proofs.Math.ListN.{get_or}
 use Rattle.leaf.specs.Price.{mark}
 use Rattle.leaf.specs.Settle.Walks.{Ranged}
@@ -34,6 +35,15 @@ module _ (P : List ℕ) (x c : ℕ) where
       let back : suc y - 1 ≡ y = omega arith in
       let p : get_or P x mark + c ≡ get_or P y mark → ⊥ = λ e. n (rw (back, at_any P x 0 mark l, at_any P y 0 mark h) e) in
       rw (ne_eqb (get_or P x mark + c) (get_or P y mark) p)
+
+  -- so an edge is at the right price
+  pub tight_right : (k : ℕ) → k ≤ length P → x < length P → 0 < tight_at P x c k → get_or P x 0 + c ≡ get_or P (k - 1) 0
+  tight_right k h l t = go (ℕ_discrete (get_or P x 0 + c) (get_or P (k - 1) 0)) (dec_lt 0 k)
+    where
+      go : Dec (get_or P x 0 + c ≡ get_or P (k - 1) 0) → Dec (0 < k) → get_or P x 0 + c ≡ get_or P (k - 1) 0
+      go (yes e) d = e
+      go (no n) (yes z) = absurd (omega (arith, tight_miss k z h l n))
+      go (no n) (no z) = absurd (omega (arith, tight_none k (omega arith)))
 
   -- an edge leads where the move leads, or nowhere
   pub tight_le : (k : ℕ) → tight_at P x c k ≤ k

@@ -4,13 +4,12 @@ use Rattle.std.proofs.Common.{not-suc-le-zero, arith}
 use Rattle.std.proofs.Math.ListN.{get_or, length-append}
 use Rattle.search.specs.Plan.{Back}
 use Rattle.search.specs.Plan.Laid.{put, laid, reverse_snoc}
-use Rattle.wayback.specs.declared.Ended.{Ended}
 use Rattle.wayback.specs.Steps.{entry_by, origin_by, back_by}
 
--- how a way back is walked: where it ends, and its actions in the plan from place p on, the last first
-pub record Walked (b : Back) (total p : ℕ) (before : List ℕ) (r : Ended) (after : List ℕ) : Type 0 where
-  pub state : r.state ≡ b.from
-  pub place : r.place ≡ p + length b.acts
+-- how a way back is walked: the state y where it ends, the place q behind it, and its actions in the plan from place p on, the last first
+pub record Walked (b : Back) (total p : ℕ) (before : List ℕ) (y q : ℕ) (after : List ℕ) : Type 0 where
+  pub state : y ≡ b.from
+  pub place : q ≡ p + length b.acts
   pub plan : after ≡ laid total p (reverse b.acts) before
 
 -- way b from place p, with this plan, ends as way b' from place p' with that plan
@@ -43,6 +42,6 @@ module _ (edges : ℕ → ℕ → ℕ) (acts : List ℕ) (m n : ℕ) (D : List �
   left_more (suc k) y p j x plan after z l e f g = let back : suc k - 1 ≡ k = omega arith in rw (g, f, e, back) (step k y p plan l)
 
   -- nothing is left
-  pub left_end : (k y p : ℕ) (plan : List ℕ) → k ≡ 0 → LeftAt k y p plan → Walked b' total p' plan' (record { state = y; place = p }) plan
+  pub left_end : (k y p : ℕ) (plan : List ℕ) → k ≡ 0 → LeftAt k y p plan → Walked b' total p' plan' y p plan
   unfolding back_by laid
   left_end k y p plan z l = let d = rw z at l in record { state = d.from; place = omega (arith, d.end); plan = d.written }

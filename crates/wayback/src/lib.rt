@@ -2,54 +2,81 @@
 // price, each written into the plan as it is met.
 #![tactic(auto)]
 
-ghost use Rattle.std.specs.Prelude.{◌≡◌, ◌⊎◌, cond, ◌&&◌, ℕ, suc, ◌+◌, ◌*◌, ◌<◌, ◌≤◌, ltb, eqb, length, get_or, drop, replicate};
+ghost use Rattle.std.specs.Prelude.{◌≡◌, ◌⊎◌, ◌↔◌, IsTrue, cond, ◌&&◌, ℕ, suc, ◌+◌, ◌*◌, ◌<◌, ◌≤◌, ltb, eqb, length, get_or, drop, replicate};
 ghost use Rattle.leaf.specs.Price.{mark};
+ghost use Rattle.layer.specs.Board.{base_on, row_on};
+ghost use Rattle.layer.specs.Held.{board_in};
 ghost use Rattle.edges.specs.Edges.{edges_at};
 ghost use Rattle.sweeps.specs.Sweeps.{Ways, Meant, Aims};
 ghost use Rattle.search.specs.Plan.{lowest};
 ghost use Rattle.search.specs.Plan.Laid.{put};
 ghost use Rattle.search.specs.Plan.Depths.{depth0};
 ghost use Rattle.wayback.specs.Steps.{tight_at, depths_by, way_by, back_by, table_back, Walkable};
-ghost use Rattle.wayback.specs.Woven.{Indexed, Legible, edge_at, Picked, Listed, Spread, Covers, Leading, Backed};
-ghost use Rattle.wayback.specs.Least.{EdgeMet, StateMet, AllMet, Guided};
-ghost use Rattle.wayback.specs.Walked.{Walked};
+ghost use Rattle.wayback.specs.Woven.{Indexed, Picked, Listed, Spread, Covers};
+ghost use Rattle.wayback.specs.Least.{EdgeMet, Guided};
+ghost use Rattle.wayback.specs.Held.{LegibleIn, edge_in, SpreadIn, ListedIn, LeadingIn, StateMetIn, AllMetIn, BackedIn, KeptIn, WalkedIn};
 
+use edges::EdgeTable;
+use layer::Board;
 use leaf::MARK;
-use sweeps::settle_along;
+use sweeps::{LeafWays, settle_along};
 
-// Where a walk back ends: the state, and the place of the next action.
-#[derive(Clone, Copy)]
-pub struct Ended {
-    pub state: usize,
-    pub place: usize,
+mod held;
+
+pub use held::PlanBuffer;
+
+impl<'a> PlanBuffer<'a> {
+    // A buffer of which the first `total` places may be written, from its front on.
+    pub fn new(plan: &'a mut [u8], total: usize) -> Self
+        requires { total ≤ length plan.old }
+        ensures same { result.plan.ghost_name ≡ plan.entry.ghost_name }
+        ensures plan { result.plan.now ≡ plan.old }
+        ensures total { result.total ≡ total }
+        ensures place { result.place ≡ 0 }
+    {
+        PlanBuffer {
+            plan,
+            total,
+            place: 0,
+        }
+    }
+
+    // An action at the next place, if that may be written.
+    pub fn put(&mut self, action: u8)
+        requires { self.old.place < mark }
+        ensures kept { KeptIn self.old self.new }
+        ensures place { self.new.place ≡ self.old.place + 1 }
+        ensures plan { self.new.plan.now ≡ put self.old.total self.old.place action self.old.plan.now }
+    {
+        if self.place < self.total {
+            self.plan[self.place] = action;
+        }
+        self.place += 1;
+    }
 }
 
-// The edge of one move from state x: `to` where its price is `cost` more than that of x, else 0.
-fn tight_move(prices: &[u64], x: usize, cost: u64, to: u16) -> u16
+// Whether a move from state x, to the state before `to`, is at the right price: `cost` more than that of x.
+fn is_tight(prices: &[u64], x: usize, cost: u64, to: u16) -> bool
     requires { (x < length prices.now) × (to ≤ length prices.now) }
-    ensures { result ≡ tight_at prices.now x cost to }
+    ensures { IsTrue result ↔ (0 < tight_at prices.now x cost to) }
 {
     if to == 0 {
-        return 0;
+        return false;
     }
-    let t = to as usize - 1;
-    let there = prices[t];
+    let there = prices[to as usize - 1];
     if there < cost {
-        return 0;
+        return false;
     }
-    if there - cost != prices[x] {
-        return 0;
-    }
-    to
+    there - cost == prices[x]
 }
 
-// Where each of the first `count` actions of a list stands there first, counted from 1; 0 for any other action.
-fn index_of(acts: &[u8], count: usize) -> [u8; 256]
-    requires { (count ≤ length acts.now) × (count ≤ 255) }
-    ensures { (length result ≡ 256) × Indexed acts.now count result }
+// Where each action of a list stands there first, counted from 1; 0 for any other action.
+fn index_of(acts: &[u8]) -> [u8; 256]
+    requires { length acts.now ≤ 255 }
+    ensures { (length result ≡ 256) × Indexed acts.now (length acts.now) result }
 {
     let mut index = [0u8; 256];
-    let mut j = count;
+    let mut j = acts.len();
     while j > 0 {
         index[acts[j - 1] as usize] = j as u8;
         j -= 1;
@@ -57,54 +84,38 @@ fn index_of(acts: &[u8], count: usize) -> [u8; 256]
     index
 }
 
-// The edge of an action from state x: where its move leads, if the action is in the list and the price there is right; else 0.
-fn edge_to(
-    prices: &[u64],
-    moves: &[u16],
-    row: usize,
-    at: usize,
-    costs: &[u16],
-    index: &[u8],
-    action: usize,
-    x: usize,
-) -> u16
-    requires { (x < length prices.now) × (action < length index.now)
-        × Legible moves.now row at costs.now index.now (length prices.now) }
-    ensures { result ≡ edge_at moves.now row at costs.now index.now prices.now action x }
+// Whether an action has an edge from state x: it is in the list, and its move is at the right price there.
+fn has_edge(prices: &[u64], ways: &LeafWays<'_>, action: usize, x: usize) -> bool
+    requires { (x < length prices.now) × (action < length ways.now.mets.now) × LegibleIn ways.now (length prices.now) }
+    ensures { IsTrue result ↔ (0 < edge_in ways.now prices.now action x) }
 {
-    if index[action] == 0 {
-        return 0;
+    if ways.mets[action] == 0 {
+        return false;
     }
-    tight_move(
+    is_tight(
         prices,
         x,
-        costs[action] as u64,
-        moves[action * row + (at + x)],
+        ways.costs[action] as u64,
+        ways.moves[action * ways.row + (ways.at + x)],
     )
 }
 
 // The tight edges of state x, of these actions, go behind the first `from` entries of `tight`. How many entries there are then.
 fn tight_state(
     prices: &[u64],
-    moves: &[u16],
-    row: usize,
-    at: usize,
-    costs: &[u16],
-    index: &[u8],
+    ways: &LeafWays<'_>,
     acts: &[u8],
     x: usize,
     tight: &mut [u8],
     from: usize,
 ) -> usize
-    requires { (x < length prices.now) × (length index.now ≡ 256) × (from + length acts.now ≤ length tight.old)
-        × Legible moves.now row at costs.now index.now (length prices.now) }
-    ensures { Picked (λ a. edge_at moves.now row at costs.now index.now prices.now a x)
-        acts.now (length acts.now) from tight.old result tight.new }
+    requires { (x < length prices.now) × (length ways.now.mets.now ≡ 256) × (from + length acts.now ≤ length tight.old)
+        × LegibleIn ways.now (length prices.now) }
+    ensures { Picked (λ a. edge_in ways.now prices.now a x) acts.now (length acts.now) from tight.old result tight.new }
 {
     let mut end = from;
-    for k in 0..acts.len() {
-        let a = acts[k];
-        if edge_to(prices, moves, row, at, costs, index, a as usize, x) != 0 {
+    for &a in acts {
+        if has_edge(prices, ways, a as usize, x) {
             tight[end] = a;
             end += 1;
         }
@@ -113,40 +124,14 @@ fn tight_state(
 }
 
 // The tight edges of all states: those of state x stand from `stops[x]` to `stops[x + 1]`.
-fn tight_edges(
-    prices: &[u64],
-    moves: &[u16],
-    row: usize,
-    at: usize,
-    costs: &[u16],
-    index: &[u8],
-    edges: &[u8],
-    ends: &[usize],
-    tight: &mut [u8],
-    stops: &mut [usize],
-)
-    requires { (length index.now ≡ 256) × (length prices.now < length stops.old) × (get_or stops.old 0 0 ≡ 0)
-        × Legible moves.now row at costs.now index.now (length prices.now)
-        × Spread edges.now ends.now at (length prices.now) (length tight.old) }
-    ensures { (get_or stops.new (length prices.now) 0 ≤ length tight.old)
-        × Listed (edge_at moves.now row at costs.now index.now prices.now)
-        (λ x. edges_at edges.now ends.now (at + x)) (length prices.now) tight.new stops.new }
+fn tight_edges(prices: &[u64], ways: &LeafWays<'_>, tight: &mut [u8], stops: &mut [usize])
+    requires { (length ways.now.mets.now ≡ 256) × (length prices.now < length stops.old) × (get_or stops.old 0 0 ≡ 0)
+        × LegibleIn ways.now (length prices.now) × SpreadIn ways.now (length prices.now) (length tight.old) }
+    ensures { (get_or stops.new (length prices.now) 0 ≤ length tight.old) × ListedIn ways.now prices.now (length prices.now) tight.new stops.new }
 {
     for x in 0..prices.len() {
-        let from = ends[at + x];
-        let to = ends[at + x + 1];
-        stops[x + 1] = tight_state(
-            prices,
-            moves,
-            row,
-            at,
-            costs,
-            index,
-            &edges[from..to],
-            x,
-            tight,
-            stops[x],
-        );
+        let edges = ways.edges.of(ways.at + x);
+        stops[x + 1] = tight_state(prices, ways, edges, x, tight, stops[x]);
     }
 }
 
@@ -157,13 +142,7 @@ pub fn first_depth(begins: &[u64], prices: &[u64], x: usize) -> u64
         && eqb (get_or begins.now x mark) (get_or prices.now x mark)) 0 mark }
 {
     let p = prices[x];
-    if p >= MARK {
-        return MARK;
-    }
-    if begins[x] != p {
-        return MARK;
-    }
-    0
+    if p < MARK && begins[x] == p { 0 } else { MARK }
 }
 
 // The depths of all states where depths begin.
@@ -176,54 +155,27 @@ fn first_depths(begins: &[u64], prices: &[u64], depths: &mut [u64])
     }
 }
 
-// The depths of all states, along the tight edges.
-fn depths_of(
-    begins: &[u64],
-    prices: &[u64],
-    moves: &[u16],
-    row: usize,
-    at: usize,
-    index: &[u8],
-    tight: &[u8],
-    stops: &[usize],
-    depths: &mut [u64],
-)
+// The depths of all states, along the tight edges, which are those of `ways`.
+fn depths_of(begins: &[u64], prices: &[u64], ways: &LeafWays<'_>, depths: &mut [u64])
     requires begins_len { (length begins.now ≡ length prices.now) × (length depths.old ≡ length prices.now) × (length prices.now ≤ 256)
-        × (at ≤ length moves.now) }
-    requires ways { Ways (drop at moves.now) row 0 (replicate 256 1) index.now tight.now stops.now (length prices.now)
-        × Aims (drop at moves.now) row 0 (replicate 256 1) index.now tight.now stops.now (length prices.now) }
+        × (ways.now.at ≤ length ways.now.moves.now) }
+    requires ways { Ways (drop ways.now.at ways.now.moves.now) ways.now.row 0 (replicate 256 1) ways.now.mets.now ways.now.edges.list.now ways.now.edges.ends.now (length prices.now)
+        × Aims (drop ways.now.at ways.now.moves.now) ways.now.row 0 (replicate 256 1) ways.now.mets.now ways.now.edges.list.now ways.now.edges.ends.now (length prices.now) }
     ensures { (m : ℕ) (to : ℕ → ℕ → ℕ)
-        → Meant (drop at moves.now) row 0 (replicate 256 1) index.now tight.now stops.now
+        → Meant (drop ways.now.at ways.now.moves.now) ways.now.row 0 (replicate 256 1) ways.now.mets.now ways.now.edges.list.now ways.now.edges.ends.now
         (length prices.now) m (λ j. 1) to → depths.new ≡ depths_by to m begins.now prices.now }
 {
     first_depths(begins, prices, depths);
     let ones = [1u16; 256];
-    settle_along(depths, &moves[at..], row, 0, &ones, index, tight, stops);
-}
-
-// Whether a move leads to the state before `next` from a state of price p (or depth p).
-fn is_source(to: u16, next: usize, p: u64, k: u64) -> bool
-    ensures { result ≡ (eqb to next && eqb p k) }
-{
-    if to as usize != next {
-        return false;
-    }
-    p == k
-}
-
-// The lowest state from which a row leads to state y, and whose price (or depth) is k; their count where there is none.
-fn lowest_source(row: &[u16], depths: &[u64], k: u64, y: usize) -> usize
-    requires { (length row.now ≡ length depths.now) × (y < length depths.now) }
-    ensures { result ≡ lowest (length depths.now)
-        (λ x. eqb (get_or row.now x 0) (suc y) && eqb (get_or depths.now x mark) k) }
-{
-    let next = y + 1;
-    for x in 0..depths.len() {
-        if is_source(row[x], next, depths[x], k) {
-            return x;
-        }
-    }
-    depths.len()
+    let steps = LeafWays {
+        moves: &ways.moves[ways.at..],
+        row: ways.row,
+        at: 0,
+        costs: &ones,
+        mets: ways.mets,
+        edges: ways.edges,
+    };
+    settle_along(depths, &steps);
 }
 
 // What a state of depth q keeps of its sources: the lower of `kept` and `place`, where that is met from a state of depth p, one less.
@@ -236,10 +188,7 @@ fn keep_lower(kept: u16, p: u64, q: u64, place: u16) -> u16
     if q - 1 != p {
         return kept;
     }
-    if kept < place {
-        return kept;
-    }
-    place
+    kept.min(place)
 }
 
 // An edge to the state before `to`, from a state of depth p, is met: that state keeps it where it is its lowest from depth one less.
@@ -255,184 +204,158 @@ fn meet(to: u16, p: u64, place: u16, depths: &[u64], sources: &mut [u16])
 }
 
 // The edges of state x, of these actions, are met.
-fn sources_state(
-    moves: &[u16],
-    row: usize,
-    at: usize,
-    index: &[u8],
-    acts: &[u8],
-    x: usize,
-    depths: &[u64],
-    sources: &mut [u16],
-)
+fn sources_state(ways: &LeafWays<'_>, acts: &[u8], x: usize, depths: &[u64], sources: &mut [u16])
     requires { (x < length depths.now) × (length depths.now ≤ 256) × (length depths.now ≤ length sources.old)
-        × Leading moves.now row at index.now acts.now x (length depths.now) }
-    ensures { StateMet moves.now row at index.now acts.now depths.now x (length acts.now)
-        sources.old sources.new }
+        × LeadingIn ways.now acts.now x (length depths.now) }
+    ensures { StateMetIn ways.now acts.now depths.now x sources.old sources.new }
 {
-    let p = depths[x];
-    for k in 0..acts.len() {
-        let a = acts[k] as usize;
-        let place = (index[a] as usize - 1) * 256 + x;
-        meet(moves[a * row + (at + x)], p, place as u16, depths, sources);
+    for &a in acts {
+        let action = a as usize;
+        let place = (ways.mets[action] as usize - 1) * 256 + x;
+        let to = ways.moves[action * ways.row + (ways.at + x)];
+        meet(to, depths[x], place as u16, depths, sources);
     }
 }
 
 // The lowest source of each state: 256 times the place of its action in the list, and the state that it leads from; 65,535 where there is none.
-fn sources_of(
-    moves: &[u16],
-    row: usize,
-    at: usize,
-    index: &[u8],
-    tight: &[u8],
-    stops: &[usize],
-    depths: &[u64],
-) -> [u16; 256]
-    requires { (length depths.now ≤ 256) × (length depths.now < length stops.now)
-        × ((x : ℕ) → x < length depths.now → (get_or stops.now x 0 ≤ get_or stops.now (x + 1) 0) × (get_or stops.now (x + 1) 0 ≤ length tight.now)
-        × Leading moves.now row at index.now (edges_at tight.now stops.now x) x (length depths.now)) }
-    ensures { (length result ≡ 256) × AllMet moves.now row at index.now tight.now stops.now depths.now
-        (length depths.now) result }
+fn sources_of(ways: &LeafWays<'_>, depths: &[u64]) -> [u16; 256]
+    requires { (length depths.now ≤ 256) × (length depths.now < length ways.now.edges.ends.now)
+        × ((x : ℕ) → x < length depths.now → (get_or ways.now.edges.ends.now x 0 ≤ get_or ways.now.edges.ends.now (x + 1) 0)
+        × (get_or ways.now.edges.ends.now (x + 1) 0 ≤ length ways.now.edges.list.now)
+        × LeadingIn ways.now (edges_at ways.now.edges.list.now ways.now.edges.ends.now x) x (length depths.now)) }
+    ensures { (length result ≡ 256) × AllMetIn ways.now depths.now result }
 {
     let mut sources = [65535u16; 256];
     for x in 0..depths.len() {
-        let from = stops[x];
-        let to = stops[x + 1];
-        sources_state(
-            moves,
-            row,
-            at,
-            index,
-            &tight[from..to],
-            x,
-            depths,
-            &mut sources,
-        );
+        sources_state(ways, ways.edges.of(x), x, depths, &mut sources);
     }
     sources
 }
 
-// An action at a place of the plan, of which only the first `total` places may be written.
-pub fn put(plan: &mut [u8], total: usize, place: usize, action: u8)
-    requires { total ≤ length plan.old }
-    ensures { plan.new ≡ put total place action plan.old }
-{
-    if place >= total {
-        return;
-    }
-    plan[place] = action;
-}
-
-// From a state back to one of depth 0: at each step the first action with a source, its lowest source, and the action into the plan.
+// From a state back to one of depth 0: at each step the first action with a source, its lowest source, and the action into the plan. The state where that
+// ends.
 fn walk(
     sources: &[u16],
     acts: &[u8],
     depths: &[u64],
     state: usize,
-    plan: &mut [u8],
-    total: usize,
-    place: usize,
-) -> Ended
+    out: &mut PlanBuffer<'_>,
+) -> usize
     requires { (state < length depths.now) × Guided acts.now depths.now sources.now × (length depths.now ≤ length sources.now)
-        × (get_or depths.now state mark ≤ 256) × (total ≤ length plan.old) × (place + 256 ≤ mark) }
-    ensures { (g : Guided acts.now depths.now sources.now)
-        → Walked (back_by g.edges acts.now g.count (length depths.now) depths.now
-        (get_or depths.now state mark) state) total place plan.old result plan.new }
+        × (get_or depths.now state mark ≤ 256) × (out.old.place + 256 ≤ mark) }
+    ensures kept { KeptIn out.old out.new }
+    ensures walked { (g : Guided acts.now depths.now sources.now)
+        → WalkedIn (back_by g.edges acts.now g.count (length depths.now) depths.now (get_or depths.now state mark) state) out.old result out.new }
 {
     let mut y = state;
     let mut k = depths[state];
-    let mut p = place;
     while k > 0 {
         k -= 1;
         let e = sources[y] as usize;
         y = e % 256;
-        put(plan, total, p, acts[e / 256]);
-        p += 1;
+        out.put(acts[e / 256]);
     }
-    Ended { state: y, place: p }
+    y
 }
 
-// From a state back to one of depth 0, along the tight edges; the depths are written over what is lent for them.
+// From a state back to one of depth 0, along the tight edges, which are those of `ways`; the depths are written over what is lent for them.
 fn tight_back(
-    moves: &[u16],
-    row: usize,
-    at: usize,
+    ways: &LeafWays<'_>,
     acts: &[u8],
-    index: &[u8],
-    tight: &[u8],
-    stops: &[usize],
     begins: &[u64],
     prices: &[u64],
     state: usize,
     depths: &mut [u64],
-    plan: &mut [u8],
-    total: usize,
-    place: usize,
-) -> Ended
-    requires { Backed moves.now row at acts.now index.now tight.now stops.now begins.now prices.now state
-        × (length depths.old ≡ length prices.now) × (at ≤ length moves.now) × (total ≤ length plan.old) × (place + 256 ≤ mark) }
-    ensures { (w : Backed moves.now row at acts.now index.now tight.now stops.now
-        begins.now prices.now state)
-        → Walked (way_by w.woven.edges acts.now w.woven.count begins.now prices.now state)
-        total place plan.old result plan.new }
+    out: &mut PlanBuffer<'_>,
+) -> usize
+    requires { BackedIn ways.now acts.now begins.now prices.now state
+        × (length depths.old ≡ length prices.now) × (ways.now.at ≤ length ways.now.moves.now) × (out.old.place + 256 ≤ mark) }
+    ensures kept { KeptIn out.old out.new }
+    ensures walked { (w : BackedIn ways.now acts.now begins.now prices.now state)
+        → WalkedIn (way_by w.woven.edges acts.now w.woven.count begins.now prices.now state) out.old result out.new }
 {
-    depths_of(begins, prices, moves, row, at, index, tight, stops, depths);
-    let sources = sources_of(moves, row, at, index, tight, stops, &depths[..]);
-    walk(&sources, acts, &depths[..], state, plan, total, place)
+    depths_of(begins, prices, ways, depths);
+    let sources = sources_of(ways, depths);
+    walk(&sources, acts, depths, state, out)
 }
 
-// From a state of a settled layer back to one that has kept the price that the layer began with. `tight` is lent to work in: its words afterwards are left to
-// the program, its length stays.
-pub fn leaf_back(
-    moves: &[u16],
+// These ways of a leaf, held together.
+fn ways_of<'a>(
+    moves: &'a [u16],
     row: usize,
     at: usize,
-    costs: &[u16],
+    costs: &'a [u16],
+    mets: &'a [u8],
+    list: &'a [u8],
+    ends: &'a [usize],
+) -> LeafWays<'a>
+    ensures moves { (result.moves.now ≡ moves.now) × (result.row ≡ row) × (result.at ≡ at) × (result.costs.now ≡ costs.now) }
+    ensures mets { result.mets.now ≡ mets.now }
+    ensures edges { (result.edges.list.now ≡ list.now) × (result.edges.ends.now ≡ ends.now) }
+{
+    let edges = EdgeTable { list, ends };
+    LeafWays {
+        moves,
+        row,
+        at,
+        costs,
+        mets,
+        edges,
+    }
+}
+
+// From a state of the settled prices of the leaf behind i leaves back to one that has kept the price that the layer began with, by these actions. The state
+// where that ends. `tight` is lent to work in: its words afterwards are left to the program, its length stays.
+pub fn leaf_back<'a>(
+    board: &Board<'a>,
+    i: usize,
     acts: &[u8],
-    count: usize,
-    edges: &[u8],
-    ends: &[usize],
+    edges: &EdgeTable<'a>,
     begins: &[u64],
     prices: &[u64],
     state: usize,
     tight: &mut [u8],
-    plan: &mut [u8],
-    total: usize,
-    place: usize,
-) -> Ended
-    requires walkable { Walkable moves.now row at costs.now acts.now count begins.now prices.now state
-        × (total ≤ length plan.old) × (place + 256 ≤ mark) }
-    requires covers { Covers edges.now ends.now moves.now row at acts.now count (length prices.now)
-        × Spread edges.now ends.now at (length prices.now) (length tight.old) }
-    ensures walked { Walked (table_back moves.now row at costs.now acts.now count begins.now
-        prices.now state) total place plan.old result plan.new }
+    out: &mut PlanBuffer<'_>,
+) -> usize
+    requires leaf { i < board.now.leaves }
+    requires walkable { Walkable board.now.moves.now (row_on (board_in board.now)) (base_on (board_in board.now) i) board.now.costs.now acts.now (length acts.now)
+        begins.now prices.now state }
+    requires place { out.old.place + 256 ≤ mark }
+    requires covers { Covers edges.now.list.now edges.now.ends.now board.now.moves.now (row_on (board_in board.now)) (base_on (board_in board.now) i) acts.now (length acts.now)
+        (length prices.now) }
+    requires spread { Spread edges.now.list.now edges.now.ends.now (base_on (board_in board.now) i) (length prices.now) (length tight.old) }
+    ensures kept { KeptIn out.old out.new }
+    ensures walked { WalkedIn (table_back board.now.moves.now (row_on (board_in board.now)) (base_on (board_in board.now) i) board.now.costs.now acts.now (length acts.now)
+        begins.now prices.now state) out.old result out.new }
     ensures lengths { length tight.new ≡ length tight.old }
 {
-    if count == 0 {
-        return Ended { state, place };
+    if acts.is_empty() {
+        return state;
     }
-    let index = index_of(acts, count);
-    let mut stops: [usize; 257] = [0; 257];
-    tight_edges(
-        prices, moves, row, at, costs, &index, edges, ends, tight, &mut stops,
-    );
-    let mut depths = [0u64; 256];
-    let n = prices.len();
-    tight_back(
-        moves,
+    let index = index_of(acts);
+    let row = board.states();
+    let at = board.leaf(i).start;
+    let ways = ways_of(
+        board.moves,
         row,
         at,
-        acts,
+        board.costs,
         &index,
-        &tight[..],
-        &stops,
+        edges.list,
+        edges.ends,
+    );
+    let mut stops = [0usize; 257];
+    tight_edges(prices, &ways, tight, &mut stops);
+    let listed = ways_of(board.moves, row, at, board.costs, &index, tight, &stops);
+    let mut depths = [0u64; 256];
+    tight_back(
+        &listed,
+        acts,
         begins,
         prices,
         state,
-        &mut depths[..n],
-        plan,
-        total,
-        place,
+        &mut depths[..prices.len()],
+        out,
     )
 }
 
@@ -442,6 +365,9 @@ pub fn lowest_over(moves: &[u16], at: usize, old: &[u64], state: usize, price: u
     ensures { result ≡ lowest (length old.now)
         (λ x. eqb (get_or moves.now (at + x) 0) (suc state) && eqb (get_or old.now x mark) price) }
 {
-    let end = at + old.len();
-    lowest_source(&moves[at..end], old, price, state)
+    moves[at..at + old.len()]
+        .iter()
+        .zip(old)
+        .position(|(&to, &p)| to as usize == state + 1 && p == price)
+        .unwrap_or(old.len())
 }

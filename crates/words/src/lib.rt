@@ -8,9 +8,7 @@ pub fn copy_words(from: &[u64], into: &mut [u64], count: usize)
     requires { (count ≤ length from.now) × (count ≤ length into.old) }
     ensures { into.new ≡ take count from.now ++ drop count into.old }
 {
-    for i in 0..count {
-        into[i] = from[i];
-    }
+    into[..count].copy_from_slice(&from[..count]);
 }
 
 // The first `count` words are 0 afterwards.
@@ -18,7 +16,5 @@ pub fn zero_words(words: &mut [u64], count: usize)
     requires { count ≤ length words.old }
     ensures { words.new ≡ replicate count 0 ++ drop count words.old }
 {
-    for k in 0..count {
-        words[k] = 0;
-    }
+    words[..count].fill(0);
 }

@@ -1,9 +1,9 @@
 -- `begins::begin_moved` meets its contract: each leaf is carried. The invariant: what came through of the leaves so far stands one leaf's behind the other, and behind
 -- them the old prices, which were copied first; the key has risen with their least prices. Assumes nothing.
-use Rattle.std.proofs.Common.{List, [], ℕ, ◌-◌, ◌≤◌, get_or}
-use Rattle.layer.specs.Board.{Board, part_on, pass_on}
+use Rattle.std.proofs.Common.{List, ℕ}
+use Rattle.layer.specs.Board.{Board, base_on, part_on, pass_on}
 use Rattle.layer.specs.Board.Turns.{Laid}
-use Rattle.layer.specs.Lent.{board_of}
+use Rattle.layer.specs.Held.{board_in}
 use Rattle.search.specs.Node.{least_of}
 use Rattle.begins.specs.Begin.{Risen}
 use Rattle.begins.proofs.begin_moved.Given as goal
@@ -12,12 +12,9 @@ use Rattle.begins.proofs.begin_moved.Given as goal
 abbrev pub leaf : Board → ℕ → List ℕ → ℕ → List ℕ
 leaf b action old k = pass_on b k action (part_on b k old)
 
--- factors are not looked at
 abbrev pub invariant-loop-i : goal.invariant-loop-i
 invariant-loop-i l =
-    (l.i ≤ l.leaves) × Laid (leaf (board_of l.leaves l.actions l.bases l.moves l.costs l.kinds [] l.conditions) l.action l.old) l.i (get_or l.bases l.i 0) l.initial.new l.new
-    × Risen (λ k. least_of (part_on (board_of l.leaves l.actions l.bases l.moves l.costs l.kinds [] l.conditions) k l.old))
-    (λ k. least_of (leaf (board_of l.leaves l.actions l.bases l.moves l.costs l.kinds [] l.conditions) l.action l.old k)) l.i l.low l.key
-
-abbrev pub decreases-loop-i : goal.decreases-loop-i
-decreases-loop-i l = l.leaves - l.i
+    record {
+      laid : Laid (leaf (board_in l.board) l.action l.old) l.i (base_on (board_in l.board) l.i) l.initial.new l.new;
+      risen : Risen (λ k. least_of (part_on (board_in l.board) k l.old)) (λ k. least_of (leaf (board_in l.board) l.action l.old k)) l.i l.low l.key;
+    }

@@ -9,22 +9,17 @@ use Rattle.begins.proofs.carry.Goals.{After-least-2}
 rises : (c : After-least-2) → c.least-2.result ≤ c.least.result
 rises c =
     let a = c.args in
-    omega (arith, pass_rises (length a.old.now) (λ x. get_or a.moves.now (a.at + x) 0) a.old.now, ap least_of c.pass.ensures, c.least.ensures, c.least-2.ensures)
+    omega (arith, pass_rises (length a.old.now) (λ x. get_or a.moves.now (a.at + x) 0) a.old.now, ap least_of c.pass.ensures)
 
 pub returns-then-still-ne0 : goal.returns-then-still-ne0
 returns-then-still-ne0 c =
     let a = c.args in
-    let words = c.type_inv.old in
     let stays = c.if-still-ne0.true in
-    copy_passes (λ x. get_or a.moves.now (a.at + x) 0) a.old.now a.new.now (λ x. omega (arith, words x)) (c.requires.3 stays) (c.requires.4 stays)
-
-pub pass-requires : goal.pass-requires
-pass-requires c =
-    (rw (← c.requires.0) c.fill.ensures, c.requires.1, c.requires.2)
+    let passed = copy_passes (λ x. get_or a.moves.now (a.at + x) 0) a.old.now a.new.now (λ x. omega (arith, c.type_inv.old x)) (c.requires.stays stays) (c.requires.copied stays) in
+    record { passed = passed.0; rise = passed.1 }
 
 pub overflow_sub-result : goal.overflow_sub-result
 overflow_sub-result c = omega (arith, rises (goal.at.overflow_sub-result c).After-least-2)
 
-pub returns : goal.returns
-returns c =
-    (c.pass.ensures, omega (arith, rises (goal.at.returns c).After-least-2, c.least.ensures, c.least-2.ensures))
+pub returns-clause-rise : goal.returns-clause-rise
+returns-clause-rise c = omega (arith, rises (goal.at.returns-clause-rise c).After-least-2)

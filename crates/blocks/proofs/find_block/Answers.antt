@@ -1,29 +1,22 @@
 -- `blocks::find_block` meets its contract: four parts of four words, joined two by two. Assumes nothing.
-use Rattle.std.proofs.Common.{refl, ◌+◌, arith, drop}
-use Rattle.blocks.specs.Block.{FirstOf}
-use Rattle.blocks.specs.Block.Laws.{first_two}
+use Rattle.std.proofs.Common.{List, ℕ, Option, arith, drop, drop-drop, length-drop}
+use Rattle.blocks.specs.Block.{Found, joined_by}
+use Rattle.blocks.specs.Block.Laws.{first_two, found_take}
 use Rattle.blocks.proofs.find_block.Goals as goal
-use Rattle.blocks.proofs.find_block.Goals.{After-joined-high}
 
--- the first place in the second half
-high : (c : After-joined-high) → let a = c.args in
-    FirstOf (drop (a.from + 8) a.scan.now) 8 a.word c.joined-high.result
-high c =
-    let a = c.args in
-    let third = c.find-third in
-    let fourth = c.find-fourth in
-    first_two a.scan.now (a.from + 8) (a.from + 12) 4 4 a.word third.result fourth.result c.joined-high.result (omega arith) third.ensures
-    fourth.ensures c.joined-high.ensures
-
-pub joined-requires : goal.joined-requires
-joined-requires c = (omega arith, (high (goal.at.joined-requires c).After-joined-high).most)
+-- the first place in 16 words, by those in its quarters
+first_four : (K : List ℕ) (w : ℕ) (a b c d : Option ℕ) → Found K 4 w a → Found (drop 4 K) 4 w b → Found (drop 8 K) 4 w c → Found (drop 12 K) 4 w d
+    → Found K 16 w (joined_by (joined_by a 4 b) 8 (joined_by c 4 d))
+first_four K w a b c d p q r s =
+    let high = first_two (drop 8 K) 4 4 w c d r (rw drop-drop s) in
+    first_two K 8 8 w (joined_by a 4 b) (joined_by c 4 d) (first_two K 4 4 w a b p q) high
 
 pub returns : goal.returns
 returns c =
-    let a = c.args in
-    let first = c.find-first in
-    let second = c.find-second in
-    let low = c.joined-low in
-    first_two a.scan.now a.from (a.from + 8) 8 8 a.word low.result c.joined-high.result c.joined.result refl
-    (first_two a.scan.now a.from (a.from + 4) 4 4 a.word first.result second.result low.result refl first.ensures second.ensures low.ensures)
-    (high (goal.at.returns c).After-joined-high) c.joined.ensures
+    let K = c.args.words.now in
+    let w = c.args.word in
+    rw (c.joined.ensures, c.joined-low.ensures, c.joined-high.ensures)
+    (first_four K w _ _ _ _ (found_take K 4 w _ (omega arith) c.find-first.ensures)
+    (found_take (drop 4 K) 4 w _ (omega (arith, length-drop 4 K)) c.find-second.ensures)
+    (found_take (drop 8 K) 4 w _ (omega (arith, length-drop 8 K)) c.find-third.ensures)
+    (found_take (drop 12 K) 4 w _ (omega (arith, length-drop 12 K)) c.find-fourth.ensures))

@@ -4,4 +4,4 @@ use Rattle.blocks.proofs.lower.Goals as goal
 
 pub returns : goal.returns
 unfolding lowered_to
-returns c = rw c.lesser-low.ensures
+returns c = cc

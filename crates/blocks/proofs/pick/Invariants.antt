@@ -1,11 +1,9 @@
--- `blocks::pick` meets its contract. The invariant: `chosen` is the choice among the keys so far, and `low` its key. Assumes nothing.
-use Rattle.std.proofs.Common.{◌≡◌, ◌-◌, ◌≤◌, drop}
-use Rattle.blocks.specs.Choice.{key_of, choose_by}
+-- `blocks::pick` meets its contract. The invariant: `chosen` is picked among the keys so far, and `low` is its key, or else the bound. Assumes nothing.
+use Rattle.std.proofs.Common.{◌≡◌, get_or}
+use Rattle.std.specs.Option.{MatchOption}
+use Rattle.blocks.specs.Choice.{NoneBelow, Picked}
 use Rattle.blocks.proofs.pick.Given as goal
 
 abbrev pub invariant-loop-u : goal.invariant-loop-u
 invariant-loop-u l =
-    (l.u ≤ l.count) × (l.chosen ≡ choose_by l.bound (drop l.from l.scan) l.u) × (l.low ≡ key_of l.bound (drop l.from l.scan) (choose_by l.bound (drop l.from l.scan) l.u))
-
-abbrev pub decreases-loop-u : goal.decreases-loop-u
-decreases-loop-u l = l.count - l.u
+    MatchOption l.chosen (NoneBelow l.bound l.keys l.u × (l.low ≡ l.bound)) (λ v. Picked l.bound l.keys l.u v × (l.low ≡ get_or l.keys v 0))

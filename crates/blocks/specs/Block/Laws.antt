@@ -1,14 +1,18 @@
 -- Laws of the block words: as nodes are linked and retired, and the choice by blocks. Assumes nothing.
-use Rattle.std.specs.Prelude.{◌≡◌, refl, ◌⊎◌, cond, List, ℕ, zero, suc, ◌+◌, ◌-◌, ◌*◌, ◌/◌, ◌≤◌, ◌<◌, min, ltb, length, get_or, set, drop}
-use Rattle.std.proofs.Common.{sym, ap, ◌∙◌, inl, inr, not-suc-le-zero, add-one, arith, lt-ltb, le-ltb}
+use Rattle.std.specs.Prelude.{◌≡◌, refl, ◌⊎◌, Option, None, Some, MatchOption, List, [], ◌∷◌, ◌++◌, ℕ, zero, suc, ◌+◌, ◌-◌, ◌*◌, ◌/◌, ◌≤◌, ◌<◌, min, length, get_or, set, take, drop, replicate}
+use Rattle.std.proofs.Common.{sym, ap, ◌∙◌, inl, inr, not-suc-le-zero, add-one, append_assoc, arith, drop-drop, drop-cons, length-append, take-append-drop, get_or-take, length-take-le, length-drop}
+use lib.Seq.{set_at}
+use Rattle.std.proofs.lemmas.List.{length-replicate, replicate_more}
 use Rattle.std.proofs.Math.Decide.{ℕ_discrete, dec_le, dec_lt}
 use Rattle.std.proofs.Math.ListN.{length-set}
 use Rattle.std.proofs.Math.Seq.{get_or-set_same, get_or-set_other, get_or-drop}
 use Rattle.loops.specs.Count.Laws.{below_cases}
 use Rattle.leaf.specs.Price.{mark}
-use Rattle.blocks.specs.Choice.{key_of, choose_by, Picked, Choice}
-use Rattle.blocks.specs.Choice.Laws.{choose_cases, choose_none, choose_fewer}
-use Rattle.blocks.specs.Block.{block_size, least_in, least_of_block, FirstOf, LeastFrom, Held, Under, block_words, upper_words, Blocked, fresh_to, lowered_to, raised_to, retired_to}
+use Rattle.search.specs.Node.{least_of}
+use Rattle.keys.specs.Scan.Laws.{least_more}
+use Rattle.blocks.specs.Choice.{key_of, choose_by, NoneBelow, Picked, Choice}
+use Rattle.blocks.specs.Choice.Laws.{choose_here, choose_kept, key_next, choose_cases, choose_none, choose_first, choose_picked, choose_fewer, none_chosen, none_same, picked_same}
+use Rattle.blocks.specs.Block.{block_size, least_in, least_of_block, NoneIs, FirstOf, Found, FirstInBlock, joined_by, LeastFrom, Held, Under, block_words, upper_words, Blocked, fresh_to, lowered_to, raised_to, retired_to}
 
 -- ---- the least key
 
@@ -37,6 +41,28 @@ module _ (K : List ℕ) (n : ℕ) where
       go : Choice mark K n (choose_by mark K n) → (least_in K n ≡ mark) ⊎ ((k : ℕ) × ((k < n) × (get_or K k 0 ≡ least_in K n)))
       go (inl (e, _)) = inl (least_none e)
       go (inr (u, (e, p))) = inr (u, (p.inside, sym (least_some u e)))
+
+-- a key more
+least_in_more : (K : List ℕ) (n : ℕ) → least_in K (suc n) ≡ min (least_in K n) (get_or K n 0)
+unfolding least_in
+least_in_more K n = go (dec_lt (get_or K n 0) (key_of mark K (choose_by mark K n)))
+  where
+    go : Dec (get_or K n 0 < key_of mark K (choose_by mark K n))
+        → key_of mark K (choose_by mark K (suc n)) ≡ min (key_of mark K (choose_by mark K n)) (get_or K n 0)
+    go (yes l) = ap (key_of mark K) (rw add-one at (choose_here mark K n l)) ∙ rw add-one at (key_next mark K n) ∙ omega arith
+    go (no d) = ap (key_of mark K) (rw add-one at (choose_kept mark K n (omega arith))) ∙ omega arith
+
+-- it is the least of the first n keys as `least_of` counts it
+pub least_in-is : (K : List ℕ) (n : ℕ) → n ≤ length K → least_in K n ≡ least_of (take n K)
+unfolding least_of
+least_in-is K zero l = least_none K 0 (choose_none mark K 0 (λ w b. absurd (not-suc-le-zero b)))
+least_in-is K (suc n) l = rw (least_in_more K n, least_in-is K n (omega arith)) (sym (rw add-one at (least_more K n l)))
+
+-- it depends on the first n keys
+pub least_same : (K L : List ℕ) (n : ℕ) → ((w : ℕ) → w < n → get_or K w 0 ≡ get_or L w 0) → least_in K n ≡ least_in L n
+unfolding least_in choose_by key_of
+least_same K L zero same = refl
+least_same K L (suc n) same = rw (least_in_more K n, least_in_more L n, least_same K L n (λ w l. same w (omega arith)), same n (omega arith))
 
 -- ---- the least of some words
 
@@ -85,30 +111,67 @@ least_is C f n r h p = go (least_cases (drop f C) n)
 -- ---- the first place of a word
 
 -- in two parts that stand one behind the other: that of the first part, else that of the second behind it
-pub first_two : (C : List ℕ) (f g m n w a b r : ℕ) → g ≡ f + m → FirstOf (drop f C) m w a → FirstOf (drop g C) n w b → r ≡ cond (ltb a m) a (m + b)
-    → FirstOf (drop f C) (m + n) w r
-first_two C f g m n w a b r next p q e = go (dec_lt a m)
+pub first_two : (K : List ℕ) (m n w : ℕ) (a b : Option ℕ) → Found K m w a → Found (drop m K) n w b → Found K (m + n) w (joined_by a m b)
+first_two K m n w (Some a) b p q = record { inside = omega (arith, p.inside); before = p.before; here = p.here }
+first_two K m n w None b p q = go b q
   where
     -- a word of the second part
-    behind : (i : ℕ) → m ≤ i → get_or (drop f C) i 0 ≡ get_or (drop g C) (i - m) 0
-    behind i l =
-        let z : f + i ≡ g + (i - m) = omega arith in
-        get_or-drop f C i 0 ∙ ap (λ (k : ℕ). get_or C k 0) z ∙ sym (get_or-drop g C (i - m) 0)
+    behind : (i : ℕ) → m ≤ i → get_or (drop m K) (i - m) 0 ≡ get_or K i 0
+    behind i l = let z : m + (i - m) ≡ i = omega arith in get_or-drop m K (i - m) 0 ∙ ap (λ (k : ℕ). get_or K k 0) z
 
-    go : Dec (a < m) → FirstOf (drop f C) (m + n) w r
-    go (yes l) =
-        let z : r ≡ a = e ∙ rw (lt-ltb a m l) in
-        rw z record { most = omega arith; before = p.before; here = λ _. p.here l }
-    go (no d) =
-        let z : r ≡ m + b = e ∙ rw (le-ltb a m (omega (arith, d))) in
-        rw z record { most = omega (arith, q.most); before = λ i l h. early i l h (dec_lt i m); here = λ l. behind (m + b) (omega arith) ∙ last l }
+    early : (k : ℕ) → NoneIs (drop m K) k w → NoneIs K (m + k) w
+    early k none i l e = here (dec_lt i m)
       where
-        early : (i : ℕ) → i < m + b → get_or (drop f C) i 0 ≡ w → Dec (i < m) → ⊥
-        early i l h (yes k) = p.before i (omega (arith, d)) h
-        early i l h (no k) = q.before (i - m) (omega (arith, k)) (sym (behind i (omega (arith, k))) ∙ h)
+        here : Dec (i < m) → ⊥
+        here (yes h) = p i h e
+        here (no h) = none (i - m) (omega arith) (behind i (omega arith) ∙ e)
 
-        last : m + b < m + n → get_or (drop g C) (m + b - m) 0 ≡ w
-        last l = let z : m + b - m ≡ b = omega arith in rw z (q.here (omega arith))
+    go : (b : Option ℕ) → Found (drop m K) n w b → Found K (m + n) w (joined_by None m b)
+    go None none = early n none
+    go (Some b) f = record { inside = omega (arith, f.inside); before = early b f.before; here = sym (get_or-drop m K b 0) ∙ f.here }
+
+-- it depends on the first n keys
+pub found_same : (K L : List ℕ) (n w : ℕ) (r : Option ℕ) → ((i : ℕ) → i < n → get_or L i 0 ≡ get_or K i 0) → Found K n w r → Found L n w r
+found_same K L n w None same none = λ i l e. none i l (sym (same i l) ∙ e)
+found_same K L n w (Some k) same p =
+    record { inside = p.inside; before = λ i l e. p.before i l (sym (same i (omega (arith, p.inside))) ∙ e); here = same k p.inside ∙ p.here }
+
+-- so in a slice of them
+pub found_take : (K : List ℕ) (n w : ℕ) (r : Option ℕ) → n ≤ length K → Found (take n K) (length (take n K)) w r → Found K n w r
+found_take K n w r l h = found_same (take n K) K n w r (λ i b. sym (get_or-take n K i 0 b)) (rw (length-take-le n K l) at h)
+
+-- ---- the first n keys as a slice X
+
+module _ (K X : List ℕ) (n : ℕ) (l : n ≤ length K) (is : X ≡ take n K) where
+  part_long : length X ≡ n
+  part_long = ap length is ∙ length-take-le n K l
+
+  part_at : (i : ℕ) → i < n → get_or X i 0 ≡ get_or K i 0
+  part_at i b = ap (λ (xs : List ℕ). get_or xs i 0) is ∙ get_or-take n K i 0 b
+
+  -- a key of block b
+  part_block : (b i : ℕ) → i < block_size n b → get_or (drop (b * 16) X) i 0 ≡ get_or (drop (b * 16) K) i 0
+  part_block b i h = get_or-drop (b * 16) X i 0 ∙ part_at (b * 16 + i) (omega arith) ∙ sym (get_or-drop (b * 16) K i 0)
+
+  -- the least key of a block, whose keys are the slice R
+  pub least_part : (R : List ℕ) (b : ℕ) → b * 16 ≤ n → R ≡ take (block_size (length X) b) (drop (b * 16) X) → least_in R (length R) ≡ least_of_block K n b
+  least_part R b h e =
+      let part : R ≡ take (block_size n b) (drop (b * 16) X) = rw part_long at e in
+      let wide : block_size n b ≤ length (drop (b * 16) X) = omega (arith, length-drop (b * 16) X, part_long) in
+      let size : length R ≡ block_size n b = ap length part ∙ length-take-le (block_size n b) (drop (b * 16) X) wide in
+      rw size
+      (least_same R (drop (b * 16) K) (block_size n b)
+      (λ i m. ap (λ (xs : List ℕ). get_or xs i 0) part ∙ get_or-take (block_size n b) (drop (b * 16) X) i 0 m ∙ part_block b i m))
+
+  -- the first place of a key in a block
+  pub first_part : (b w u : ℕ) → FirstInBlock X (length X) b w u → FirstInBlock K n b w u
+  first_part b w u q =
+      let f : FirstOf (drop (b * 16) X) (block_size n b) w q.place = rw part_long at q.first in
+      record { place = q.place; is = q.is; first = found_same (drop (b * 16) X) (drop (b * 16) K) (block_size n b) w (Some q.place) (λ i m. sym (part_block b i m)) f }
+
+  -- where one is among the keys, one is in the slice
+  pub there_part : (b w : ℕ) → (NoneIs (drop (b * 16) K) (block_size n b) w → ⊥) → NoneIs (drop (b * 16) X) (block_size (length X) b) w → ⊥
+  there_part b w some none = some (λ i m e. none i (rw part_long m) (part_block b i m ∙ e))
 
 -- ---- the keys of a block
 
@@ -253,44 +316,40 @@ module _ (bound : ℕ) (K W : List ℕ) (m n : ℕ) (few : n ≤ 16 * m) (low : 
   pub picked_some : (b : ℕ) → Picked bound W m b → b * 16 < n
   picked_some b p = let h = word_held b p in omega (arith, h.inside, h.block)
 
-  -- k is the first of its keys that is the word
-  module _ (b w k : ℕ) (p : Picked bound W m b) (e : get_or W b 0 ≡ w) (q : FirstOf (drop (b * 16) K) (block_size n b) w k) where
-    -- there is one
-    found_inside : Dec (k < block_size n b) → k < block_size n b
-    found_inside (yes l) = l
-    found_inside (no d) =
-        let h = word_held b p in
-        absurd
-        (q.before (h.node - b * 16) (omega (arith, q.most, h.inside, h.block)) (block_key K b h.node h.block ∙ h.key ∙ e))
+  -- its word is one of them
+  pub picked_there : (b w : ℕ) → Picked bound W m b → get_or W b 0 ≡ w → NoneIs (drop (b * 16) K) (block_size n b) w → ⊥
+  picked_there b w p e none =
+      let h = word_held b p in
+      none (h.node - b * 16) (omega (arith, h.inside, h.block)) (block_key K b h.node h.block ∙ h.key ∙ e)
 
+  -- the first of its keys that is the word is the choice among all keys
+  module _ (b w u : ℕ) (p : Picked bound W m b) (e : get_or W b 0 ≡ w) (q : FirstInBlock K n b w u) where
     -- it is the word, as one of all keys
-    found_key : k < block_size n b → get_or K (b * 16 + k) 0 ≡ w
-    found_key l = sym (get_or-drop (b * 16) K k 0) ∙ q.here l
+    found_key : get_or K u 0 ≡ w
+    found_key = rw q.is (sym (get_or-drop (b * 16) K q.place 0) ∙ q.first.here)
 
     -- no key is less
-    found_least : (u : ℕ) → u < n → w ≤ get_or K u 0
-    found_least u l = omega (arith, e, p.least (u / 16) (omega arith), r.lower u l)
+    found_least : (v : ℕ) → v < n → w ≤ get_or K v 0
+    found_least v l = omega (arith, e, p.least (v / 16) (omega arith), r.lower v l)
 
     -- those before it are greater
-    found_first : k < block_size n b → (u : ℕ) → u < b * 16 + k → Dec (u / 16 ≡ b) → w < get_or K u 0
-    found_first i u l (yes f) =
-        let d : get_or K u 0 ≡ w → ⊥ = λ s. q.before (u - b * 16) (omega arith) (block_key K b u f ∙ s) in
-        omega (arith, found_least u (omega arith))
-    found_first i u l (no d) = omega (arith, e, p.first (u / 16) (omega arith), r.lower u (omega arith))
+    found_first : (v : ℕ) → v < u → Dec (v / 16 ≡ b) → w < get_or K v 0
+    found_first v l (yes f) =
+        let d : get_or K v 0 ≡ w → ⊥ = λ s. q.first.before (v - b * 16) (omega (arith, q.is)) (block_key K b v f ∙ s) in
+        omega (arith, found_least v (omega (arith, q.is, q.first.inside)))
+    found_first v l (no d) =
+        omega (arith, e, p.first (v / 16) (omega (arith, q.is, q.first.inside)), r.lower v (omega (arith, q.is, q.first.inside)))
 
-    -- it is the choice among all keys
-    pub under_found : (get_or K (b * 16 + k) 0 ≡ w) × Picked bound K n (b * 16 + k)
-    under_found =
-        let i = found_inside (dec_lt k (block_size n b)) in
-        let s = found_key i in (
-          s,
-          record {
-            inside = omega arith;
-            below = omega (arith, e, p.below);
-            least = λ u l. omega (arith, found_least u l);
-            first = λ u l. omega (arith, found_first i u l (ℕ_discrete (u / 16) b));
-          },
-        )
+    pub under_found : (get_or K u 0 ≡ w) × Picked bound K n u
+    under_found = (
+      found_key,
+      record {
+        inside = omega (arith, q.is, q.first.inside);
+        below = omega (arith, e, p.below, found_key);
+        least = λ v l. omega (arith, found_least v l, found_key);
+        first = λ v l. omega (arith, found_first v l (ℕ_discrete (v / 16) b), found_key);
+      },
+    )
 
 -- the word of a block is the mark if its keys are
 under_mark : (K W : List ℕ) (m n : ℕ) → Under K W m n → (b : ℕ) → b < m → ((u : ℕ) → u < n → u / 16 ≡ b → get_or K u 0 ≡ mark) → get_or W b 0 ≡ mark
@@ -301,7 +360,7 @@ under_mark K W m n r b l all = go (r.held b l)
     go (inr h) = sym h.key ∙ all h.node h.inside h.block
 
 -- the choice among the upper words is that among those of the first n nodes: the others are the mark
-pub upper_fewer : (bound : ℕ) (C : List ℕ) (n : ℕ) → bound ≤ mark → n ≤ 4096 → Blocked C n
+upper_fewer : (bound : ℕ) (C : List ℕ) (n : ℕ) → bound ≤ mark → n ≤ 4096 → Blocked C n
     → choose_by bound (upper_words C) ((n + 255) / 256) ≡ choose_by bound (upper_words C) 16
 upper_fewer bound C n low few r =
     choose_fewer bound (upper_words C) ((n + 255) / 256) 16 (omega arith)
@@ -311,6 +370,25 @@ upper_fewer bound C n low few r =
       under_mark (block_words C) (upper_words C) 16 256 r.words g l
           (λ b j e. under_mark C (block_words C) 256 n r.keys b j (λ u k f. absurd (omega arith))),
     ))
+
+-- what an upper word says that is picked among those of the first n nodes, which are the words U
+module _ (bound : ℕ) (C U : List ℕ) (n : ℕ) (low : bound ≤ mark) (few : n ≤ 4096) (r : Blocked C n) (long : (n + 255) / 256 ≤ length (upper_words C))
+    (is : U ≡ take ((n + 255) / 256) (upper_words C)) where
+  -- it is picked among all upper words
+  pub upper_picked : (g : ℕ) → Picked bound U (length U) g → Picked bound (upper_words C) 16 g
+  upper_picked g p =
+      let m = (n + 255) / 256 in
+      let here = picked_same bound U (upper_words C) m (part_at (upper_words C) U m long is) g (rw (part_long (upper_words C) U m long is) at p) in
+      choose_picked bound (upper_words C) 16 g (sym (upper_fewer bound C n low few r) ∙ choose_first bound (upper_words C) m g here)
+
+  -- where there is none no key is below the bound
+  pub upper_none : NoneBelow bound U (length U) → NoneBelow bound C n
+  upper_none none =
+      let m = (n + 255) / 256 in
+      let here = none_same bound U (upper_words C) m (part_at (upper_words C) U m long is) (rw (part_long (upper_words C) U m long is) at none) in
+      let upper : choose_by bound (upper_words C) 16 ≡ 0 = sym (upper_fewer bound C n low few r) ∙ choose_none bound (upper_words C) m here in
+      let block = under_none bound (block_words C) (upper_words C) 16 256 (omega arith) low r.words upper in
+      none_chosen bound C n (under_none bound C (block_words C) 256 n (omega (arith, few)) low r.keys block)
 
 -- ---- block words set to the mark
 
@@ -355,6 +433,32 @@ fresh_block C (suc n) b r l = go (below_cases l) (fresh_block C n b (omega arith
     go : (b < n) ⊎ (b ≡ n) → (b < n → get_or (fresh_to C n) (7184 + b) 0 ≡ mark) → get_or (fresh_to C (suc n)) (7184 + b) 0 ≡ mark
     go (inl k) h = get_or-set_other (fresh_to C n) (7184 + n) (7184 + b) mark 0 (λ e. omega arith) ∙ h k
     go (inr e) h = rw e (get_or-set_same (fresh_to C n) (7184 + n) mark 0 (omega (arith, fresh_length C n)))
+
+-- one word more behind b of them from place a on
+mid_more : (C D : List ℕ) (a b v : ℕ) → a + b < length C → D ≡ take a C ++ (replicate b v ++ drop (a + b) C)
+    → set D (a + b) v ≡ take a C ++ (replicate (suc b) v ++ drop (a + suc b) C)
+mid_more C D a b v l e =
+    let next : suc (a + b) ≡ a + suc b = omega arith in
+    let front : length (take a C ++ replicate b v) ≡ a + b =
+    length-append (take a C) (replicate b v) ∙ omega (arith, length-take-le a C (omega arith), length-replicate b v) in
+    ap (λ (xs : List ℕ). set xs (a + b) v) (e ∙ sym (append_assoc (take a C) (replicate b v) (drop (a + b) C)) ∙ ap (λ (xs : List ℕ). (take a C ++ replicate b v) ++ xs) (drop-cons C (a + b) 0 l))
+    ∙ set_at (take a C ++ replicate b v) (get_or C (a + b) 0) (drop (suc (a + b)) C) v (a + b) front
+    ∙ append_assoc (take a C) (replicate b v) (v ∷ drop (suc (a + b)) C)
+    ∙ ap (λ (xs : List ℕ). take a C ++ xs) (sym (append_assoc (replicate b v) (v ∷ []) (drop (suc (a + b)) C)))
+    ∙ rw (replicate_more b v, add-one, next)
+
+-- the words in between are the mark
+pub fresh_mid : (C : List ℕ) (b : ℕ) → 7184 + b ≤ length C → fresh_to C b ≡ take 7184 C ++ (replicate b mark ++ drop (7184 + b) C)
+unfolding fresh_to
+fresh_mid C zero l = sym (take-append-drop 7184 C)
+fresh_mid C (suc b) l = mid_more C (fresh_to C b) 7184 b mark (omega arith) (fresh_mid C b (omega arith))
+
+-- as a slice of that length is set to the mark
+pub fresh_put : (C Y : List ℕ) → length C ≡ 17696 → Y ≡ replicate (length (take 272 (drop 7184 C))) mark → take 7184 C ++ (Y ++ drop 272 (drop 7184 C)) ≡ fresh_to C 272
+fresh_put C Y l e =
+    let many = length-take-le 272 (drop 7184 C) (omega (arith, length-drop 7184 C)) in
+    let behind : drop 272 (drop 7184 C) ≡ drop (7184 + 272) C = drop-drop 272 7184 C in
+    rw (e, many, behind) (sym (fresh_mid C 272 (omega arith)))
 
 -- ---- words at a place
 

@@ -1,5 +1,5 @@
 -- The choice, a turn of the loop at a time, and what it finds. Assumes nothing.
-use Rattle.std.specs.Prelude.{◌≡◌, refl, ◌⊎◌, List}
+use Rattle.std.specs.Prelude.{◌≡◌, refl, ◌⊎◌, Option, None, Some, MatchOption, List}
 use Rattle.std.proofs.Common.{sym, ◌∙◌, not-suc-le-zero}
 use Rattle.std.proofs.Math.Logic.{inl, inr}
 use Prim.Native.Nat.{ℕ, zero, suc, ◌+◌, ◌≤◌, ◌<◌}
@@ -9,7 +9,7 @@ use Rattle.std.proofs.Math.Decide.{dec_lt}
 use borrow.Author.Tests.{lt-ltb, le-ltb}
 use Rattle.std.proofs.Math.ListN.{get_or}
 use Rattle.loops.specs.Count.Laws.{below_cases}
-use Rattle.blocks.specs.Choice.{key_of, choose_by, Picked, Choice}
+use Rattle.blocks.specs.Choice.{key_of, choose_by, NoneBelow, Picked, Choice}
 
 module _ (bound : ℕ) (keys : List ℕ) where
   -- a turn of the loop: the key is less than that of the choice so far
@@ -130,3 +130,30 @@ module _ (bound : ℕ) (keys : List ℕ) where
             least = λ w i. all (get_or keys u 0) (omega (arith, p.below)) p.least w i (dec_lt w m);
             first = p.first;
           }))
+
+  -- the node that is picked is that of the choice, and there is none where the choice is 0
+  pub picked_by : (n : ℕ) (r : Option ℕ) → MatchOption r (NoneBelow bound keys n) (Picked bound keys n)
+      → MatchOption r (choose_by bound keys n ≡ 0) (λ u. choose_by bound keys n ≡ suc u)
+  picked_by n None none = choose_none n none
+  picked_by n (Some u) p = choose_first n u p
+
+  -- no key is below the bound where the choice is 0
+  pub none_chosen : (n : ℕ) → choose_by bound keys n ≡ 0 → NoneBelow bound keys n
+  none_chosen n e = go (choose_cases n)
+    where
+      go : Choice bound keys n (choose_by bound keys n) → NoneBelow bound keys n
+      go (inl (_, none)) = none
+      go (inr (u, (f, p))) = absurd (omega arith)
+
+module _ (bound : ℕ) (keys others : List ℕ) (n : ℕ) (same : (w : ℕ) → w < n → get_or keys w 0 ≡ get_or others w 0) where
+  -- what is picked depends on the first n keys
+  pub none_same : NoneBelow bound keys n → NoneBelow bound others n
+  none_same none w l = rw (same w l) at (none w l)
+
+  pub picked_same : (u : ℕ) → Picked bound keys n u → Picked bound others n u
+  picked_same u p = record {
+    inside = p.inside;
+    below = rw (same u p.inside) at p.below;
+    least = λ w l. rw (same u p.inside, same w l) at (p.least w l);
+    first = λ w l. rw (same u p.inside, same w (omega (arith, p.inside))) at (p.first w l);
+  }

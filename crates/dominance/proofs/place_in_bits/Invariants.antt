@@ -5,7 +5,7 @@ use Rattle.rows.specs.Sign.Bits.{Left}
 use Rattle.dominance.proofs.place_in_bits.Given as goal
 
 abbrev pub invariant-loop-rest : goal.invariant-loop-rest
-invariant-loop-rest l = (l.rest < 2 ^ 64) × Left l.row l.prices l.sign l.rest
+invariant-loop-rest l = (l.rest < 2 ^ 64) × Left l.row l.candidate.prices.now l.candidate.sign l.rest
 
 abbrev pub decreases-loop-rest : goal.decreases-loop-rest
 decreases-loop-rest l = l.rest

@@ -1,13 +1,8 @@
 -- `edges::fill_edges` meets its contract. The invariant: the table has the edges of the first i leaves. Assumes nothing.
-use Rattle.std.proofs.Common.{◌≡◌, ◌-◌, ◌≤◌, length, get_or}
-use Rattle.layer.specs.Lent.{board_of}
+use Rattle.layer.specs.Board.{base_on}
+use Rattle.layer.specs.Held.{board_in}
 use Rattle.edges.specs.Edges.{EdgesTo}
 use Rattle.edges.proofs.fill_edges.Given as goal
 
 abbrev pub invariant-loop-i : goal.invariant-loop-i
-invariant-loop-i l =
-    (l.i ≤ l.leaves) × (length l.edges ≡ length l.initial.edges) × (length l.ends ≡ length l.initial.ends)
-    × EdgesTo (board_of l.leaves l.actions l.bases l.moves l.costs l.kinds l.factors l.conditions) (get_or l.bases l.i 0) l.edges l.ends
-
-abbrev pub decreases-loop-i : goal.decreases-loop-i
-decreases-loop-i l = l.leaves - l.i
+invariant-loop-i l = EdgesTo (board_in l.board) (base_on (board_in l.board) l.i) l.list l.ends

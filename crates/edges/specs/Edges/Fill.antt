@@ -1,14 +1,13 @@
 -- Filling the table, a state at a time. Assumes nothing.
-use Rattle.std.specs.Prelude.{◌≡◌, ◌⊎◌, List, [], ◌∷◌, ◌++◌, ℕ, zero, suc, ◌+◌, ◌-◌, ◌*◌, ◌≤◌, ◌<◌, length, get_or, set, take, drop}
-use Rattle.std.proofs.Common.{sym, ap, ◌∙◌, inl, inr, append_assoc, not-suc-le-zero, suc-mul, mul-le-mul_right, add-one, arith, length-set, length-append, length-take, length-drop, take-take, take_at, drop_at, length-take-le, get_or-set_same, get_or-set_other}
+use Rattle.std.specs.Prelude.{◌≡◌, ◌⊎◌, List, [], ◌∷◌, ℕ, zero, suc, ◌+◌, ◌-◌, ◌*◌, ◌≤◌, ◌<◌, length, get_or, set, take, drop}
+use Rattle.std.proofs.Common.{sym, ap, ◌∙◌, inl, inr, not-suc-le-zero, suc-mul, mul-le-mul_right, add-one, arith, length-set, take-take, get_or-set_same, get_or-set_other}
 use Rattle.std.proofs.Math.Decide.{dec_le}
-use Rattle.std.proofs.Math.Seq.{take-nil, take-append_seam}
+use Rattle.std.proofs.Math.Seq.{take-nil}
 use Rattle.loops.specs.Count.Laws.{below_cases}
 use Rattle.layer.specs.Board.{Board, Sound, base_on, row_on, states_on}
-use Rattle.layer.specs.Board.Turns.{base_up, base_in}
-use Rattle.layer.specs.Lent.{Front}
-use Rattle.edges.specs.Edges.{those, edge_by, edges_at, EdgesTo, Wrote}
-use Rattle.edges.specs.Edges.Those.{those_few}
+use Rattle.layer.specs.Board.Turns.{base_up, base_in, row_in}
+use Rattle.edges.specs.Edges.{those, of_leaf, moved_by, edge_by, edges_in, edges_at, EdgesTo, Wrote}
+use Rattle.edges.specs.Edges.Those.{those_few, those_at, picked_those}
 
 -- ---- parts of a list
 
@@ -24,17 +23,6 @@ part_kept : (xs ys : List ℕ) (f e k : ℕ) → f ≤ e → e ≤ k → take k 
 part_kept xs ys f e k h l same =
     let front : take e xs ≡ take e ys = sym (take-take e k xs l) ∙ ap (take e) same ∙ take-take e k ys l in
     drop_take f (e - f) e xs (omega arith) ∙ ap (drop f) front ∙ sym (drop_take f (e - f) e ys (omega arith))
-
--- what a callee that was lent the rest of a list wrote at its front, said of the whole
-pub wrote_at : (these xs part : List ℕ) (from n : ℕ) → from ≤ length xs → Front these (take (length xs - from) (drop from xs)) n part
-    → length part ≡ length (take (length xs - from) (drop from xs)) → Wrote these from xs (take from xs ++ (part ++ drop (length xs - from) (drop from xs)))
-wrote_at these xs part from n h f k =
-    let before = length-take-le from xs h in
-    record {
-      kept = simp (length-append, length-take, length-drop) (omega (arith, simp (length-take, length-drop) at k));
-      front = take_at (take from xs) _ from before;
-      here = rw (drop_at (take from xs) (part ++ drop (length xs - from) (drop from xs)) from before, f.written, append_assoc) (take-append_seam these _);
-    }
 
 -- ---- states
 
@@ -101,7 +89,7 @@ module _ (b : Board) (sound : Sound b) where
     each j x k m (inl f) = kept (base_on b j + x) f ∙ table.are j x k m f
     each j x k m (inr f) = let same = one_leaf i j s l k h g (omega arith) (omega arith) in rw (f, same) here
 
-    pub edges_more : EdgesTo b (s + 1) after (set ends (s + 1) end)
+    edges_more : EdgesTo b (s + 1) after (set ends (s + 1) end)
     edges_more =
         record {
           edges_long = rw wrote.kept table.edges_long;
@@ -112,6 +100,26 @@ module _ (b : Board) (sound : Sound b) where
         }
 
   -- where the edges of the next state begin, there is room for them
-  pub edges_room : (s : ℕ) (edges ends : List ℕ) → s < row_on b → EdgesTo b s edges ends → get_or ends s 0 + b.actions ≤ length edges
+  edges_room : (s : ℕ) (edges ends : List ℕ) → s < row_on b → EdgesTo b s edges ends → get_or ends s 0 + b.actions ≤ length edges
   edges_room s edges ends h table =
       omega (arith, table.room, suc-mul s b.actions, mul-le-mul_right b.actions h, table.edges_long)
+
+  -- one more state of the leaf behind i leaves, whose actions are listed: the table has room for its edges, and its moves can be read
+  pub state_room : (i s : ℕ) (own edges ends : List ℕ) → i < b.leaves → s < base_on b (i + 1) → own ≡ those (of_leaf b.kinds i) b.actions → EdgesTo b s edges ends
+      → (s + 1 < length ends) × (get_or ends s 0 + length own ≤ length edges)
+      × ((j : ℕ) → j < length own → get_or own j 0 * row_on b + s < length b.moves)
+  state_room i s own edges ends l h are table =
+      let inside : s < row_on b = omega (arith, base_in b sound i l) in
+      let few : length own ≤ b.actions = rw are (those_few (of_leaf b.kinds i) b.actions) in
+      (omega (arith, table.ends_long), omega (arith, edges_room s edges ends inside table), λ j k. omega (arith, row_in b sound (get_or own j 0) (below j k)))
+    where
+      below : (j : ℕ) → j < length own → get_or own j 0 < b.actions
+      below j k = rw are (those_at (of_leaf b.kinds i) b.actions j (rw are at k)).0
+
+  -- and with them the table has the edges of one more state
+  pub state_more : (i s : ℕ) (own edges ends after : List ℕ) → i < b.leaves → base_on b i ≤ s → s < base_on b (i + 1)
+      → own ≡ those (of_leaf b.kinds i) b.actions → EdgesTo b s edges ends → Wrote (edges_in b.moves (row_on b) own s) (get_or ends s 0) edges after
+      → EdgesTo b (s + 1) after (set ends (s + 1) (get_or ends s 0 + length (edges_in b.moves (row_on b) own s)))
+  state_more i s own edges ends after l h g are table wrote =
+      let those_are = picked_those (moved_by b.moves (row_on b) s) (of_leaf b.kinds i) b.actions in
+      edges_more i s l h g edges ends after _ (rw are those_are) table wrote

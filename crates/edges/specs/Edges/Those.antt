@@ -1,7 +1,7 @@
 -- Laws of the numbers below n that pass a test, and of the entries of a list that do. Assumes nothing.
-use Rattle.std.specs.Prelude.{◌≡◌, ◌⊎◌, Bool, cond, ◌&&◌, get_or, set, drop}
+use Rattle.std.specs.Prelude.{◌≡◌, ◌⊎◌, Bool, cond, ◌&&◌, get_or, set}
 use Rattle.std.proofs.Math.Path.{refl, sym, ap}
-use Rattle.std.proofs.Common.{◌∙◌, inl, inr, true≢false, not-suc-le-zero, add-one, length-drop}
+use Rattle.std.proofs.Common.{◌∙◌, inl, inr, true≢false, not-suc-le-zero, add-one}
 use Rattle.std.proofs.Math.Bool.{true, false}
 use mathlib.Core.List.{List, [], ◌∷◌, ◌++◌}
 use Prim.Native.Nat.{ℕ, zero, suc, ◌+◌, ◌≤◌, ◌<◌}
@@ -25,15 +25,6 @@ placed_more {xs} ys p =
     record { at = p.at; inside = simp length-append (omega (arith, p.inside)); is = get_or-append xs ys 0 p.at p.inside ∙ p.is }
 
 module _ (p : ℕ → Bool) where
-  -- one more number, which passes or does not
-  pub those_here : (a : ℕ) → p a ≡ true → those p (a + 1) ≡ those p a ++ (a ∷ [])
-  unfolding those
-  those_here a e = rw (add-one, those, e)
-
-  pub those_not : (a : ℕ) → p a ≡ false → those p (a + 1) ≡ those p a
-  unfolding those
-  those_not a e = rw (add-one, those, e)
-
   -- there are no more of them than numbers
   pub those_few : (n : ℕ) → length (those p n) ≤ n
   unfolding those
@@ -78,15 +69,6 @@ module _ (p : ℕ → Bool) where
 -- ---- picking from a list
 
 module _ (p : ℕ → Bool) where
-  -- one more entry, which passes or does not
-  pub picked_here : (xs : List ℕ) (j : ℕ) → p (get_or xs j 0) ≡ true → picked p xs (j + 1) ≡ picked p xs j ++ (get_or xs j 0 ∷ [])
-  unfolding picked
-  picked_here xs j e = rw (add-one, picked, e)
-
-  pub picked_not : (xs : List ℕ) (j : ℕ) → p (get_or xs j 0) ≡ false → picked p xs (j + 1) ≡ picked p xs j
-  unfolding picked
-  picked_not xs j e = rw (add-one, picked, e)
-
   -- what stands behind the first n entries does not count
   picked_front : (xs ys : List ℕ) (n : ℕ) → n ≤ length xs → picked p (xs ++ ys) n ≡ picked p xs n
   unfolding picked
@@ -114,11 +96,30 @@ module _ (p : ℕ → Bool) where
 
 -- ---- a list written at the front of another
 
+-- before the first entry
+pub front_none : (xs : List ℕ) → Front [] xs 0 xs
+front_none xs = record { many = refl; written = refl }
+
 -- one more entry is written
-pub front_more : {E xs acts : List ℕ} {n : ℕ} (a : ℕ) → n < length xs → Front E xs n acts → Front (E ++ (a ∷ [])) xs (n + 1) (set acts n a)
+front_more : {E xs acts : List ℕ} {n : ℕ} (a : ℕ) → n < length xs → Front E xs n acts → Front (E ++ (a ∷ [])) xs (n + 1) (set acts n a)
 front_more {E} {xs} {acts} {n} a h f =
     record { many = simp length-append (omega (arith, f.many)); written = rw f.written (push_more E xs n a f.many h) }
 
--- no more is written than there is room for
-pub front_fits : {E xs acts : List ℕ} {n : ℕ} → Front E xs n acts → length acts ≡ length xs → n ≤ length xs
-front_fits {E} {xs} {acts} {n} f k = omega (arith, f.many, ap length f.written ∙ length-append E (drop n xs), length-drop n xs, k)
+-- one more entry is written where it passes
+front_turn : {E xs acts acts' : List ℕ} {n n' : ℕ} (t : Bool) (a : ℕ) → n < length xs → Front E xs n acts
+    → (t ≡ true → (acts' ≡ set acts n a) × (n' ≡ n + 1)) → (t ≡ false → (acts' ≡ acts) × (n' ≡ n)) → Front (cond t (E ++ (a ∷ [])) E) xs n' acts'
+front_turn true a h f here not = let e = here refl in rw (e.0, e.1) (front_more a h f)
+front_turn false a h f here not = let e = not refl in rw (e.0, e.1) f
+
+-- one more number that passes or does not
+pub those_turn : (p : ℕ → Bool) (a : ℕ) (xs acts acts' : List ℕ) (n n' : ℕ) → n < length xs → Front (those p a) xs n acts
+    → (p a ≡ true → (acts' ≡ set acts n a) × (n' ≡ n + 1)) → (p a ≡ false → (acts' ≡ acts) × (n' ≡ n)) → Front (those p (a + 1)) xs n' acts'
+unfolding those
+those_turn p a xs acts acts' n n' h f here not = rw add-one (front_turn (p a) a h f here not)
+
+-- one more entry of a list
+pub picked_turn : (p : ℕ → Bool) (own : List ℕ) (j : ℕ) (xs acts acts' : List ℕ) (n n' : ℕ) → n < length xs → Front (picked p own j) xs n acts
+    → (p (get_or own j 0) ≡ true → (acts' ≡ set acts n (get_or own j 0)) × (n' ≡ n + 1)) → (p (get_or own j 0) ≡ false → (acts' ≡ acts) × (n' ≡ n))
+    → Front (picked p own (j + 1)) xs n' acts'
+unfolding picked
+picked_turn p own j xs acts acts' n n' h f here not = rw add-one (front_turn (p (get_or own j 0)) (get_or own j 0) h f here not)

@@ -1,5 +1,5 @@
 -- The cases of a turn and of an expansion by tables, one law for each. Assumes nothing.
-use Rattle.std.specs.Prelude.{◌≡◌, refl, ◌⊎◌, Bool, not, List, ◌++◌, length, get_or, take, drop}
+use Rattle.std.specs.Prelude.{◌≡◌, refl, ◌⊎◌, Bool, not, List, ◌++◌, length, get_or, take, drop, Result, Ok, Err, is_err, IsErr}
 use Rattle.std.proofs.Math.Path.{sym}
 use Rattle.std.proofs.Common.{ap, ◌∙◌, inl, inr, lt_of_lt_of_le, add-one, take_at}
 use Rattle.std.proofs.Math.Bool.{true, false}
@@ -33,11 +33,11 @@ use Rattle.search.specs.Explore.Detours.{Sprung, detour_turn}
 use Rattle.rows.specs.Row.{node_in}
 use Rattle.keys.specs.Scan.{key_by}
 use Rattle.offers.specs.declared.Run.{Run}
-use Rattle.offers.specs.declared.Turned.{Turned}
+use Rattle.offers.specs.declared.Full.{Full}
 use Rattle.begins.specs.Begin.{key_rises}
 use Rattle.hops.specs.Hops.{HopOn}
 use Rattle.expand.specs.Held.{Suits, expanded_of, Aside, Useful, Moved, Grown, Done}
-use Rattle.offers.specs.Held.{search_of, Cached, Scans, Room, Has, Stands, settled_words, begun_node, settled_node, Alike, Offered}
+use Rattle.offers.specs.Held.{search_of, run_of, Cached, Scans, Room, Has, Stands, settled_words, begun_node, settled_node, Alike, Offered}
 use Rattle.offers.specs.Held.Offers.{went_same}
 use Rattle.offers.specs.Held.Laws.{kept_length, node_at_lem, below_is, key_any, goal_is}
 
@@ -81,11 +81,11 @@ module _ (b : Board) (effects goals goalPairs : List ℕ) where
       met_here = rw (node_here, held.spot_is) (sym (met_on_lem t b suits.fits spot a))
 
     -- the action is no centre action
-    pub moved_leaf : (get_or b.kinds a 0 ≡ 0 → ⊥) → Moved b effects goals goalPairs nodes spot paid old opens u a T O r T O (record { full = false; run = r })
+    pub moved_leaf : (get_or b.kinds a 0 ≡ 0 → ⊥) → Moved b effects goals goalPairs nodes spot paid old opens u a T O r T O (Ok r)
     unfolding turn
     moved_leaf h =
         record {
-          went = went_same (row_on b) nodes T O r false room;
+          went = went_same (row_on b) nodes T O r (Ok r) refl room;
           moved = λ t suits v held has is_key.
               let no : centre_action t a ≡ false = sym (suits.fits.kinds_centre a (known_in t suits has)) ∙ ne_eqb _ _ h in
               record { said = rw (no, turn); held = held };
@@ -98,11 +98,11 @@ module _ (b : Board) (effects goals goalPairs : List ℕ) where
 
       -- the node's key and the action's cost are not below best
       pub moved_above : (low : ℕ) → low ≡ min (opens + get_or b.costs a 0) mark → r.best_cost ≤ low
-          → Moved b effects goals goalPairs nodes spot paid old opens u a T O r T O (record { full = false; run = r })
+          → Moved b effects goals goalPairs nodes spot paid old opens u a T O r T O (Ok r)
       unfolding turn offer
       moved_above low isLow h =
           record {
-            went = went_same (row_on b) nodes T O r false room;
+            went = went_same (row_on b) nodes T O r (Ok r) refl room;
             moved = λ t suits v held has is_key. record { said = said t suits v held has is_key _ refl; held = held };
           }
         where
@@ -125,11 +125,11 @@ module _ (b : Board) (effects goals goalPairs : List ℕ) where
           said t suits v held has is_key false e = rw (centred t suits has, e, turn)
 
       -- in some leaf no state that is reached passes
-      pub moved_stuck : applies_on b spot old a ≡ false → Moved b effects goals goalPairs nodes spot paid old opens u a T O r T O (record { full = false; run = r })
+      pub moved_stuck : applies_on b spot old a ≡ false → Moved b effects goals goalPairs nodes spot paid old opens u a T O r T O (Ok r)
       unfolding turn
       moved_stuck h =
           record {
-            went = went_same (row_on b) nodes T O r false room;
+            went = went_same (row_on b) nodes T O r (Ok r) refl room;
             moved = λ t suits v held has is_key. record { said = rw (centred t suits has, stuck t suits has, turn); held = held };
           }
         where
@@ -141,11 +141,11 @@ module _ (b : Board) (effects goals goalPairs : List ℕ) where
 
       module _ (able : Bool) (isAble : able ≡ met_on b spot a) where
         -- its centre conditions do not hold
-        pub moved_unmet : not able ≡ true → Moved b effects goals goalPairs nodes spot paid old opens u a T O r T O (record { full = false; run = r })
+        pub moved_unmet : not able ≡ true → Moved b effects goals goalPairs nodes spot paid old opens u a T O r T O (Ok r)
         unfolding turn applies_to
         moved_unmet h =
             record {
-              went = went_same (row_on b) nodes T O r false room;
+              went = went_same (row_on b) nodes T O r (Ok r) refl room;
               moved = λ t suits v held has is_key. record { said = rw (centred t suits has, met_here t suits has ∙ told_false isAble h, turn); held = held };
             }
 
@@ -156,7 +156,7 @@ module _ (b : Board) (effects goals goalPairs : List ℕ) where
             (isNext : next ≡ begin_on b a old ++ rest)
             (isCost : spent ≡ min (paid + get_or b.costs a 0) mark)
             (its : ℕ) (isIts : opens ≡ key_by b.leaves b.bases paid old → its ≡ key_by b.leaves b.bases spent next)
-            (T' O' : List ℕ) (w : Turned) (o : Offered b goals goalPairs nodes T O r behind spent next u a its T' O' w) where
+            (T' O' : List ℕ) (w : Result Run Full) (o : Offered b goals goalPairs nodes T O r behind spent next u a its T' O' w) where
           module _ (t : Task) (suits : Suits t b effects goals goalPairs) (v : Base t nodes here) (held : Cached t (row_on b) T O r)
               (has : Has (node_in (row_on b) T u) spot paid (take (row_on b) old)) (is_key : opens ≡ key_by b.leaves b.bases paid old) where
             -- node u
@@ -358,7 +358,7 @@ module _ (b : Board) (effects goals goalPairs : List ℕ) (nodes u opens : ℕ) 
 
   -- the turn of action a, from there on
   module _ (spot : Centre) (paid : ℕ) (old : List ℕ) (has : Has (node_in (row_on b) T₀ u) spot paid (take (row_on b) old)) (within : u < r₀.count)
-      (T O : List ℕ) (r : Run) (a : ℕ) (known : a < b.actions) (l : Passed T O r a) (T' O' : List ℕ) (w : Turned)
+      (T O : List ℕ) (r : Run) (a : ℕ) (known : a < b.actions) (l : Passed T O r a) (T' O' : List ℕ) (w : Result Run Full)
       (m : Moved b effects goals goalPairs nodes spot paid old opens u a T O r T' O' w) where
     -- for a task: what is left before the turn, and what it gave
     module _ (t : Task) (suits : Suits t b effects goals goalPairs) (v : Base t nodes (search_of (row_on b) T₀ O₀ r₀)) (held : Cached t (row_on b) T₀ O₀ r₀)
@@ -380,12 +380,12 @@ module _ (b : Board) (effects goals goalPairs : List ℕ) (nodes u opens : ℕ) 
       one = omega (arith, suits.fits.actions_is)
 
       -- what is left behind it
-      behind : w.full ≡ false → Left t nodes u (row_on b) T₀ O₀ r₀ T' O' w.run (a + 1)
+      behind : is_err w ≡ false → Left t nodes u (row_on b) T₀ O₀ r₀ T' O' (run_of w) (a + 1)
       behind e =
           let here = search_of (row_on b) T O r in
           let inside : u < r.count = omega (arith, l.more) in
           let kept : u < length here.kept = omega (arith, kept_length (row_on b) T O r) in
-          let q : turn t nodes u a here ≡ on (search_of (row_on b) T' O' w.run) = rw e at gave.said in
+          let q : turn t nodes u a here ≡ on (search_of (row_on b) T' O' (run_of w)) = rw e at gave.said in
           let (z, _) = turn_on t nodes u a here before.base kept one q in
           record {
             whole = before.whole ∙ expand_more t nodes u t.actions a _ _ one q;
@@ -393,16 +393,16 @@ module _ (b : Board) (effects goals goalPairs : List ℕ) (nodes u opens : ℕ) 
             grows = grows_on t before.grows z.grows;
             held = gave.held;
             node =
-                sym (node_at_lem (row_on b) T' O' w.run t u (omega (arith, m.went.more)))
+                sym (node_at_lem (row_on b) T' O' (run_of w) t u (omega (arith, m.went.more)))
                 ∙ z.grows.node u kept
                 ∙ node_at_lem (row_on b) T O r t u inside
                 ∙ before.node;
           }
 
       -- the table was full
-      ended : w.full ≡ true
-          → (expand t nodes u t.actions 0 (search_of (row_on b) T₀ O₀ r₀) ≡ expanded_of w (search_of (row_on b) T' O' w.run))
-          × Cached t (row_on b) T' O' w.run
+      ended : IsErr w
+          → (expand t nodes u t.actions 0 (search_of (row_on b) T₀ O₀ r₀) ≡ expanded_of w (search_of (row_on b) T' O' (run_of w)))
+          × Cached t (row_on b) T' O' (run_of w)
       ended e = (
         before.whole
             ∙ expand_full t nodes u t.actions a (search_of (row_on b) T O r) one (rw e at gave.said)
@@ -411,7 +411,7 @@ module _ (b : Board) (effects goals goalPairs : List ℕ) (nodes u opens : ℕ) 
       )
 
     -- a turn more
-    pub passed_more : w.full ≡ false → length T' ≡ length T → length O' ≡ length O → Passed T' O' w.run (a + 1)
+    pub passed_more : is_err w ≡ false → length T' ≡ length T → length O' ≡ length O → Passed T' O' (run_of w) (a + 1)
     passed_more e p q =
         record {
           inside = omega arith;
@@ -432,7 +432,7 @@ module _ (b : Board) (effects goals goalPairs : List ℕ) (nodes u opens : ℕ) 
         }
 
     -- the table was full at it
-    pub passed_full : w.full ≡ true
+    pub passed_full : IsErr w
         → Grown b nodes r₀ T' O' w × Done b effects goals goalPairs nodes u opens T₀ O₀ r₀ T' O' w
     passed_full e = (
       (omega (arith, l.more, m.went.more), m.went.room, m.went.begun_is ∙ l.begun_is, m.went.chained l.room.chained),
@@ -443,7 +443,7 @@ module _ (b : Board) (effects goals goalPairs : List ℕ) (nodes u opens : ℕ) 
   module _ (spot : Centre) (paid : ℕ) (old : List ℕ) (has : Has (node_in (row_on b) T₀ u) spot paid (take (row_on b) old)) (within : u < r₀.count)
       (T O : List ℕ) (r : Run) where
     passed_unmet : (a : ℕ) → a < b.actions → met_on b spot a ≡ false → Passed T O r a → Passed T O r (a + 1)
-    passed_unmet a known e l = passed_more spot paid old has within T O r a known l T O (record { full = false; run = r }) (moved (ℕ_discrete (get_or b.kinds a 0) 0)) refl refl refl
+    passed_unmet a known e l = passed_more spot paid old has within T O r a known l T O (Ok r) (moved (ℕ_discrete (get_or b.kinds a 0) 0)) refl refl refl
       where
         few : nodes ≤ 4096
         few = l.room.few_nodes
@@ -451,7 +451,7 @@ module _ (b : Board) (effects goals goalPairs : List ℕ) (nodes u opens : ℕ) 
         inside : u < r.count
         inside = omega (arith, l.more)
 
-        moved : Dec (get_or b.kinds a 0 ≡ 0) → Moved b effects goals goalPairs nodes spot paid old opens u a T O r T O (record { full = false; run = r })
+        moved : Dec (get_or b.kinds a 0 ≡ 0) → Moved b effects goals goalPairs nodes spot paid old opens u a T O r T O (Ok r)
         moved (yes k) = moved_unmet b effects goals goalPairs nodes spot paid old opens u a T O r few l.room.count_few known inside k false (sym e) refl
         moved (no k) = moved_leaf b effects goals goalPairs nodes spot paid old opens u a T O r few l.room.count_few known inside k
 
@@ -512,7 +512,7 @@ module _ (b : Board) (effects goals goalPairs : List ℕ) (nodes u opens : ℕ) 
 
   -- behind the last action
   pub passed_all : (T O : List ℕ) (r : Run) (a : ℕ) → b.actions ≤ a → Passed T O r a
-      → Grown b nodes r₀ T O (record { full = false; run = r }) × Done b effects goals goalPairs nodes u opens T₀ O₀ r₀ T O (record { full = false; run = r })
+      → Grown b nodes r₀ T O (Ok r) × Done b effects goals goalPairs nodes u opens T₀ O₀ r₀ T O (Ok r)
   passed_all T O r a end l = (
     (l.more, l.room.count_few, l.begun_is, l.room.chained),
     λ t suits. rw (← row_on_lem t b suits.fits) (λ v held is_key sprung. last t suits (l.along t suits v held is_key sprung)),

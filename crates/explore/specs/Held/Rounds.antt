@@ -1,5 +1,5 @@
 -- Rounds of the search that a table and its open keys hold: the choice, the begin of an expansion, what is left of the search. Assumes nothing.
-use Rattle.std.specs.Prelude.{◌≡◌, ◌⊎◌, Bool, true, false, cond, ◌&&◌, List, eqb, length, set}
+use Rattle.std.specs.Prelude.{◌≡◌, ◌⊎◌, Bool, true, false, cond, ◌&&◌, List, eqb, length, set, Result, Ok, Err, is_err, IsErr}
 use Rattle.std.proofs.Math.Path.{refl, ap}
 use Rattle.std.proofs.Common.{sym, ◌∙◌, inl, inr, length-set, get_or-set_same, get_or-set_other, ext_get_or}
 use Rattle.std.proofs.Math.Bool.{and-false}
@@ -32,12 +32,11 @@ use Rattle.nodes.specs.Chain.{Chained}
 use Rattle.nodes.specs.Chain.Laws.{chained_retire}
 use Rattle.blocks.specs.Choice.{key_of, choose_by}
 use Rattle.offers.specs.declared.Run.{Run}
-use Rattle.offers.specs.declared.Turned.{Turned}
-use Rattle.explore.specs.declared.Round.{Round}
-use Rattle.explore.specs.declared.Round.TheVariants.{Stops, Goes}
+use Rattle.offers.specs.declared.Full.{Full}
+use Rattle.explore.specs.declared.Stop.{Stop}
 use Rattle.expand.specs.Held.{Suits, expanded_of}
 use Rattle.explore.specs.Held.{stopped_of}
-use Rattle.offers.specs.Held.{search_of, Cached, Room}
+use Rattle.offers.specs.Held.{search_of, run_of, Cached, Room}
 use Rattle.offers.specs.Held.Laws.{kept_length, node_at_lem, below_is, best_cap}
 
 -- ---- the flags
@@ -295,14 +294,14 @@ module _ (t : Task) (ok : Valid t) (nodes : ℕ) (few : nodes ≤ 4096) (budget 
       not_spent : eqb (search_of S T O r).begun budget ≡ false
       not_spent = ne_eqb (search_of S T O r).begun budget (λ q. d (sym (begun_is S T O r) ∙ q))
 
-      module _ (w : Turned) (T' O' : List ℕ)
+      module _ (w : Result Run Full) (T' O' : List ℕ)
           (h : Base t nodes (search_of S T P (begun r)) → Cached t S T P (begun r) → get_or O u 0 ≡ min (key t (node_in S T u)) mark
           → (0 < u → Sprung t (search_of S T P (begun r)) u)
-          → (expand t nodes u t.actions 0 (search_of S T P (begun r)) ≡ expanded_of w (search_of S T' O' w.run))
-          × Cached t S T' O' w.run) where
+          → (expand t nodes u t.actions 0 (search_of S T P (begun r)) ≡ expanded_of w (search_of S T' O' (run_of w)))
+          × Cached t S T' O' (run_of w)) where
         -- the expansion by the table is that of the round
-        expands : (expand t nodes u t.actions 0 (begin u (search_of S T O r)) ≡ expanded_of w (search_of S T' O' w.run))
-            × Cached t S T' O' w.run
+        expands : (expand t nodes u t.actions 0 (begin u (search_of S T O r)) ≡ expanded_of w (search_of S T' O' (run_of w)))
+            × Cached t S T' O' (run_of w)
         expands =
             let v : Base t nodes (search_of S T P (begun r)) = rw begins (begin_base t nodes u (search_of S T O r) a.holds.base) in
             let waited = waiting t ok nodes few S T O r a.holds.base a.cached u waits_chosen in
@@ -314,24 +313,24 @@ module _ (t : Task) (ok : Valid t) (nodes : ℕ) (few : nodes ≤ 4096) (budget 
             (ap (expand t nodes u t.actions 0) (sym begins) ∙ x, c)
 
         -- it found the table full
-        pub ahead_full : w.full ≡ true → (stopped tableFull S T' O' w.run ≡ explored t nodes budget) × Cached t S T' O' w.run
+        pub ahead_full : IsErr w → (stopped tableFull S T' O' (run_of w) ≡ explored t nodes budget) × Cached t S T' O' (run_of w)
         unfolding explore
         ahead_full f =
             let p = chosen e in
-            let x : expand t nodes u t.actions 0 (begin u (search_of S T O r)) ≡ filled (search_of S T' O' w.run) = expands.0 ∙ rw f in
+            let x : expand t nodes u t.actions 0 (begin u (search_of S T O r)) ≡ filled (search_of S T' O' (run_of w)) = expands.0 ∙ rw f in
             (rw (p, not_spent, x, explore) at ahead_more, expands.1)
 
         -- it went through all actions
-        pub ahead_on : w.full ≡ false → w.run.begun ≡ r.begun + 1 → Chained S T' O' w.run.count → Ahead t nodes budget S T' O' w.run
+        pub ahead_on : is_err w ≡ false → (run_of w).begun ≡ r.begun + 1 → Chained S T' O' (run_of w).count → Ahead t nodes budget S T' O' (run_of w)
         unfolding explore
         ahead_on f n chained =
             let p = chosen e in
-            let x : expand t nodes u t.actions 0 (begin u (search_of S T O r)) ≡ through (search_of S T' O' w.run) = expands.0 ∙ rw f in
-            let m : nodes - r.begun ≡ suc nodes - w.run.begun = omega arith in
+            let x : expand t nodes u t.actions 0 (begin u (search_of S T O r)) ≡ through (search_of S T' O' (run_of w)) = expands.0 ∙ rw f in
+            let m : nodes - r.begun ≡ suc nodes - (run_of w).begun = omega arith in
             record {
-              holds = round_holds t nodes u (search_of S T O r) (search_of S T' O' w.run) a.holds waits_chosen x;
-              rooted = round_through t nodes (search_of S T O r) (search_of S T' O' w.run) u a.rooted p x;
-              ones_is = omega (arith, round_ones t nodes u (search_of S T O r) (search_of S T' O' w.run) a.holds waits_chosen x, a.ones_is);
+              holds = round_holds t nodes u (search_of S T O r) (search_of S T' O' (run_of w)) a.holds waits_chosen x;
+              rooted = round_through t nodes (search_of S T O r) (search_of S T' O' (run_of w)) u a.rooted p x;
+              ones_is = omega (arith, round_ones t nodes u (search_of S T O r) (search_of S T' O' (run_of w)) a.holds waits_chosen x, a.ones_is);
               cached = expands.1;
               chained = chained;
               rest = rw (p, not_spent, x, explore, m) at ahead_more;
@@ -340,9 +339,9 @@ module _ (t : Task) (ok : Valid t) (nodes : ℕ) (few : nodes ≤ 4096) (budget 
 -- ---- the loop
 
 -- what a round leaves, where b expansions had begun: the search stops as it has to, or the rest of it is ahead
-abbrev pub Rounded : Task → ℕ → ℕ → ℕ → ℕ → List ℕ → List ℕ → Round → Type 0
-Rounded t nodes budget b S T O (Stops r) = (stopped_of S T O r ≡ explored t nodes budget) × Cached t S T O r.run
-Rounded t nodes budget b S T O (Goes r) = Ahead t nodes budget S T O r × (r.begun ≡ b + 1)
+abbrev pub Rounded : Task → ℕ → ℕ → ℕ → ℕ → List ℕ → List ℕ → Result Run Stop → Type 0
+Rounded t nodes budget b S T O (Err r) = (stopped_of S T O r ≡ explored t nodes budget) × Cached t S T O r.run
+Rounded t nodes budget b S T O (Ok r) = Ahead t nodes budget S T O r × (r.begun ≡ b + 1)
 
 -- the rest is ahead as it was, for every task that the tables suit
 abbrev pub AheadBy : Board → List ℕ → List ℕ → List ℕ → ℕ → ℕ → List ℕ → List ℕ → Run → List ℕ → List ℕ → Run → Type 0

@@ -1,8 +1,9 @@
 -- The search at its start: node 0 kept in an empty table. Assumes nothing.
-use Rattle.std.specs.Prelude.{◌≡◌, true, List, ◌++◌, ℕ, ◌+◌, ◌<◌, length, get_or}
+use Rattle.std.specs.Prelude.{◌≡◌, true, List, ◌++◌, ℕ, ◌+◌, ◌<◌, length, get_or, None}
 use Rattle.std.proofs.Math.Path.{refl}
 use Rattle.std.proofs.Common.{ap, ◌∙◌, arith, take_at}
 use Rattle.std.proofs.Math.ListN.{take}
+use Rattle.std.proofs.lemmas.Option.{none-some}
 use Rattle.loops.specs.Count.{list}
 use Rattle.task.specs.declared.Task.{Task}
 use Rattle.task.specs.declared.Centre.{Centre}
@@ -51,7 +52,7 @@ tables_suit t ok bases moves costs kinds starts goals h g f c =
 
 -- its run
 abbrev pub no_run : Run
-no_run = record { count = 0; begun = 0; best = 0; best_cost = mark }
+no_run = record { count = 0; begun = 0; best = None; best_cost = mark }
 
 module _ (t : Task) (S : ℕ) (T O : List ℕ) where
   -- it has what every search has
@@ -61,7 +62,7 @@ module _ (t : Task) (S : ℕ) (T O : List ℕ) where
 
   -- it has no keys
   none_cached : Cached t S T O no_run
-  none_cached = record { keys = λ u l. absurd (omega arith); none = λ _. refl; some = λ u e. absurd (omega arith) }
+  none_cached = record { keys = λ u l. absurd (omega arith); none = λ _. refl; some = λ u e. absurd (none-some u e) }
 
   -- with node 0 it is the search at its start
   none_start : keep t (search_of S T O no_run) (first_node t) ≡ start t

@@ -8,10 +8,10 @@ pub returns-then-not-is_met : goal.returns-then-not-is_met
 unfolding goal_cost_by
 returns-then-not-is_met c =
     let a = c.args in
-    rw (sym (c.is_met.ensures ∙ goal_met a.factors a.goal a.spot) ∙ c.if-not-is_met.true)
+    rw (sym (c.is_met.ensures ∙ goal_met a.board.now.factors a.goal a.spot) ∙ c.if-not-is_met.true)
 
 pub returns : goal.returns
 unfolding goal_cost_by
 returns c =
     let a = c.args in
-    rw (sym (c.is_met.ensures ∙ goal_met a.factors a.goal a.spot) ∙ c.if-not-is_met.false) c.goal_sum.ensures
+    rw (sym (c.is_met.ensures ∙ goal_met a.board.now.factors a.goal a.spot) ∙ c.if-not-is_met.false) c.goal_sum.ensures

@@ -8,7 +8,7 @@ use Rattle.keys.proofs.least_goal.Goals as goal
 
 pub loop-k-init : goal.loop-k-init
 unfolding least_of list
-loop-k-init c = (refl, omega arith, refl)
+loop-k-init c = refl
 
 pub loop-k-preserved : goal.loop-k-preserved
 loop-k-preserved c =
@@ -18,11 +18,11 @@ loop-k-preserved c =
     let more = least_list_more f l.k in
     let here = goal_here a.goals.now a.prices.now l.k (omega arith) in
     let none = goal_not a.goals.now a.prices.now l.k in
-    (refl, omega arith, grind (arith, more, here, none, l.invariant.2, least_of_cap (list l.k f)))
+    grind (arith, more, here, none, l.invariant, least_of_cap (list l.k f))
 
 pub returns : goal.returns
 unfolding goals_by
 returns c =
     let l = c.loop-k in
     let all : l.k ≡ length c.args.prices.now = omega arith in
-    l.invariant.2 ∙ rw all
+    l.invariant ∙ rw all

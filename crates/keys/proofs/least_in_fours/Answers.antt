@@ -14,8 +14,8 @@ loop-j-preserved c =
     let next : (l.j + 1) * 4 ≡ l.j * 4 + 4 = omega arith in
     let room : l.j * 4 + 4 ≤ length P = omega (arith, c.requires, c.loop-j-test.true) in (
       omega arith,
-      c.lesser-low.ensures
-          ∙ rw (next, c.lesser.ensures, c.lesser-first.ensures, c.lesser-second.ensures, l.invariant.1) (sym (least_four_more P (l.j * 4) room)),
+      c.min-low.ensures
+          ∙ rw (next, c.min.ensures, c.min-first.ensures, c.min-second.ensures, l.invariant.1) (sym (least_four_more P (l.j * 4) room)),
     )
 
 pub returns : goal.returns

@@ -1,120 +1,50 @@
-use Rattle.std.proofs.Common.{◌≡◌, ◌∙◌, ℕ, ◌+◌, ◌*◌, ◌-◌, ◌≤◌, arith, length}
-use Rattle.layer.specs.Board.{Board, base_on, row_on, pass_on, begin_on}
-use Rattle.layer.specs.Board.Turns.{base_in, moves_here, moves_stay, leaf_passed, part_length, laid_none, laid_more, laid_unreached}
-use Rattle.layer.specs.Lent.{board_of}
+use Rattle.std.proofs.Common.{◌≡◌, sym, ◌∙◌, ◌+◌, ◌*◌, ◌-◌, ◌≤◌, arith, length}
+use Rattle.layer.specs.Board.{row_on, pass_on, begin_on}
+use Rattle.layer.specs.Board.Turns.{moves_here, moves_stay, leaf_passed, part_length, laid_none, laid_more, laid_unreached}
+use Rattle.layer.specs.Held.{board_in}
 use Rattle.layer.proofs.begin_layer.Goals as goal
+use Rattle.layer.proofs.begin_layer.Goals.{After-leaf-states}
+use Rattle.layer.proofs.begin_layer.Invariants.{leaf}
 
 pub loop-i-init : goal.loop-i-init
-loop-i-init c =
-    (omega arith, laid_none _ _ _ c.requires.0.bases_first)
+loop-i-init c = (omega arith, laid_none _ _ _ c.args.board.now.sound.bases_first)
 
-pub offset_bounds-old-from : goal.offset_bounds-old-from
-offset_bounds-old-from c =
-    let board : Board = let a = c.args in board_of a.leaves a.actions a.bases.now a.moves.now a.costs.now a.kinds.now a.factors a.conditions.now in
-    let from : ℕ = base_on board c.loop-i.i in
-    let to : ℕ = base_on board (c.loop-i.i + 1) in
-    let room : (from ≤ to) × (to ≤ 1024) × (to ≤ length c.args.old.now) × (to ≤ length c.loop-i.new) × (to ≤ row_on board) = let i = c.loop-i.i in let end = base_in board c.requires.0 i c.loop-i-test.true in let rise = c.requires.0.bases_rise i c.loop-i-test.true in omega (arith, end, rise, c.requires.0.few_all, c.requires.2, c.requires.3, c.loop-i.invariant.1.kept) in
-    omega (arith, room)
+-- the action's moves of the leaf lie within the moves
+in_moves : (c : After-leaf-states) → c.args.action * c.states-row.result + c.leaf-states.result.start + (c.leaf-states.result.end - c.leaf-states.result.start)
+    ≤ length c.args.board.now.moves.now
+in_moves c =
+    let s = c.leaf-states.ensures in
+    rw (c.states-row.ensures.is, s.begins, s.stops) (moves_here (board_in c.args.board.now) c.args.board.now.sound c.loop-i.i c.args.action c.loop-i-test.true c.requires.0)
 
-pub slice_bounds-pass-count : goal.slice_bounds-pass-count
-slice_bounds-pass-count c =
-    let board : Board = let a = c.args in board_of a.leaves a.actions a.bases.now a.moves.now a.costs.now a.kinds.now a.factors a.conditions.now in
-    let from : ℕ = base_on board c.loop-i.i in
-    let to : ℕ = base_on board (c.loop-i.i + 1) in
-    let room : (from ≤ to) × (to ≤ 1024) × (to ≤ length c.args.old.now) × (to ≤ length c.loop-i.new) × (to ≤ row_on board) = let i = c.loop-i.i in let end = base_in board c.requires.0 i c.loop-i-test.true in let rise = c.requires.0.bases_rise i c.loop-i-test.true in omega (arith, end, rise, c.requires.0.few_all, c.requires.2, c.requires.3, c.loop-i.invariant.1.kept) in
-    omega (arith, room)
+pub overflow_mul-at : goal.overflow_mul-at
+overflow_mul-at c = omega (arith, c.well_formed, in_moves (goal.at.overflow_mul-at c).After-leaf-states)
 
-pub slice_bounds-pass-start : goal.slice_bounds-pass-start
-slice_bounds-pass-start c =
-    let board : Board = let a = c.args in board_of a.leaves a.actions a.bases.now a.moves.now a.costs.now a.kinds.now a.factors a.conditions.now in
-    let from : ℕ = base_on board c.loop-i.i in
-    let to : ℕ = base_on board (c.loop-i.i + 1) in
-    let room : (from ≤ to) × (to ≤ 1024) × (to ≤ length c.args.old.now) × (to ≤ length c.loop-i.new) × (to ≤ row_on board) = let i = c.loop-i.i in let end = base_in board c.requires.0 i c.loop-i-test.true in let rise = c.requires.0.bases_rise i c.loop-i-test.true in omega (arith, end, rise, c.requires.0.few_all, c.requires.2, c.requires.3, c.loop-i.invariant.1.kept) in
-    omega (arith, room)
-
-pub slice_bounds-pass-end : goal.slice_bounds-pass-end
-slice_bounds-pass-end c =
-    let board : Board = let a = c.args in board_of a.leaves a.actions a.bases.now a.moves.now a.costs.now a.kinds.now a.factors a.conditions.now in
-    let from : ℕ = base_on board c.loop-i.i in
-    let to : ℕ = base_on board (c.loop-i.i + 1) in
-    let room : (from ≤ to) × (to ≤ 1024) × (to ≤ length c.args.old.now) × (to ≤ length c.loop-i.new) × (to ≤ row_on board) = let i = c.loop-i.i in let end = base_in board c.requires.0 i c.loop-i-test.true in let rise = c.requires.0.bases_rise i c.loop-i-test.true in omega (arith, end, rise, c.requires.0.few_all, c.requires.2, c.requires.3, c.loop-i.invariant.1.kept) in
-    omega (arith, room)
-
-pub overflow_mul-action : goal.overflow_mul-action
-overflow_mul-action c =
-    let board : Board = let a = c.args in board_of a.leaves a.actions a.bases.now a.moves.now a.costs.now a.kinds.now a.factors a.conditions.now in
-    let from : ℕ = base_on board c.loop-i.i in
-    let to : ℕ = base_on board (c.loop-i.i + 1) in
-    let in_moves : c.args.action * row_on board + from + (to - from) ≤ length c.args.moves.now = moves_here board c.requires.0 c.loop-i.i c.args.action c.loop-i-test.true c.requires.1 in
-    omega (arith, c.well_formed, in_moves)
-
-pub overflow_add-action : goal.overflow_add-action
-overflow_add-action c =
-    let board : Board = let a = c.args in board_of a.leaves a.actions a.bases.now a.moves.now a.costs.now a.kinds.now a.factors a.conditions.now in
-    let from : ℕ = base_on board c.loop-i.i in
-    let to : ℕ = base_on board (c.loop-i.i + 1) in
-    let in_moves : c.args.action * row_on board + from + (to - from) ≤ length c.args.moves.now = moves_here board c.requires.0 c.loop-i.i c.args.action c.loop-i-test.true c.requires.1 in
-    omega (arith, c.well_formed, in_moves)
-
-pub offset_bounds-new-from : goal.offset_bounds-new-from
-offset_bounds-new-from c =
-    let board : Board = let a = c.args in board_of a.leaves a.actions a.bases.now a.moves.now a.costs.now a.kinds.now a.factors a.conditions.now in
-    let from : ℕ = base_on board c.loop-i.i in
-    let to : ℕ = base_on board (c.loop-i.i + 1) in
-    let room : (from ≤ to) × (to ≤ 1024) × (to ≤ length c.args.old.now) × (to ≤ length c.loop-i.new) × (to ≤ row_on board) = let i = c.loop-i.i in let end = base_in board c.requires.0 i c.loop-i-test.true in let rise = c.requires.0.bases_rise i c.loop-i-test.true in omega (arith, end, rise, c.requires.0.few_all, c.requires.2, c.requires.3, c.loop-i.invariant.1.kept) in
-    omega (arith, room)
-
-pub slice_bounds-pass-count-in-loop-i : goal.slice_bounds-pass-count-in-loop-i
-slice_bounds-pass-count-in-loop-i c =
-    let board : Board = let a = c.args in board_of a.leaves a.actions a.bases.now a.moves.now a.costs.now a.kinds.now a.factors a.conditions.now in
-    let from : ℕ = base_on board c.loop-i.i in
-    let to : ℕ = base_on board (c.loop-i.i + 1) in
-    let room : (from ≤ to) × (to ≤ 1024) × (to ≤ length c.args.old.now) × (to ≤ length c.loop-i.new) × (to ≤ row_on board) = let i = c.loop-i.i in let end = base_in board c.requires.0 i c.loop-i-test.true in let rise = c.requires.0.bases_rise i c.loop-i-test.true in omega (arith, end, rise, c.requires.0.few_all, c.requires.2, c.requires.3, c.loop-i.invariant.1.kept) in
-    omega (arith, room)
-
-pub slice_bounds-pass-start-in-loop-i : goal.slice_bounds-pass-start-in-loop-i
-slice_bounds-pass-start-in-loop-i c =
-    let board : Board = let a = c.args in board_of a.leaves a.actions a.bases.now a.moves.now a.costs.now a.kinds.now a.factors a.conditions.now in
-    let from : ℕ = base_on board c.loop-i.i in
-    let to : ℕ = base_on board (c.loop-i.i + 1) in
-    let room : (from ≤ to) × (to ≤ 1024) × (to ≤ length c.args.old.now) × (to ≤ length c.loop-i.new) × (to ≤ row_on board) = let i = c.loop-i.i in let end = base_in board c.requires.0 i c.loop-i-test.true in let rise = c.requires.0.bases_rise i c.loop-i-test.true in omega (arith, end, rise, c.requires.0.few_all, c.requires.2, c.requires.3, c.loop-i.invariant.1.kept) in
-    omega (arith, room)
-
-pub slice_bounds-pass-end-in-loop-i : goal.slice_bounds-pass-end-in-loop-i
-slice_bounds-pass-end-in-loop-i c =
-    let board : Board = let a = c.args in board_of a.leaves a.actions a.bases.now a.moves.now a.costs.now a.kinds.now a.factors a.conditions.now in
-    let from : ℕ = base_on board c.loop-i.i in
-    let to : ℕ = base_on board (c.loop-i.i + 1) in
-    let room : (from ≤ to) × (to ≤ 1024) × (to ≤ length c.args.old.now) × (to ≤ length c.loop-i.new) × (to ≤ row_on board) = let i = c.loop-i.i in let end = base_in board c.requires.0 i c.loop-i-test.true in let rise = c.requires.0.bases_rise i c.loop-i-test.true in omega (arith, end, rise, c.requires.0.few_all, c.requires.2, c.requires.3, c.loop-i.invariant.1.kept) in
-    omega (arith, room)
+pub overflow_add-at : goal.overflow_add-at
+overflow_add-at c = omega (arith, c.well_formed, in_moves (goal.at.overflow_add-at c).After-leaf-states)
 
 pub pass-requires : goal.pass-requires
 pass-requires c =
-    let board : Board = let a = c.args in board_of a.leaves a.actions a.bases.now a.moves.now a.costs.now a.kinds.now a.factors a.conditions.now in
-    let from : ℕ = base_on board c.loop-i.i in
-    let to : ℕ = base_on board (c.loop-i.i + 1) in
-    let room : (from ≤ to) × (to ≤ 1024) × (to ≤ length c.args.old.now) × (to ≤ length c.loop-i.new) × (to ≤ row_on board) = let i = c.loop-i.i in let end = base_in board c.requires.0 i c.loop-i-test.true in let rise = c.requires.0.bases_rise i c.loop-i-test.true in omega (arith, end, rise, c.requires.0.few_all, c.requires.2, c.requires.3, c.loop-i.invariant.1.kept) in
-    let in_moves : c.args.action * row_on board + from + (to - from) ≤ length c.args.moves.now = moves_here board c.requires.0 c.loop-i.i c.args.action c.loop-i-test.true c.requires.1 in
-    let old = part_length c.args.old.now from to room.2 in
-    let r = room in
-    let new = laid_unreached (row_on board) to c.loop-i.invariant.1 r.0 r.4 c.requires.3 c.requires.4 in
-    let stay = moves_stay board c.requires.0 c.loop-i.i c.args.action c.loop-i-test.true c.requires.1 in
-    (rw old new, rw old in_moves, rw old stay)
+    let b = board_in c.args.board.now in
+    let s = c.leaf-states in
+    let w = s.result in
+    let old = part_length c.args.old.now w.start w.end (omega arith) in
+    let laid = rw (sym s.ensures.begins) at c.loop-i.invariant.1 in
+    let new = laid_unreached (row_on b) w.end laid (omega arith) (omega arith) c.requires.2 c.requires.3 in
+    let stay = moves_stay b c.args.board.now.sound c.loop-i.i c.args.action c.loop-i-test.true c.requires.0 in
+    (rw old new, rw old (in_moves (goal.at.pass-requires c).After-leaf-states), rw old (rw (c.states-row.ensures.is, s.ensures.begins, s.ensures.stops) stay))
 
 pub loop-i-preserved : goal.loop-i-preserved
 unfolding pass_on
 loop-i-preserved c =
-    let board : Board = let a = c.args in board_of a.leaves a.actions a.bases.now a.moves.now a.costs.now a.kinds.now a.factors a.conditions.now in
-    let from : ℕ = base_on board c.loop-i.i in
-    let to : ℕ = base_on board (c.loop-i.i + 1) in
-    let room : (from ≤ to) × (to ≤ 1024) × (to ≤ length c.args.old.now) × (to ≤ length c.loop-i.new) × (to ≤ row_on board) = let i = c.loop-i.i in let end = base_in board c.requires.0 i c.loop-i-test.true in let rise = c.requires.0.bases_rise i c.loop-i-test.true in omega (arith, end, rise, c.requires.0.few_all, c.requires.2, c.requires.3, c.loop-i.invariant.1.kept) in
     let l = c.loop-i in
-    let a = c.args in
-    let many = part_length a.old.now from to room.2 in (
-      omega arith,
-      laid_more _ l.i from to _ l.new _ room.0 room.3 l.invariant.1
-          (c.pass.ensures ∙ leaf_passed board l.i a.action _ many) c.pass.auto.new,
-    )
+    let s = c.leaf-states in
+    let w = s.result in
+    let b = board_in c.args.board.now in
+    let many = part_length c.args.old.now w.start w.end (omega arith) in
+    let laid = rw (sym s.ensures.begins) at l.invariant.1 in
+    let passed : c.pass.new.new ≡ leaf b c.args.action c.args.old.now l.i =
+    c.pass.ensures ∙ rw (c.states-row.ensures.is, s.ensures.begins, s.ensures.stops) (leaf_passed b l.i c.args.action _ (rw (s.ensures.begins, s.ensures.stops) at many)) in
+    (omega arith, rw (sym s.ensures.stops) (laid_more _ l.i w.start w.end _ l.new _ (omega arith) (omega arith) laid passed c.pass.auto.new))
 
 pub shape_of-new : goal.shape_of-new
 shape_of-new c = c.loop-i.invariant.1.kept
@@ -122,5 +52,5 @@ shape_of-new c = c.loop-i.invariant.1.kept
 pub returns : goal.returns
 unfolding begin_on pass_on
 returns c =
-    let all : c.loop-i.i ≡ c.args.leaves = omega arith in
+    let all : c.loop-i.i ≡ c.args.board.now.leaves = omega arith in
     c.loop-i.invariant.1.laid ∙ rw all

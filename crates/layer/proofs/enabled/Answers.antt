@@ -1,7 +1,7 @@
-use Rattle.std.proofs.Common.{refl, sym, ap, ◌∙◌, ◌-◌, le_antisymm, arith, length, length-append, length-set}
+use Rattle.std.proofs.Common.{refl, sym, ap, ◌∙◌, le_antisymm, arith, length, length-append, length-set}
 use Rattle.layer.specs.Board.{enabled_on}
 use Rattle.layer.specs.Board.Turns.{enabled_here, enabled_not, push_more}
-use Rattle.layer.specs.Lent.{tests_of}
+use Rattle.layer.specs.Held.{board_in}
 use Rattle.layer.proofs.enabled.Goals as goal
 use Rattle.layer.proofs.enabled.Goals.{then-is_enabled, else-is_enabled}
 
@@ -13,7 +13,7 @@ pub loop-a-preserved : goal.loop-a-preserved
 loop-a-preserved c =
     let l = c.loop-a in
     let s = c.args in
-    let b = tests_of s.kinds.now s.factors s.conditions.now in
+    let b = board_in s.board.now in
     elim c.if-is_enabled.branch [
       | then-is_enabled w ↦ let e = enabled_here b s.i s.centre l.a (sym c.is_enabled.ensures ∙ w.if-is_enabled.true) in (
         omega arith,

@@ -1,4 +1,4 @@
-use Rattle.std.proofs.Common.{◌-◌, arith}
+use Rattle.std.proofs.Common.{arith}
 use Rattle.layer.proofs.first_condition.Goals as goal
 
 pub returns-then-conditions-action-ne-FREE : goal.returns-then-conditions-action-ne-FREE

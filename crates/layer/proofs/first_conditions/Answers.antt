@@ -1,4 +1,5 @@
-use Rattle.std.proofs.Common.{refl, ◌-◌, not-suc-le-zero, arith, length-set}
+use Rattle.std.proofs.Common.{refl, not-suc-le-zero, arith, length-set}
+use Rattle.layer.specs.Held.{board_in}
 use Rattle.layer.specs.First.{first_more, firsts_all}
 use Rattle.layer.proofs.first_conditions.Goals as goal
 
@@ -8,14 +9,13 @@ loop-a-init c = (omega arith, refl, λ k l. absurd (not-suc-le-zero l))
 pub loop-a-preserved : goal.loop-a-preserved
 loop-a-preserved c =
     let l = c.loop-a in
-    let s = c.args in (
+    let b = c.args.board.now in (
       omega arith,
       simp length-set l.invariant.1,
-      first_more s.factors s.conditions.now l.firsts l.a _ (omega arith) l.invariant.2 c.first_condition.ensures,
+      first_more b.factors b.conditions.now l.firsts l.a _ (omega arith) l.invariant.2 c.first_condition.ensures,
     )
 
 pub returns : goal.returns
 returns c =
     let l = c.loop-a in
-    let s = c.args in
-    firsts_all s.actions s.factors s.conditions.now l.firsts l.invariant.1 (λ k h. l.invariant.2 k (omega (arith, h, c.loop-a-test.false)))
+    firsts_all (board_in c.args.board.now) l.firsts l.invariant.1 (λ k h. l.invariant.2 k (omega (arith, h, c.loop-a-test.false)))

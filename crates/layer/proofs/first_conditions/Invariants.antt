@@ -5,7 +5,7 @@ use Rattle.layer.proofs.first_conditions.Given as goal
 
 abbrev pub invariant-loop-a : goal.invariant-loop-a
 invariant-loop-a l =
-    (l.a ≤ l.actions) × (length l.firsts ≡ 256) × ((k : ℕ) → k < l.a → First l.factors l.conditions k (get_or l.firsts k 0))
+    (l.a ≤ l.board.actions) × (length l.firsts ≡ 256) × ((k : ℕ) → k < l.a → First l.board.factors l.board.conditions.now k (get_or l.firsts k 0))
 
 abbrev pub decreases-loop-a : goal.decreases-loop-a
-decreases-loop-a l = l.actions - l.a
+decreases-loop-a l = l.board.actions - l.a

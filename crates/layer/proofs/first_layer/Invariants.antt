@@ -2,9 +2,10 @@
 -- them the prices are as they were. Assumes nothing.
 use Rattle.std.proofs.Common.{List, ℕ, ◌-◌, ◌≤◌, get_or}
 use Rattle.task.specs.declared.Centre.{Centre}
-use Rattle.layer.specs.Board.{Board}
+use Rattle.layer.specs.Board.{Board, base_on}
 use Rattle.layer.specs.Board.Turns.{Laid}
-use Rattle.layer.specs.Lent.{board_of, first_leaf_on}
+use Rattle.layer.specs.Held.{board_in}
+use Rattle.layer.specs.Lent.{first_leaf_on}
 use Rattle.layer.proofs.first_layer.Given as goal
 
 -- the prices of the leaf behind k leaves
@@ -13,7 +14,7 @@ leaf b centre starts k = first_leaf_on b k centre (get_or starts k 0)
 
 abbrev pub invariant-loop-i : goal.invariant-loop-i
 invariant-loop-i l =
-    (l.i ≤ l.leaves) × Laid (leaf (board_of l.leaves l.actions l.bases l.moves l.costs l.kinds l.factors l.conditions) l.centre l.starts) l.i (get_or l.bases l.i 0) l.initial.new l.new
+    (l.i ≤ l.board.leaves) × Laid (leaf (board_in l.board) l.centre l.starts) l.i (base_on (board_in l.board) l.i) l.initial.new l.new
 
 abbrev pub decreases-loop-i : goal.decreases-loop-i
-decreases-loop-i l = l.leaves - l.i
+decreases-loop-i l = l.board.leaves - l.i

@@ -1,4 +1,4 @@
-use Rattle.std.proofs.Common.{◌≡◌, refl, ◌∙◌, Bool, ◌&&◌, ℕ, ◌+◌, ◌-◌, add-one, arith}
+use Rattle.std.proofs.Common.{◌≡◌, refl, ◌∙◌, Bool, ◌&&◌, ℕ, ◌+◌, add-one, arith}
 use Rattle.loops.specs.Count.{all}
 use Rattle.task.specs.Factors.{holds_in}
 use Rattle.task.specs.Centre.{centre_meets}

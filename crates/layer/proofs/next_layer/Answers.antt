@@ -1,19 +1,10 @@
 -- `layer::next_layer` meets its contract. What settles is the begin, and the begin, settled, is the layer. Assumes nothing.
 use Rattle.std.proofs.Common.{◌∙◌}
-use Rattle.layer.specs.Board.{Board}
 use Rattle.layer.specs.Board.Begin.{begin_next}
-use Rattle.layer.specs.Lent.{board_of}
+use Rattle.layer.specs.Held.{board_in}
 use Rattle.layer.proofs.next_layer.Goals as goal
-use Rattle.layer.proofs.next_layer.Goals.{Start}
-
--- the Board that is lent
-abbrev board : Start → Board
-board s =
-    let a = s.args in
-    board_of a.leaves a.actions a.bases.now a.moves.now a.costs.now a.kinds.now a.factors a.conditions.now
 
 pub returns : goal.returns
 returns c =
     let a = c.args in
-    c.settle_layer.ensures
-    ∙ rw c.begin_layer.ensures (begin_next (board (goal.at.returns c).Start) c.requires.0 a.action a.old.now a.centre a.new.now)
+    c.settle_layer.ensures ∙ rw c.begin_layer.ensures (begin_next (board_in a.board.now) a.board.now.sound a.action a.old.now a.centre a.new.now)

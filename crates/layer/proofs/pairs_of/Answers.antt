@@ -1,4 +1,4 @@
-use Rattle.std.proofs.Common.{◌≡◌, refl, append-nil, ◌-◌, arith, replicate}
+use Rattle.std.proofs.Common.{◌≡◌, refl, append-nil, arith, replicate}
 use Rattle.loops.specs.Count.{list}
 use Rattle.loops.specs.Count.Laws.{list_more}
 use Rattle.layer.proofs.pairs_of.Goals as goal

@@ -1,32 +1,18 @@
-use Rattle.std.proofs.Common.{◌≡◌, refl, sym, ◌∙◌, le_antisymm, arith}
-use Rattle.loops.specs.Count.{any}
-use Rattle.loops.specs.Count.Laws.{any_in, any_more}
+-- `leaf::passes` meets its contract: what the chain tells of the prices beside the moves is said state by state. Assumes nothing.
+use Rattle.std.proofs.Common.{◌∙◌, ap, not, ◌&&◌, ltb, eqb, ℕ, rules, arith, get_or, get_or-drop, drop, length-drop}
+use Rattle.std.proofs.lemmas.Iterator.{YieldsList-from_slice, YieldsList-from_zip}
+use Rattle.std.proofs.lemmas.Iterator.Search.{any_from_yields_List}
+use borrow.Author.Tests.{tests}
+use Rattle.std.proofs.lemmas.Slice.{between_to_end}
+use Rattle.loops.specs.Count.Chains.{any_zip}
 use Rattle.leaf.specs.Price.{mark}
-use Rattle.leaf.specs.Settle.Turns.{at_any}
-use Rattle.leaf.proofs.passes.Invariants.{through}
 use Rattle.leaf.proofs.passes.Goals as goal
-use Rattle.leaf.proofs.passes.Goals.{After-state_passes}
-
--- what a state's test tells
-tested : (c : After-state_passes) → let s = c.args in
-    c.state_passes.result ≡ through s.prices.now s.moves.now s.at c.loop-x.x
-tested c =
-    let s = c.args in
-    rw (at_any s.prices.now c.loop-x.x mark 0 (omega arith)) c.state_passes.ensures
-
-pub loop-x-init : goal.loop-x-init
-unfolding any
-loop-x-init c = (refl, omega arith, refl)
-
-pub returns-then-state_passes : goal.returns-then-state_passes
-returns-then-state_passes c =
-    let told = tested (goal.at.returns-then-state_passes c).After-state_passes in
-    sym (any_in _ _ c.loop-x.x (omega arith) (sym told ∙ c.if-state_passes.true))
-
-pub loop-x-preserved : goal.loop-x-preserved
-loop-x-preserved c =
-    let l = c.loop-x in
-    (refl, omega arith, any_more l.x _ l.invariant.2 (sym (tested (goal.at.loop-x-preserved c).After-state_passes) ∙ c.if-state_passes.false))
 
 pub returns : goal.returns
-returns c = sym (rw (le_antisymm c.loop-x.invariant.1 c.loop-x-test.false) at c.loop-x.invariant.2)
+returns c =
+    let a = c.args in
+    any_from_yields_List (λ (p : ℕ × ℕ). ltb p.0 mark && not (eqb p.1 0)) c.any.new.self _ _ c.any.ensures.ran
+    (YieldsList-from_zip (YieldsList-from_slice a.prices.now cc) (YieldsList-from_slice (drop a.at a.moves.now) (c.zip.ensures.second.0 ∙ between_to_end a.moves.now a.at _ (omega arith))))
+    (λ x b q k. search (rules, tests))
+    ∙ any_zip _ _ _ _ mark 0 (simp length-drop (omega arith))
+    (λ k l. ap (λ m. ltb (get_or a.prices.now k mark) mark && not (eqb m 0)) (get_or-drop a.at a.moves.now k 0))

@@ -1,25 +1,44 @@
-use Rattle.std.proofs.Common.{◌-◌, cond, ◌≡◌, ap, sym, ◌∙◌, arith}
-use Rattle.mets.specs.Known.{flagged_none, flagged_more}
+use Rattle.std.proofs.Common.{Bool, true, false, ℕ, refl, ◌<◌, ◌≤◌, ◌≡◌, cond, ap, sym, ◌∙◌, arith, length, take, drop, get_or, length-take, length-append, length-drop, not-suc-le-zero}
+use mir.Val.{bool_byte}
+use Rattle.std.proofs.Math.ListN.{get_or-append}
+use Rattle.std.proofs.lemmas.List.Edits.{fill_by_more}
+use Rattle.layer.specs.Board.{met_on}
+use Rattle.layer.specs.First.{asks_of}
 use Rattle.mets.proofs.find.Goals as goal
+use Rattle.mets.proofs.find.Goals.{In-loop-a}
+
+-- the flags are written one by one, of as many as there are actions
+inside : (c : In-loop-a) → c.loop-a.a < c.args.actions
+inside c = let few : length (take c.args.actions c.args.flags.now) ≤ c.args.actions = simp length-take (omega arith) in omega arith
+
+-- a flag of 1 where the conditions hold, else 0
+flag_of : (met : Bool) → bool_byte met ≡ cond met 1 0
+flag_of true = refl
+flag_of false = refl
 
 pub loop-a-init : goal.loop-a-init
-loop-a-init c = (omega arith, flagged_none _ _ _ c.requires.3)
+loop-a-init c = λ k l. absurd (not-suc-le-zero l)
 
 pub met_by-requires : goal.met_by-requires
 met_by-requires c =
     let f = c.requires.2 in
-    (omega (arith, c.requires.0, f.long), omega (arith, c.requires.0, c.requires.1), record { inside = f.inside _ (omega arith); named = f.named _ (omega arith) }, c.requires.4, c.requires.5)
-
-pub bounds-flags-a : goal.bounds-flags-a
-bounds-flags-a c = omega (arith, c.loop-a.invariant.1.long, c.requires.0)
+    let l = inside (goal.at.met_by-requires c).In-loop-a in
+    (omega (arith, c.requires.0, l, f.long), omega (arith, c.requires.0, l, c.requires.1), record { inside = f.inside _ l; named = f.named _ l }, c.requires.4, c.requires.5)
 
 pub loop-a-preserved : goal.loop-a-preserved
 loop-a-preserved c =
     let l = c.loop-a in
-    (omega arith, flagged_more _ _ l.a l.flags _ (omega (arith, c.requires.0)) (c.flag_of.ensures ∙ ap (λ m. cond m 1 0) c.met_by.ensures) l.invariant.1)
-
-pub shape_of-flags : goal.shape_of-flags
-shape_of-flags c = c.loop-a.invariant.1.long ∙ sym c.requires.3
+    let a = c.args in
+    let right = λ (k : ℕ). cond {A = ℕ} (met_on (asks_of a.actions a.factors a.conditions.now) a.centre k) 1 0 in
+    let made : c.from.result ≡ right l.a = c.from.ensures ∙ flag_of c.met_by.result ∙ ap (λ m. cond m 1 0) c.met_by.ensures in
+    rw made (fill_by_more right l.flag-items l.a 0 (omega arith) l.invariant)
 
 pub returns : goal.returns
-returns c = let all : c.loop-a.a ≡ c.args.actions = omega arith in rw all at c.loop-a.invariant.1
+returns c =
+    let l = c.loop-a in
+    let a = c.args in
+    let few : length (take a.actions a.flags.now) ≡ a.actions = simp length-take (omega (arith, c.requires.0, c.requires.3)) in
+    record {
+      long = simp (length-append, length-drop) (omega (arith, c.requires.0, c.requires.3));
+      right = λ k h. get_or-append l.flag-items (drop a.actions a.flags.now) 0 k (omega arith) ∙ l.invariant k (omega arith);
+    }

@@ -1,16 +1,23 @@
 -- `mets::list_mets` meets its contract: the list stands in the slot, and is copied. Assumes nothing.
-use Rattle.std.proofs.Common.{refl, inr, arith}
-use Rattle.mets.specs.Known.{list_copied}
+use Rattle.std.proofs.Common.{refl, inr, arith, subst, List, ℕ, ◌++◌, ◌≤◌, ◌≡◌, ◌∙◌, ◌+◌, length, get_or, drop, length-take}
+use Rattle.mets.specs.Known.{Stored, list_copied, stored_front}
 use Rattle.mets.proofs.list_mets.Goals as goal
 
 pub returns : goal.returns
 returns c =
-    let slot = c.slot_for-at in record {
+    let slot = c.slot_for-at in
+    let new = c.copy_from_slice.new.self in
+    let list = c.args.list.now in
+    let count = get_or slot.new.known (slot.result + 289) 0 in
+    let few : count ≤ length list = omega (arith, c.requires.0, c.requires.4, slot.ensures.2.listed.few) in
+    let long : length new ≡ count = c.copy_from_slice.auto.self ∙ simp length-take (omega arith) in
+    let copied = stored_front list new count few long in record {
       listed = (
         slot.ensures.1,
         omega (arith, c.requires.0, slot.ensures.2.listed.few),
-        list_copied _ c.args.centre slot.new.known _ c.store.new.into slot.result _ slot.ensures.2 refl c.store.ensures,
-        λ k l. c.store.ensures.outside k (inr (omega (arith, l))),
+        list_copied _ c.args.centre slot.new.known list _ slot.result _ slot.ensures.2 refl
+            (subst (λ (xs : List ℕ). Stored 0 count xs list (new ++ drop count list)) c.copy_from_slice.ensures.after copied),
+        λ k l. copied.outside k (inr (omega (arith, l))),
       );
-      lengths = c.store.auto.into;
+      lengths = copied.long;
     }

@@ -1,6 +1,6 @@
 -- Laws of walks along the groups of a class, and of the node that they find. Assumes nothing.
-use Rattle.std.specs.Prelude.{◌≡◌, refl, ◌⊎◌, not, List, ℕ, zero, suc, ◌+◌, ◌-◌, ◌*◌, ◌≤◌, ◌<◌, ltb, length}
-use Rattle.std.proofs.Common.{sym, ap, ◌∙◌, inl, inr, true≢false, not-suc-le-zero, arith, eq-eqb, lt-ltb}
+use Rattle.std.specs.Prelude.{◌≡◌, refl, ◌⊎◌, Option, None, Some, is_some, not, List, ℕ, zero, suc, ◌+◌, ◌-◌, ◌*◌, ◌≤◌, ◌<◌, length}
+use Rattle.std.proofs.Common.{sym, ap, ◌∙◌, inl, inr, true≢false, not-suc-le-zero, arith, eq-eqb}
 use Rattle.std.proofs.Math.Bool.{true, false}
 use Rattle.std.proofs.Math.Decide.{ℕ_discrete, dec_lt}
 use Rattle.std.specs.Int.Bits.{bit_or}
@@ -11,7 +11,7 @@ use Rattle.rows.specs.Row.{node_in}
 use Rattle.rows.specs.Row.Laws.{row_in_lem, prices_length}
 use Rattle.rows.specs.Sign.{sign_of, class_of}
 use Rattle.rows.specs.Sign.Laws.{class_lt, other_class, other_sign}
-use Rattle.nodes.specs.Chain.{link_at, head_at, groups_in, class_at, fill_at, shown_at, entry_at, lacking, all_lack, Grouped, Dominator, Missed, Tried, Walked}
+use Rattle.nodes.specs.Chain.{link_at, head_at, groups_in, class_at, fill_at, shown_at, entry_at, lacking, all_lack, Grouped, Dominator, Missed, Walked}
 
 -- ---- walks along groups
 
@@ -45,7 +45,7 @@ module _ (S : ℕ) (T C : List ℕ) (n : ℕ) (m : Node) (r : Grouped S T C n) w
       passed f a b (no q) = later f b (omega arith) (ℕ_discrete f g)
 
   -- the groups end: no node dominates
-  walk_end : Walked S T C m 0 → any n (λ u. dominates (node_in S T u) m) ≡ false
+  pub walk_end : Walked S T C m 0 → any n (λ u. dominates (node_in S T u) m) ≡ false
   walk_end k = go (test_cases (any n (λ u. dominates (node_in S T u) m)))
     where
       missed : (w : ℕ) → w < n → dominates (node_in S T w) m ≡ false
@@ -57,9 +57,6 @@ module _ (S : ℕ) (T C : List ℕ) (n : ℕ) (m : Node) (r : Grouped S T C n) w
           → any n (λ u. dominates (node_in S T u) m) ≡ false
       go (inl e) = let w = any_out n (λ u. dominates (node_in S T u) m) e in absurd (true≢false (sym w.1.1 ∙ missed w.0 w.1.0))
       go (inr e) = e
-
-  pub dominator_none : Walked S T C m 0 → Dominator S T n m 0
-  dominator_none k = record { inside = omega arith; found = λ u e. absurd (omega arith); none = λ e. walk_end k }
 
   -- ---- one group
 
@@ -74,17 +71,6 @@ module _ (S : ℕ) (T C : List ℕ) (n : ℕ) (m : Node) (r : Grouped S T C n) w
       go : (i < k) ⊎ (i ≡ k) → dominates (node_in S T (entry_at C g i)) m ≡ false
       go (inl b) = h i b
       go (inr e) = rw e d
-
-  -- node u dominates
-  pub tried_found : (g u : ℕ) → u < n → dominates (node_in S T u) m ≡ true → Tried S T C n m g (S + u + 1)
-  tried_found g u l d = record {
-    inside = omega arith;
-    found = λ w e. let q : w ≡ u = omega arith in rw q d;
-    none = λ e. absurd (omega arith);
-  }
-
-  pub dominator_tried : (g x : ℕ) → Tried S T C n m g x → S < x → Dominator S T n m (x - S)
-  dominator_tried g x k l = record { inside = omega (arith, k.inside); found = λ u e. k.found u (omega arith); none = λ e. absurd (omega arith) }
 
   -- signatures that lack a bit: their nodes do not dominate
   module _ (rows : n * (40 + S) ≤ length T) (wide : length m.prices ≡ S) where
@@ -123,16 +109,7 @@ module _ (S : ℕ) (T C : List ℕ) (n : ℕ) (m : Node) (r : Grouped S T C n) w
 
 -- ---- the node that dominates
 
-module _ (S : ℕ) (T : List ℕ) (n : ℕ) (m : Node) where
-  -- node u dominates
-  pub dominator_found : (u : ℕ) → u < n → dominates (node_in S T u) m ≡ true → Dominator S T n m (suc u)
-  dominator_found u l d = record {
-    inside = l;
-    found = λ w e. let q : w ≡ u = omega arith in rw q d;
-    none = λ e. absurd (omega arith);
-  }
-
-  -- its number tells whether one does
-  pub dominator_tells : (r : ℕ) → Dominator S T n m r → ltb 0 r ≡ any n (λ u. dominates (node_in S T u) m)
-  dominator_tells zero k = sym (k.none refl)
-  dominator_tells (suc r) k = lt-ltb 0 (suc r) (omega arith) ∙ sym (any_in n (λ u. dominates (node_in S T u) m) r k.inside (k.found r refl))
+-- whether there is one tells whether one does
+pub dominator_tells : (S : ℕ) (T : List ℕ) (n : ℕ) (m : Node) (r : Option ℕ) → Dominator S T n m r → is_some r ≡ any n (λ u. dominates (node_in S T u) m)
+dominator_tells S T n m None k = sym k
+dominator_tells S T n m (Some u) k = sym (any_in n (λ u. dominates (node_in S T u) m) u k.inside k.dominates)

@@ -1,6 +1,6 @@
 -- Laws of the search that table, open keys and counts hold: its nodes, its best, the keys and goal costs by tables, and what one node more does.
 -- Assumes nothing.
-use Rattle.std.specs.Prelude.{◌≡◌, ◌⊎◌, Bool, List, [], ◌∷◌, ◌++◌, eqb, length, take, drop}
+use Rattle.std.specs.Prelude.{◌≡◌, ◌⊎◌, Bool, List, [], ◌∷◌, ◌++◌, eqb, length, take, drop, Option, Some, None}
 use Rattle.std.proofs.Math.Path.{refl, sym, ap}
 use Rattle.std.proofs.Common.{◌∙◌, inl, inr, true≢false, not-suc-le-zero, mul-le-mul_right, length-take, length-drop, take_at, take-take, drop-drop}
 use Rattle.std.proofs.Math.Bool.{true, false, cond}
@@ -8,6 +8,7 @@ use Prim.Native.Nat.{ℕ, zero, suc, ◌+◌, ◌-◌, ◌*◌, ◌≤◌, ◌<�
 use Rattle.std.proofs.Math.Numerals.{add-one}
 use Rattle.std.proofs.Math.Decide.{dec_lt}
 use native.Mathlib.Omega.{arith}
+use Rattle.std.proofs.lemmas.Option.{none-some, same_Some}
 use borrow.Author.Tests.{ltb-true, lt-ltb, le-ltb, ne_eqb}
 use Rattle.std.proofs.Math.Dec.{ltb}
 use Rattle.std.proofs.Math.ListN.{get_or}
@@ -32,12 +33,13 @@ use Rattle.search.specs.Explore.{node_at, below_best, best_with, keep}
 use Rattle.search.specs.Explore.Laws.{Base}
 use Rattle.rows.specs.Row.{spot_of, node_of, node_in, nodes_in, Packed}
 use Rattle.rows.specs.Row.Laws.{row_lent, row_word, row_kept, row_written, nodes_in_length, nodes_in_at}
+use Rattle.rows.specs.Begun.{read_from}
 use Rattle.keys.specs.Scan.{Cut, part_by, goals_by, key_by, goal_sum_by, goal_cost_by}
 use Rattle.rows.specs.Sign.{sign_of, class_of}
 use Rattle.nodes.specs.Chain.{linked_to}
 use Rattle.nodes.specs.Chain.Laws.{linked_key, chained_more}
 use Rattle.offers.specs.declared.Run.{Run}
-use Rattle.offers.specs.Held.{search_of, Cached, Scans, Room, Has, kept_run, Kept}
+use Rattle.offers.specs.Held.{best_number, search_of, Cached, Scans, Room, Has, kept_run, Kept}
 
 -- ---- rows
 
@@ -69,6 +71,12 @@ row_has S u T spot old rest fits is_spot isOld =
 pub rows_fit : {S nodes : ℕ} {T O : List ℕ} {r : Run} → Room S nodes T O r → (k : ℕ) → k ≤ nodes + 1 → k * (40 + S) ≤ length T
 rows_fit {S} room k h = omega (arith, mul-le-mul_right (40 + S) h, room.table_long)
 
+-- the list that is read for a layer's begin, told by cases
+pub read_is : (still : ℕ) (old made r : List ℕ) → (still ≡ 0 → r ≡ made) → ((still ≡ 0 → ⊥) → r ≡ old) → r ≡ read_from still old made
+unfolding read_from
+read_is zero old made r moves stays = moves refl
+read_is (suc f) old made r moves stays = stays (λ e. omega arith)
+
 -- a Board's bases cut what is as long as all states
 pub cut : {b : Board} {n : ℕ} → Sound b → row_on b ≤ n → Cut b.leaves b.bases n
 cut sound h = record { few = sound.few_leaves; long = sound.bases_long; rise = sound.bases_rise; fits = h }
@@ -88,10 +96,10 @@ module _ (S : ℕ) (T O : List ℕ) (r : Run) where
 
 module _ (t : Task) (nodes S : ℕ) (T O : List ℕ) (r : Run) (b : Base t nodes (search_of S T O r)) (held : Cached t S T O r) where
   -- best's node stands in its row, and is a goal node
-  best_held : (u : ℕ) → r.best ≡ suc u → (u < r.count) × (node_at t (search_of S T O r) u ≡ node_in S T u) × (is_goal t (node_in S T u) ≡ true)
+  best_held : (u : ℕ) → r.best ≡ Some u → (u < r.count) × (node_at t (search_of S T O r) u ≡ node_in S T u) × (is_goal t (node_in S T u) ≡ true)
   unfolding search_of
   best_held u e =
-      let (l, g) = b.best_in u e in
+      let (l, g) = b.best_in u (ap best_number e) in
       let inside : u < r.count = omega (arith, kept_length S T O r) in
       (inside, node_at_lem S T O r t u inside, rw (node_at_lem S T O r t u inside) at g)
 
@@ -100,18 +108,18 @@ module _ (t : Task) (nodes S : ℕ) (T O : List ℕ) (r : Run) (b : Base t nodes
   unfolding below_best search_of
   below_is k h = go r.best refl
     where
-      go : (x : ℕ) → r.best ≡ x → below_best t (search_of S T O r) k ≡ ltb k r.best_cost
-      go zero e = rw (e, below_best, held.none e) (sym (lt-ltb k mark h))
-      go (suc u) e = rw (e, below_best, (best_held u e).1, held.some u e)
+      go : (x : Option ℕ) → r.best ≡ x → below_best t (search_of S T O r) k ≡ ltb k r.best_cost
+      go None e = rw (e, below_best, held.none e) (sym (lt-ltb k mark h))
+      go (Some u) e = rw (e, below_best, (best_held u e).1, held.some u e)
 
   -- the best cost is not above the mark
   pub best_cap : Valid t → nodes ≤ 4096 → r.best_cost ≤ mark
   unfolding search_of
   best_cap ok few = go r.best refl
     where
-      go : (x : ℕ) → r.best ≡ x → r.best_cost ≤ mark
-      go zero e = omega (arith, held.none e)
-      go (suc u) e =
+      go : (x : Option ℕ) → r.best ≡ x → r.best_cost ≤ mark
+      go None e = omega (arith, held.none e)
+      go (Some u) e =
           let (l, q, g) = best_held u e in
           let m : Made t u (node_in S T u) = rw (q) at (b.made u (omega (arith, kept_length S T O r))) in
           omega (arith, held.some u e, made_goal t ok u (node_in S T u) (omega (arith, b.room, kept_length S T O r)) m g)
@@ -224,7 +232,7 @@ dominated_is t S T O r n m same =
 -- the node's row was written over the next row, with its signature, and it was linked: Q is the row, cost the goal cost
 module _ (S : ℕ) (T O : List ℕ) (r : Run) (n : Node) (opens cost : ℕ) (Q rest : List ℕ) (fits : r.count * (40 + S) ≤ length T) (long : length Q ≡ 40 + S)
     (holds : node_of S Q ≡ n) (packs : Packed Q) (few : r.count < 4096) (O' : List ℕ) (sign class : ℕ) (signed : get_or Q 39 0 ≡ sign) (isSign : sign ≡ sign_of n.prices) (isClass : class ≡ class_of n.spot)
-    (isLinked : O' ≡ linked_to O r.count opens sign class) (got : ℕ) (is : got ≡ cost) where
+    (isLinked : O' ≡ linked_to O r.count opens sign class) where
   -- the table afterwards
   abbrev written : List ℕ
   written = take (r.count * (40 + S)) T ++ (Q ++ rest)
@@ -236,8 +244,8 @@ module _ (S : ℕ) (T O : List ℕ) (r : Run) (n : Node) (opens cost : ℕ) (Q r
   kept_new : node_in S written r.count ≡ n
   kept_new = ap (node_of S) (row_written S r.count T Q rest fits long) ∙ holds
 
-  -- the table and the scan words, whatever became of the counts
-  kept_by : {r' : Run} → r' ≡ kept_run r cost → Kept S T O r n opens cost written O' r'
+  -- the table and the scan words with one node more
+  pub kept_by : {r' : Run} → r' ≡ kept_run r cost → Kept S T O r n opens cost written O' r'
   kept_by e =
       record {
         old = kept_old;
@@ -250,18 +258,6 @@ module _ (S : ℕ) (T O : List ℕ) (r : Run) (n : Node) (opens cost : ℕ) (Q r
             (rw (row_written S r.count T Q rest fits long) (signed ∙ isSign)) c);
       }
 
-  -- the node is the new best
-  pub kept_best : got < r.best_cost
-      → Kept S T O r n opens cost (take (r.count * (40 + S)) T ++ (Q ++ rest)) O'
-      (record { count = r.count + 1; begun = r.begun; best = r.count + 1; best_cost = got })
-  kept_best h = kept_by (rw (is, lt-ltb cost r.best_cost (omega arith)))
-
-  -- best stays
-  pub kept_other : r.best_cost ≤ got
-      → Kept S T O r n opens cost (take (r.count * (40 + S)) T ++ (Q ++ rest)) O'
-      (record { count = r.count + 1; begun = r.begun; best = r.best; best_cost = r.best_cost })
-  kept_other h = kept_by (rw (le-ltb cost r.best_cost (omega arith)))
-
 -- 1 once the node's expansion has begun
 abbrev flag : List ℕ → ℕ → ℕ
 flag O u = cond (eqb (get_or O u 0) mark) 1 0
@@ -271,15 +267,15 @@ module _ (t : Task) (nodes S : ℕ) (T O : List ℕ) (r : Run) (n : Node) (opens
     (wide : r.count < length O) (few : r.count < 4096) (is_key : opens ≡ key t n) (small : key t n < mark)
     (isCost : cost ≡ cond (is_goal t n) (goal_cost t n) mark) (low : is_goal t n ≡ true → goal_cost t n < mark) (cap : r.best_cost ≤ mark) where
   -- the new node is best where its goal cost is less than the best cost
-  best_is : best_with t (search_of S T O r) n ≡ r'.best
+  best_is : best_with t (search_of S T O r) n ≡ best_number r'.best
   unfolding best_with search_of
   best_is = rw kept.counted (go (is_goal t n) refl)
     where
       Goal : Type 0
-      Goal = best_with t (search_of S T O r) n ≡ cond (ltb cost r.best_cost) (r.count + 1) r.best
+      Goal = best_with t (search_of S T O r) n ≡ best_number (cond (ltb cost r.best_cost) (Some r.count) r.best)
 
       either : (c : Bool) → below_best t (search_of S T O r) (goal_cost t n) ≡ c → ltb cost r.best_cost ≡ c → is_goal t n ≡ true → Goal
-      either true f q p = rw (p, f, q, best_with, kept_length S T O r) (sym (add-one r.count))
+      either true f q p = rw (p, f, q, best_with, kept_length S T O r)
       either false f q p = rw (p, f, q, best_with)
 
       go : (g : Bool) → is_goal t n ≡ g → Goal
@@ -319,9 +315,9 @@ module _ (t : Task) (nodes S : ℕ) (T O : List ℕ) (r : Run) (n : Node) (opens
       keyed u (inl l) = rw (kept.old u l, kept.keyed u (omega arith), get_or-set_other O r.count u opens 0 (λ e. omega arith)) (held.keys u l)
       keyed u (inr q) = inr (rw (q, kept.new, kept.keyed r.count few, get_or-set_same O r.count opens 0 wide) is_key)
 
-      none : (c : Bool) → ltb cost r.best_cost ≡ c → cond (ltb cost r.best_cost) (r.count + 1) r.best ≡ 0
+      none : (c : Bool) → ltb cost r.best_cost ≡ c → cond (ltb cost r.best_cost) (Some r.count) r.best ≡ None
           → cond (ltb cost r.best_cost) cost r.best_cost ≡ mark
-      none true p e = absurd (omega (arith, rw p at e))
+      none true p e = absurd (none-some r.count (sym (rw p at e)))
       none false p e = rw p (held.none (rw p at e))
 
       goal : ltb cost r.best_cost ≡ true → cost ≡ goal_cost t n
@@ -331,12 +327,11 @@ module _ (t : Task) (nodes S : ℕ) (T O : List ℕ) (r : Run) (n : Node) (opens
           is true q = rw q at isCost
           is false q = let e : cost ≡ mark = rw q at isCost in absurd (omega (arith, ltb-true cost r.best_cost p))
 
-      some : (u : ℕ) (c : Bool) → ltb cost r.best_cost ≡ c → cond (ltb cost r.best_cost) (r.count + 1) r.best ≡ suc u
+      some : (u : ℕ) (c : Bool) → ltb cost r.best_cost ≡ c → cond (ltb cost r.best_cost) (Some r.count) r.best ≡ Some u
           → cond (ltb cost r.best_cost) cost r.best_cost ≡ goal_cost t (node_in S T' u)
       some u true p e =
-          let f : r.count + 1 ≡ suc u = rw p at e in
-          let q : u ≡ r.count = omega arith in
+          let q : u ≡ r.count = sym (same_Some r.count u (rw p at e)) in
           rw (p, q, kept.new) (goal p)
       some u false p e =
-          let f : r.best ≡ suc u = rw p at e in
+          let f : r.best ≡ Some u = rw p at e in
           rw (p, kept.old u (best_held t nodes S T O r b held u f).0) (held.some u f)

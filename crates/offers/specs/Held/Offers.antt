@@ -1,5 +1,5 @@
 -- The cases of an offer by tables, one law for each. Assumes nothing.
-use Rattle.std.specs.Prelude.{◌≡◌, refl, Bool, true, false, List, ℕ, ◌-◌, ◌≤◌, ◌<◌, min, ltb, length, take}
+use Rattle.std.specs.Prelude.{◌≡◌, refl, Bool, true, false, List, ℕ, ◌-◌, ◌≤◌, ◌<◌, min, ltb, length, take, Result, Ok, Err, IsErr}
 use Rattle.std.proofs.Math.Path.{sym}
 use Rattle.std.proofs.Common.{ap, ◌∙◌, true≢false, arith}
 use borrow.Author.Tests.{lt-ltb, le-ltb}
@@ -16,20 +16,21 @@ use Rattle.search.specs.Explore.Laws.{Base}
 use Rattle.rows.specs.Row.{node_in, node_with}
 use Rattle.keys.specs.Scan.{key_by, goal_cost_by}
 use Rattle.offers.specs.declared.Run.{Run}
-use Rattle.offers.specs.Held.{search_of, Cached, Scans, Kept, Went, Stands, settled_words, begun_node, settled_node, Alike, Offered}
+use Rattle.offers.specs.declared.Full.{Full}
+use Rattle.offers.specs.Held.{search_of, run_of, is_beaten, Cached, Scans, Kept, Went, Stands, settled_words, begun_node, settled_node, Alike, Offered}
 use Rattle.offers.specs.Held.Laws.{kept_length, below_is, best_cap, key_any, goal_is, dominated_is, keep_is, keep_cached}
 
 -- a turn that changes nothing
-pub went_same : (S nodes : ℕ) (T O : List ℕ) (r : Run) (f : Bool) → r.count ≤ nodes → Went S nodes T O r T O (record { full = f; run = r })
-went_same S nodes T O r f h =
+pub went_same : (S nodes : ℕ) (T O : List ℕ) (r : Run) (w : Result Run Full) → run_of w ≡ r → r.count ≤ nodes → Went S nodes T O r T O w
+went_same S nodes T O r w e h =
     record {
-      more = omega arith;
-      room = h;
-      begun_is = refl;
-      chained = λ c. c;
+      more = rw e (omega arith);
+      room = rw e h;
+      begun_is = rw e;
+      chained = λ c. rw e c;
       table_still = λ _. refl;
       scan_still = λ _. refl;
-      run_still = λ _. refl;
+      run_still = λ _. e;
     }
 
 module _ (b : Board) (goals goalPairs : List ℕ) (nodes : ℕ) (T O : List ℕ) (r : Run) (spot : Centre) (paid : ℕ) (P : List ℕ) (parent action : ℕ)
@@ -49,7 +50,7 @@ module _ (b : Board) (goals goalPairs : List ℕ) (nodes : ℕ) (T O : List ℕ)
 
   -- whether a node kept dominates the begin
   abbrev beaten : Bool
-  beaten = any r.count (λ u. dominates (node_in S T u) (node_with spot paid (take S P) 0 0))
+  beaten = is_beaten S T r spot paid P
 
   -- what holds for a task whose tables these are
   module _ (t : Task) (scans : Scans t b.leaves b.bases goals b.factors goalPairs) (v : Base t nodes search) (held : Cached t S T O r) where
@@ -103,10 +104,10 @@ module _ (b : Board) (goals goalPairs : List ℕ) (nodes : ℕ) (T O : List ℕ)
     IsKey = opens ≡ key_by b.leaves b.bases paid P
 
     -- the key is not below best: dropped
-    pub offered_above : r.best_cost ≤ opens → Offered b goals goalPairs nodes T O r spot paid P parent action opens T O (record { full = false; run = r })
+    pub offered_above : r.best_cost ≤ opens → Offered b goals goalPairs nodes T O r spot paid P parent action opens T O (Ok r)
     offered_above h =
         record {
-          went = went_same S nodes T O r false room;
+          went = went_same S nodes T O r (Ok r) refl room;
           offered = λ t scans v held is_key m alike. record { said = said_above t scans v held m alike (omega arith); held = held };
           dropped = λ t scans v held is_key e. record { said = refl; held = held };
         }
@@ -118,10 +119,10 @@ module _ (b : Board) (goals goalPairs : List ℕ) (nodes : ℕ) (T O : List ℕ)
       unblocked t scans v held is_key e = omega (arith, its_key t scans v held, cap t scans v held)
 
       -- a node kept dominates it: dropped
-      pub offered_dominated : found ≡ true → Offered b goals goalPairs nodes T O r spot paid P parent action opens T O (record { full = false; run = r })
+      pub offered_dominated : found ≡ true → Offered b goals goalPairs nodes T O r spot paid P parent action opens T O (Ok r)
       offered_dominated d =
           record {
-            went = went_same S nodes T O r false room;
+            went = went_same S nodes T O r (Ok r) refl room;
             offered = λ t scans v held is_key m alike.
                 record { said = said_dominated t scans v held m alike (omega arith) (sym isFound ∙ d); held = held };
             dropped = λ t scans v held is_key e. absurd (unblocked t scans v held is_key e);
@@ -129,10 +130,10 @@ module _ (b : Board) (goals goalPairs : List ℕ) (nodes : ℕ) (T O : List ℕ)
 
       module _ (d : found ≡ false) where
         -- the table is full
-        pub offered_full : nodes ≤ r.count → Offered b goals goalPairs nodes T O r spot paid P parent action opens T O (record { full = true; run = r })
+        pub offered_full : nodes ≤ r.count → Offered b goals goalPairs nodes T O r spot paid P parent action opens T O (Err (record { 0 = r }))
         offered_full k =
             record {
-              went = went_same S nodes T O r true room;
+              went = went_same S nodes T O r (Err (record { 0 = r })) refl room;
               offered = λ t scans v held is_key m alike.
                   record { said = said_full t scans v held m alike (omega arith) (sym isFound ∙ d) k; held = held };
               dropped = λ t scans v held is_key e. absurd (unblocked t scans v held is_key e);
@@ -141,7 +142,7 @@ module _ (b : Board) (goals goalPairs : List ℕ) (nodes : ℕ) (T O : List ℕ)
         -- it is settled and kept
         pub offered_kept : r.count < nodes → length O ≡ 17696 → (P' : List ℕ) → P' ≡ settled_words b spot P → (T' O' : List ℕ) (r' : Run)
             → Kept S T O r (node_with spot paid (take S P') parent action) opens (goal_cost_by b.leaves b.bases goals b.factors goalPairs spot paid P') T' O' r'
-            → Offered b goals goalPairs nodes T O r spot paid P parent action opens T' O' (record { full = false; run = r' })
+            → Offered b goals goalPairs nodes T O r spot paid P parent action opens T' O' (Ok r')
         offered_kept k long P' is_words T' O' r' given =
             record {
               went =
@@ -162,7 +163,7 @@ module _ (b : Board) (goals goalPairs : List ℕ) (nodes : ℕ) (T O : List ℕ)
             kept = rw is_words at given
 
             stands : (t : Task) → Scans t b.leaves b.bases goals b.factors goalPairs → Base t nodes search → Cached t S T O r → IsKey
-                → Made t r.count node → Alike t S T r.count early node → Stands t S T' O' (record { full = false; run = r' }) (offer t nodes search node)
+                → Made t r.count node → Alike t S T r.count early node → Stands t S T' O' (Ok r') (offer t nodes search node)
             stands t scans v held is_key m alike =
                 let isCost = goal_is t b.leaves b.bases goals b.factors goalPairs scans r.count node (omega arith) m (settled_words b spot P) refl in
                 let cheap : is_goal t node ≡ true → goal_cost t node < mark = λ g. omega (arith, made_goal t scans.valid r.count node (omega arith) m g) in

@@ -1,7 +1,7 @@
 -- Laws of paths: the test of a path, and a walk by the tables turn by turn. Assumes nothing.
-use Rattle.std.specs.Prelude.{◌≡◌, refl, Bool, true, ◌&&◌, Some, None, List, ◌∷◌, ◌++◌, ℕ, suc, ◌+◌, ◌*◌, ◌≤◌, ◌<◌, ltb, leb, length, get_or, take, drop}
+use Rattle.std.specs.Prelude.{◌≡◌, refl, Bool, true, ◌&&◌, List, ◌∷◌, ◌++◌, ℕ, suc, ◌+◌, ◌*◌, ◌≤◌, ◌<◌, ltb, leb, length, get_or, take, drop}
 use Rattle.std.proofs.Math.Path.{sym}
-use Rattle.std.proofs.Common.{ap, ◌∙◌, add-one, arith, drop_of_length-le, take_at, drop-cons, le-ltb, le-leb, ne_eqb}
+use Rattle.std.proofs.Common.{ap, ◌∙◌, true≢false, add-one, arith, drop_of_length-le, take_at, drop-cons, le-ltb, le-leb, ne_eqb}
 use Rattle.std.proofs.Math.Bool.{false}
 use Rattle.std.proofs.lemmas.Bool.{lt-leb}
 use Rattle.loops.specs.Count.{all, list}
@@ -64,53 +64,47 @@ module _ (t : Task) (b : Board) (f : Fits t b) where
       let e' : new ≡ first_prices t ++ rest = e ∙ rw c (ap (λ xs. xs ++ rest) (first_on_lem t b f starts s)) in
       rw (c, e', take_at (first_prices t) rest (all_states t) (first_length t))
 
-  module _ (spot : Centre) (a : ℕ) (old new : List ℕ) (known : a < t.actions) (effects : List ℕ) (is : t.effects ≡ effects) where
+  module _ (spot : Centre) (a : ℕ) (old : List ℕ) (known : a < t.actions) (effects : List ℕ) (is : t.effects ≡ effects) where
     -- whether the action applies to the layer
-    applied_is : applies_on b spot old a ≡ applies_to t spot (take (all_states t) old) a
-    applied_is = applies_on_lem t b f spot old a known ∙ sym (applies_front t old spot a)
+    applied_is : (e : Bool) → applies_on b spot old a ≡ e → applies_to t spot (take (all_states t) old) a ≡ e
+    applied_is e h = applies_front t old spot a ∙ sym (applies_on_lem t b f spot old a known) ∙ h
 
-    -- the layer behind it
-    module _ (c : Centre) (s : Stepped b effects spot a old (Some c) new) where
-      prices_is : take (all_states t) new ≡ next_prices t c a (take (all_states t) old)
+    -- a turn of the walk, where the action does not apply
+    pub turn_off : applies_on b spot old a ≡ false → (p : List ℕ) → walk t (front t spot old) (a ∷ p) ≡ stuck
+    unfolding walk
+    turn_off e p = let n : applies_to t spot (take (all_states t) old) a ≡ false = applied_is false e in rw (n, walk)
+
+    module _ (behind : Centre) (new : List ℕ) (s : Stepped b effects spot a old behind new) where
+      -- the layer behind it
+      prices_is : take (all_states t) new ≡ next_prices t behind a (take (all_states t) old)
       prices_is =
           let (rest, q) = s.written in
-          let n : next_on b c a old ≡ next_prices t c a old = next_on_lem t b f c a old known in
-          let m = next_length t c a old in
+          let n : next_on b behind a old ≡ next_prices t behind a old = next_on_lem t b f behind a old known in
+          let m = next_length t behind a old in
           let r = row_on_lem t b f in
-          let h : take (all_states t) new ≡ next_prices t c a old =
-          rw (q, r, n, take_at (next_prices t c a old) rest (all_states t) m, take_at (next_prices t c a old) (drop (all_states t) old) (all_states t) m) in
-          h ∙ sym (next_front t old c a)
+          let h : take (all_states t) new ≡ next_prices t behind a old =
+          rw (q, r, n, take_at (next_prices t behind a old) rest (all_states t) m, take_at (next_prices t behind a old) (drop (all_states t) old) (all_states t) m) in
+          h ∙ sym (next_front t old behind a)
 
-      spot_is : c ≡ next_centre t a spot
-      spot_is = rw (f.factors_is, ← is) at s.behind
+      spot_is : behind ≡ next_centre t a spot
+      spot_is = rw (f.factors_is, ← is) at s.is_behind
 
-      -- a turn of the walk, where the action applies
-      pub turn_on : (p : List ℕ) → walk t (front t spot old) (a ∷ p) ≡ walk t (front t c new) p
+      -- and where it does
+      pub turn_on : (p : List ℕ) → walk t (front t spot old) (a ∷ p) ≡ walk t (front t behind new) p
       unfolding next_layer
-      turn_on p = walk_next t (front t spot old) a p (sym (s.applied ∙ applied_is)) ∙ rw (prices_is, ← spot_is)
+      turn_on p = walk_next t (front t spot old) a p (applied_is true s.applied) ∙ rw (prices_is, ← spot_is)
 
-    -- and where it does not
-    pub turn_off : Stepped b effects spot a old None new → (p : List ℕ) → walk t (front t spot old) (a ∷ p) ≡ stuck
-    unfolding walk
-    turn_off s p = rw (sym (s.applied ∙ applied_is), walk)
-
--- what the tests of a turn tell
-module _ (b : Board) (effects : List ℕ) (spot : Centre) (a : ℕ) (old : List ℕ) where
-  -- the action does not apply
-  pub stepped_not : {new : List ℕ} → applies_on b spot old a ≡ false → Stepped b effects spot a old None new
-  stepped_not e = record { applied = sym e; behind = tt; written = tt }
-
-  -- it applies: the centre state behind its effects, and the next prices copied to the front
-  pub stepped_on : {c : Centre} (pairs rest : List ℕ) {next new : List ℕ} → applies_on b spot old a ≡ true
-      → c ≡ centre_after (λ v. get_or b.factors v 0) (λ v. get_or pairs v 0) spot → pairs ≡ list 32 (λ v. get_or effects (a * 32 + v) 0)
-      → next ≡ next_on b c a old ++ rest → new ≡ take (row_on b) next ++ drop (row_on b) old
-      → Stepped b effects spot a old (Some c) new
-  stepped_on {c} pairs rest e f g h k =
-      record {
-        applied = sym e;
-        behind = f ∙ after_list (λ v. get_or b.factors v 0) (λ v. get_or effects (a * 32 + v) 0) spot pairs (λ v l. rw g (list_at 32 (λ v. get_or effects (a * 32 + v) 0) v l));
-        written = (rest, rw h at k);
-      }
+-- what the tests of a turn tell: the centre state behind its effects, and the next prices copied to the front
+pub stepped_on : (b : Board) (effects : List ℕ) (spot : Centre) (a : ℕ) (old : List ℕ) {c : Centre} (pairs rest : List ℕ) {next new : List ℕ} → applies_on b spot old a ≡ true
+    → c ≡ centre_after (λ v. get_or b.factors v 0) (λ v. get_or pairs v 0) spot → pairs ≡ list 32 (λ v. get_or effects (a * 32 + v) 0)
+    → next ≡ next_on b c a old ++ rest → new ≡ take (row_on b) next ++ drop (row_on b) old
+    → Stepped b effects spot a old c new
+stepped_on b effects spot a old {c} pairs rest e f g h k =
+    record {
+      applied = e;
+      is_behind = f ∙ after_list (λ v. get_or b.factors v 0) (λ v. get_or effects (a * 32 + v) 0) spot pairs (λ v l. rw g (list_at 32 (λ v. get_or effects (a * 32 + v) 0) v l));
+      written = (rest, rw h at k);
+    }
 
 -- an entry more of a path
 pub path_more : (path : List ℕ) (k : ℕ) → k < length path → drop k path ≡ get_or path k 0 ∷ drop (k + 1) path
@@ -125,20 +119,20 @@ walk_end t l path k h = rw (drop_of_length-le path h)
 abbrev pub AlongBy : Board → List ℕ → List ℕ → Centre → List ℕ → Centre → List ℕ → ℕ → Type 0
 AlongBy b effects path first₀ P₀ spot P k = (t : Task) → Fits t b → t.effects ≡ effects → walk t (front t spot P) (drop k path) ≡ walk t (front t first₀ P₀) path
 
-module _ (b : Board) (effects path : List ℕ) (spot₀ : Centre) (P₀ : List ℕ) (spot : Centre) (P : List ℕ) (k : ℕ) (Q : List ℕ)
+module _ (b : Board) (effects path : List ℕ) (spot₀ : Centre) (P₀ : List ℕ) (spot : Centre) (P : List ℕ) (k : ℕ)
     (l : k < length path) (known : get_or path k 0 < b.actions) (h : AlongBy b effects path spot₀ P₀ spot P k) where
   -- the entry applies
-  pub along_more : (c : Centre) → Stepped b effects spot (get_or path k 0) P (Some c) Q → AlongBy b effects path spot₀ P₀ c Q (k + 1)
-  along_more c s t f q =
+  pub along_more : (behind : Centre) (Q : List ℕ) → Stepped b effects spot (get_or path k 0) P behind Q → AlongBy b effects path spot₀ P₀ behind Q (k + 1)
+  along_more behind Q s t f q =
       let known' : get_or path k 0 < t.actions = omega (arith, f.actions_is) in
-      sym (turn_on t b f spot (get_or path k 0) P Q known' effects q c s (drop (k + 1) path))
+      sym (turn_on t b f spot (get_or path k 0) P known' effects q behind Q s (drop (k + 1) path))
       ∙ ap (walk t (front t spot P)) (sym (path_more path k l))
       ∙ h t f q
 
   -- it does not
-  pub along_stuck : Stepped b effects spot (get_or path k 0) P None Q → (t : Task) → Fits t b → t.effects ≡ effects → stuck ≡ walk t (front t spot₀ P₀) path
-  along_stuck s t f q =
+  pub along_stuck : applies_on b spot P (get_or path k 0) ≡ false → (t : Task) → Fits t b → t.effects ≡ effects → stuck ≡ walk t (front t spot₀ P₀) path
+  along_stuck e t f q =
       let known' : get_or path k 0 < t.actions = omega (arith, f.actions_is) in
-      sym (turn_off t b f spot (get_or path k 0) P Q known' effects q s (drop (k + 1) path))
+      sym (turn_off t b f spot (get_or path k 0) P known' effects q e (drop (k + 1) path))
       ∙ ap (walk t (front t spot P)) (sym (path_more path k l))
       ∙ h t f q

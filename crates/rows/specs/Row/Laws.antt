@@ -2,7 +2,7 @@
 use Rattle.std.specs.Prelude.{◌≡◌, refl, ◌⊎◌, Bool, true, false, ◌&&◌, List, [], ◌∷◌, ◌++◌, ℕ, zero, suc, ◌+◌, ◌-◌, ◌*◌, ◌/◌, ◌%◌, ◌^◌, ◌≤◌, ◌<◌, leb, eqb, length, get_or, set, take, drop}
 use Rattle.std.proofs.Math.Path.{sym, ap}
 use Rattle.std.proofs.Common.{ap₂, ◌∙◌, inl, inr, append_assoc, not-suc-le-zero, suc-mul, mul-le-mul_right, arith, le-leb, length-append, length-drop, length-set, take-append-drop, length-take-le, get_or-take, get_or-drop, get_or-set_same, get_or-set_other, take_at, drop_at}
-use Rattle.std.proofs.Math.Bool.{and-false}
+use Rattle.std.proofs.Math.Bool.{and-true, and-false}
 use Rattle.std.proofs.Math.Decide.{ℕ_discrete}
 use Rattle.std.proofs.lemmas.Bool.{lt-leb}
 use Rattle.std.proofs.Math.ListN.{get_or-append}
@@ -16,7 +16,7 @@ use Rattle.leaf.specs.Price.{mark}
 use Rattle.leaf.specs.Settle.Turns.{at_any}
 use Rattle.search.specs.Node.{Node, dominates}
 use Rattle.rows.specs.Four.{four_to, four_length, four_first, four_second, four_third, four_fourth, four_before}
-use Rattle.rows.specs.Row.{byte_in, spot_of, node_of, row_in, node_in, nodes_in, node_with, pack_of, Packed, NotAbove, Above, Tested}
+use Rattle.rows.specs.Row.{byte_in, spot_of, node_of, row_in, node_in, nodes_in, node_with, pack_of, Packed, NotAbove, Higher}
 use Rattle.rows.specs.Row.Packs.{pack_byte}
 
 -- ---- one row
@@ -43,14 +43,6 @@ higher_more row P k h e i l = go (ℕ_discrete i k)
     go (yes s) = rw s e
     go (no d) = h i (omega arith)
 
--- a place where the price is higher
-pub above_at : (S : ℕ) (row P : List ℕ) (k : ℕ) → k < S → get_or P k 0 < get_or row (40 + k) 0 → Above S row P k
-above_at S row P k l h = record { inside = omega arith; higher = λ _. h; none = λ e. absurd (omega arith) }
-
--- there is none
-pub above_none : (S : ℕ) (row P : List ℕ) → NotAbove row P S → Above S row P S
-above_none S row P h = record { inside = omega arith; higher = λ l. absurd (omega arith); none = λ _. h }
-
 -- dominance of the node in a row, by what stands in the row
 pub dominates_is : (S paid : ℕ) (row P : List ℕ) (c : Centre) → length row ≡ 40 + S → S ≤ length P
     → dominates (node_of S row) (node_with c paid (take S P) 0 0)
@@ -68,37 +60,25 @@ dominates_is S paid row P c h l =
 
 -- what a test of the row's node finds
 module _ (S paid : ℕ) (row P : List ℕ) (c : Centre) (long : length row ≡ 40 + S) (many : S ≤ length P) where
-  -- whether the centre states are the same, and whether the node dominates
+  -- whether the centre states are the same
   abbrev same : Bool
   same = all 32 (λ v. eqb (value_in (spot_of row) v) (value_in c v))
 
-  abbrev answer : Bool
-  answer = dominates (node_of S row) (node_with c paid (take S P) 0 0)
-
-  -- no answer: the hint stays
-  missed : (r : ℕ) → r ≤ S → answer ≡ false → Tested S (node_of S row) (node_with c paid (take S P) 0 0) r
-  missed r l e = record { found = λ k. absurd (omega arith); missed = λ k. e }
-
   -- the centre cost is higher
-  pub test_paid : (r : ℕ) → r ≤ S → paid < get_or row 32 0 → Tested S (node_of S row) (node_with c paid (take S P) 0 0) r
-  test_paid r l h = missed r l (dominates_is S paid row P c long many ∙ rw (lt-leb (get_or row 32 0) paid h) (and-false same))
+  pub test_paid : paid < get_or row 32 0 → dominates (node_of S row) (node_with c paid (take S P) 0 0) ≡ false
+  test_paid h = dominates_is S paid row P c long many ∙ rw (lt-leb (get_or row 32 0) paid h) (and-false same)
 
   -- a price is higher
-  pub test_price : (k : ℕ) → k < S → get_or P k 0 < get_or row (40 + k) 0 → Tested S (node_of S row) (node_with c paid (take S P) 0 0) k
-  test_price k l h =
-      let higher = all_not S (not_higher row P) k l (lt-leb _ _ h) in
-      missed k (omega arith) (dominates_is S paid row P c long many ∙ rw (higher, and-false (leb (get_or row 32 0) paid)) (and-false same))
+  pub test_price : (k : ℕ) → Higher S row P k → dominates (node_of S row) (node_with c paid (take S P) 0 0) ≡ false
+  test_price k h =
+      let higher = all_not S (not_higher row P) k h.inside (lt-leb _ _ h.above) in
+      dominates_is S paid row P c long many ∙ rw (higher, and-false (leb (get_or row 32 0) paid)) (and-false same)
 
-  -- the centre state is another
-  pub test_spot : (r : ℕ) → r ≤ S → same ≡ false → Tested S (node_of S row) (node_with c paid (take S P) 0 0) r
-  test_spot r l e = missed r l (dominates_is S paid row P c long many ∙ rw e)
-
-  -- nothing is against it
-  pub test_found : get_or row 32 0 ≤ paid → NotAbove row P S → same ≡ true
-      → Tested S (node_of S row) (node_with c paid (take S P) 0 0) (S + 1)
-  test_found p q e =
+  -- neither is: the centre state tells
+  pub test_spot : get_or row 32 0 ≤ paid → NotAbove row P S → dominates (node_of S row) (node_with c paid (take S P) 0 0) ≡ same
+  test_spot p q =
       let low = all_in S (not_higher row P) (λ k l. le-leb _ _ (q k l)) in
-      record { found = λ k. dominates_is S paid row P c long many ∙ rw (e, le-leb (get_or row 32 0) paid p, low); missed = λ k. absurd (omega arith) }
+      dominates_is S paid row P c long many ∙ rw (le-leb (get_or row 32 0) paid p, low) (and-true same)
 
 -- a centre cost, a parent, an action and a signature stored in a row
 abbrev pub with_numbers : List ℕ → ℕ → ℕ → ℕ → ℕ → List ℕ

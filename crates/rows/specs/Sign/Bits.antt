@@ -1,6 +1,6 @@
 -- The bits of a signature, the lowest first. Where each state is looked at, a bit that is set is that of a state below 64, and one that is not set
 -- says that its states cannot be reached, so that no price there is higher than theirs. Assumes nothing.
-use Rattle.std.specs.Prelude.{◌≡◌, refl, ◌⊎◌, cond, List, ℕ, zero, suc, ◌+◌, ◌-◌, ◌*◌, ◌/◌, ◌%◌, ◌^◌, ◌≤◌, ◌<◌, max, ltb, length, get_or, take}
+use Rattle.std.specs.Prelude.{◌≡◌, refl, ◌⊎◌, Option, MatchOption, cond, List, ℕ, zero, suc, ◌+◌, ◌-◌, ◌*◌, ◌/◌, ◌%◌, ◌^◌, ◌≤◌, ◌<◌, max, ltb, length, get_or, take}
 use Rattle.std.proofs.Common.{sym, ap, ◌∙◌, inl, inr, not-suc-le-zero, div-one, mul-one, add-one, arith, lt-ltb, le-ltb, pow_pos, shr_lt, shr-shr, get_or-take, length-take-le}
 use Rattle.std.proofs.Math.Nat.{div_self, zero-div, div-eq_of_lt}
 use Rattle.std.proofs.Math.Decide.{dec_lt, ℕ_discrete}
@@ -11,7 +11,7 @@ use Rattle.std.proofs.Math.Pow.{pow-lt}
 use Rattle.loops.specs.Count.Laws.{below_cases}
 use Rattle.leaf.specs.Price.{mark}
 use Rattle.leaf.specs.Settle.Turns.{at_any}
-use Rattle.rows.specs.Row.{NotAbove}
+use Rattle.rows.specs.Row.{NotAbove, Higher}
 use Rattle.rows.specs.Sign.{sign_to, stride_of, sign_of}
 use Rattle.rows.specs.Sign.Laws.{or_odd}
 
@@ -19,11 +19,13 @@ use Rattle.rows.specs.Sign.Laws.{or_odd}
 abbrev pub Clear : ℕ → ℕ → Type 0
 Clear s b = s / 2 ^ b % 2 ≡ 0
 
--- k is a place below S where the row's price is higher than that of P, or S where there is none at the bits below 64 that are set in s
-pub record AboveInBits (S : ℕ) (row P : List ℕ) (s k : ℕ) : Type 0 where
-  pub inside : k ≤ S
-  pub higher : k < S → get_or P k 0 < get_or row (40 + k) 0
-  pub none : k ≡ S → (i : ℕ) → i < 64 → (Clear s i → ⊥) → get_or row (40 + i) 0 ≤ get_or P i 0
+-- no price of the row is higher at the bits below 64 that are set in s
+abbrev pub NotAboveInBits : List ℕ → List ℕ → ℕ → Type 0
+NotAboveInBits row P s = (i : ℕ) → i < 64 → (Clear s i → ⊥) → get_or row (40 + i) 0 ≤ get_or P i 0
+
+-- r is a place below S where the row's price is higher than that of P; it is None only where there is none at the bits of s
+abbrev pub AboveInBits : ℕ → List ℕ → List ℕ → ℕ → Option ℕ → Type 0
+AboveInBits S row P s r = MatchOption r (NotAboveInBits row P s) (Higher S row P)
 
 -- `rest` is what is left of the bits of s: where one is gone, no price of the row is higher
 pub record Left (row P : List ℕ) (s rest : ℕ) : Type 0 where
@@ -181,12 +183,8 @@ module _ (row P : List ℕ) (s : ℕ) where
   left_all = record { of_all = λ i c. c; gone = λ i small set c. absurd (set c) }
 
   -- none is left
-  pub left_none : (S : ℕ) → Left row P s 0 → AboveInBits S row P s S
-  left_none S h = record {
-    inside = omega arith;
-    higher = λ l. absurd (omega arith);
-    none = λ _ i small set. h.gone i small set (ap (λ (x : ℕ). x % 2) (zero-div (2 ^ i)));
-  }
+  pub left_none : Left row P s 0 → NotAboveInBits row P s
+  left_none h i small set = h.gone i small set (ap (λ (x : ℕ). x % 2) (zero-div (2 ^ i)))
 
   module _ (rest : ℕ) (word : rest < 2 ^ 64) (some : 0 < rest) (h : Left row P s rest) where
     -- the lowest is that of a state
@@ -211,9 +209,9 @@ module _ (row P : List ℕ) (s : ℕ) where
         go i small set c (no q) = h.gone i small set (less_other 64 rest i some small q c)
 
 -- no price is higher than that of a state that cannot be reached, so that none below 64 is where none is at the bits
-pub bits_none : (S : ℕ) (row P : List ℕ) (s k : ℕ) → S < 128 → S ≤ length P → s ≡ sign_of (take S P) → ((i : ℕ) → get_or row i 0 ≤ mark)
-    → AboveInBits S row P s k → S ≤ k → (m : ℕ) → m ≤ S → m ≤ 64 → NotAbove row P m
-bits_none S row P s k few long own capped r end m low small i l = go (ℕ_discrete (s / 2 ^ i % 2) 0)
+pub bits_none : (S : ℕ) (row P : List ℕ) (s : ℕ) → S < 128 → S ≤ length P → s ≡ sign_of (take S P) → ((i : ℕ) → get_or row i 0 ≤ mark)
+    → NotAboveInBits row P s → (m : ℕ) → m ≤ S → m ≤ 64 → NotAbove row P m
+bits_none S row P s few long own capped none m low small i l = go (ℕ_discrete (s / 2 ^ i % 2) 0)
   where
     go : Dec (Clear s i) → get_or row (40 + i) 0 ≤ get_or P i 0
     go (yes c) =
@@ -222,4 +220,4 @@ bits_none S row P s k few long own capped r end m low small i l = go (ℕ_discre
         let far = unreached (take S P) (omega (arith, n)) i (omega (arith, n)) (rw (e, ← own) c) in
         let same : get_or (take S P) i mark ≡ get_or P i 0 = get_or-take S P i mark (omega arith) ∙ at_any P i mark 0 (omega arith) in
         omega (arith, far, same, capped (40 + i))
-    go (no set) = let e : k ≡ S = omega (arith, r.inside) in r.none e i (omega arith) set
+    go (no set) = none i (omega arith) set

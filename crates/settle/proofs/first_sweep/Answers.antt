@@ -1,32 +1,20 @@
-use Rattle.std.proofs.Common.{refl, ◌∙◌, ◌+◌, le_antisymm, arith}
-use Rattle.leaf.specs.Price.{mark}
-use Rattle.leaf.specs.Settle.Sweeps.{swept_none, swept_join, reach_next}
+use Rattle.std.proofs.Common.{◌∙◌, arith}
+use Rattle.settle.proofs.Visits.{swept_on}
 use Rattle.settle.proofs.first_sweep.Goals as goal
 
-pub loop-x-init : goal.loop-x-init
-loop-x-init c = (refl, omega arith, refl, refl, swept_none mark _ _ _ _ _ 0 _ _)
-
-pub set_out-one-requires : goal.set_out-one-requires
-set_out-one-requires c =
-    let l = c.loop-x in
-    (omega (arith, c.loop-x-test.true, l.invariant.0, l.invariant.2), omega (arith, l.invariant.2, l.invariant.3, c.requires.0), rw l.invariant.2 c.requires.1)
-
-pub loop-x-preserved : goal.loop-x-preserved
-loop-x-preserved c =
-    let l = c.loop-x in
-    let told = (rw l.invariant.2 at c.set_out-one.ensures) l.x (l.x + 1) (reach_next l.x (l.x + 1)) in (
-      refl,
-      omega (arith, c.loop-x-test.true),
-      c.set_out-one.auto.prices ∙ l.invariant.2,
-      c.set_out-one.auto.dirty ∙ l.invariant.3,
-      swept_join mark _ _ _ _ 0 l.x (l.x + 1) 0 l.x (l.x + 1) _ _ _ _ _ _ l.fell _ l.invariant.4 told,
-    )
-
-pub shape_of-prices : goal.shape_of-prices
-shape_of-prices c = c.loop-x.invariant.2
-
-pub shape_of-dirty : goal.shape_of-dirty
-shape_of-dirty c = c.loop-x.invariant.3
+pub loop-prices-preserved : goal.loop-prices-preserved
+loop-prices-preserved g c =
+    let l = c.loop-prices in
+    let four = rw l.invariant.prices_kept at c.set_out_four-fell.ensures in
+    record {
+      within = omega arith;
+      prices_kept = c.set_out_four-fell.auto.prices ∙ l.invariant.prices_kept;
+      dirty_kept = c.set_out_four-fell.auto.dirty ∙ l.invariant.dirty_kept;
+      swept = swept_on _ _ _ _ _ _ _ _ _ _ _ _ _ _ l.fell _ l.invariant.swept four;
+    }
 
 pub returns : goal.returns
-returns c = rw (le_antisymm c.loop-x.invariant.1 c.loop-x-test.false) at c.loop-x.invariant.4
+returns g c =
+    let l = c.loop-prices in
+    let rest = rw l.invariant.prices_kept at c.set_out_part.ensures in
+    swept_on _ _ _ _ _ _ _ _ _ _ _ _ _ _ l.fell _ l.invariant.swept rest

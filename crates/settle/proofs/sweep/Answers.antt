@@ -1,32 +1,14 @@
-use Rattle.std.proofs.Common.{refl, ◌∙◌, ◌+◌, le_antisymm, arith}
-use Rattle.leaf.specs.Price.{mark}
-use Rattle.leaf.specs.Settle.Sweeps.{swept_none, swept_join}
+use Rattle.std.proofs.Common.{◌∙◌, arith}
+use Rattle.settle.proofs.Visits.{swept_on}
 use Rattle.settle.proofs.sweep.Goals as goal
 
-pub loop-x-init : goal.loop-x-init
-loop-x-init c = (refl, omega arith, refl, refl, swept_none mark _ _ _ _ _ 0 _ _)
-
-pub visit-one-requires : goal.visit-one-requires
-visit-one-requires c =
-    let l = c.loop-x in
-    (omega (arith, c.loop-x-test.true, l.invariant.0, l.invariant.2), omega (arith, l.invariant.2, l.invariant.3, c.requires.0), rw l.invariant.2 c.requires.1)
-
 pub loop-x-preserved : goal.loop-x-preserved
-loop-x-preserved c =
+loop-x-preserved g c =
     let l = c.loop-x in
-    let told = rw l.invariant.2 at c.visit-one.ensures in (
-      refl,
-      omega (arith, c.loop-x-test.true),
-      c.visit-one.auto.prices ∙ l.invariant.2,
-      c.visit-one.auto.dirty ∙ l.invariant.3,
-      swept_join mark _ _ _ _ _ _ _ 0 l.x (l.x + 1) _ _ _ _ _ _ l.fell _ l.invariant.4 told,
-    )
-
-pub shape_of-prices : goal.shape_of-prices
-shape_of-prices c = c.loop-x.invariant.2
-
-pub shape_of-dirty : goal.shape_of-dirty
-shape_of-dirty c = c.loop-x.invariant.3
-
-pub returns : goal.returns
-returns c = rw (le_antisymm c.loop-x.invariant.1 c.loop-x-test.false) at c.loop-x.invariant.4
+    let one = rw l.invariant.prices_kept at c.visit-fell.ensures in
+    record {
+      within = omega arith;
+      prices_kept = c.visit-fell.auto.prices ∙ l.invariant.prices_kept;
+      dirty_kept = c.visit-fell.auto.dirty ∙ l.invariant.dirty_kept;
+      swept = swept_on _ _ _ _ _ _ _ _ _ _ _ _ _ _ l.fell _ l.invariant.swept one;
+    }

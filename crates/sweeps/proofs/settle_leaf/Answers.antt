@@ -1,90 +1,71 @@
--- `sweeps::settle_leaf` meets its contract. The enabled actions lead where the leaf's edges do; where no edge has its flag set they lead nowhere.
--- Assumes nothing.
-use Rattle.std.proofs.Common.{refl, sym, ◌∙◌, true≢false, List, ℕ, ◌+◌, ◌≤◌, ◌<◌, le_trans, arith, length, get_or, rules}
+-- The enabled actions lead where the leaf's edges do; where no edge has its flag set they lead nowhere. Assumes nothing.
+use Rattle.std.proofs.Common.{refl, sym, ◌∙◌, true≢false, List, ℕ, arith, length, rules}
 use Rattle.loops.specs.Count.Laws.{told}
 use Rattle.leaf.specs.Price.{mark}
 use Rattle.leaf.specs.Settle.Turns.{at_most}
 use Rattle.leaf.specs.Lent.{cost_by, move_by}
-use Rattle.layer.specs.Board.{Board, row_on, base_on, enabled_on}
-use Rattle.layer.specs.Board.Turns.{base_in, leaf_settled}
-use Rattle.layer.specs.Lent.{board_of}
+use Rattle.layer.specs.Board.{row_on, base_on, enabled_on}
+use Rattle.layer.specs.Board.Turns.{leaf_settled}
+use Rattle.layer.specs.Held.{board_in}
 use Rattle.sweeps.specs.Sweeps.{Meant}
 use Rattle.sweeps.specs.Sweeps.Leaf.{leaf_ways, leaf_meant}
 use Rattle.sweeps.specs.Sweeps.Still.{some_none, leaf_part_lem, leaf_unmet, still_settled}
 use Rattle.sweeps.proofs.settle_leaf.Goals as goal
+use Rattle.sweeps.proofs.settle_leaf.Goals.{Start}
 
-pub offset_bounds-ends-at : goal.offset_bounds-ends-at
-offset_bounds-ends-at c =
-    let board : Board = let a = c.args in board_of a.leaves a.actions a.bases.now a.moves.now a.costs.now a.kinds.now a.factors a.conditions.now in
-    let early : let b = board in (base_on b c.args.i ≤ base_on b (c.args.i + 1)) × (base_on b (c.args.i + 1) ≤ 1024) = let sound = c.requires.0 in (sound.bases_rise c.args.i c.requires.3, le_trans (base_in board sound c.args.i c.requires.3) sound.few_all) in
-    omega (arith, early)
+-- the leaf's enabled actions
+abbrev acts : Start → List ℕ
+acts c = let a = c.args in enabled_on (board_in a.board.now) a.i a.centre a.board.now.actions
 
-pub bounds-ends-at : goal.bounds-ends-at
-bounds-ends-at c =
-    let board : Board = let a = c.args in board_of a.leaves a.actions a.bases.now a.moves.now a.costs.now a.kinds.now a.factors a.conditions.now in
-    let part : let a = c.args in let b = board in (base_on b (a.i + 1) < length a.ends.now) × (get_or a.ends.now (base_on b a.i) 0 ≤ get_or a.ends.now (base_on b (a.i + 1)) 0) × (get_or a.ends.now (base_on b (a.i + 1)) 0 ≤ length a.edges.now) = leaf_part_lem board c.requires.0 c.args.edges.now c.args.ends.now c.requires.2 c.args.i c.requires.3 in
-    let early : let b = board in (base_on b c.args.i ≤ base_on b (c.args.i + 1)) × (base_on b (c.args.i + 1) ≤ 1024) = let sound = c.requires.0 in (sound.bases_rise c.args.i c.requires.3, le_trans (base_in board sound c.args.i c.requires.3) sound.few_all) in
-    omega (arith, part.0, early)
-
-pub offset_bounds-ends-bases : goal.offset_bounds-ends-bases
-offset_bounds-ends-bases c =
-    let board : Board = let a = c.args in board_of a.leaves a.actions a.bases.now a.moves.now a.costs.now a.kinds.now a.factors a.conditions.now in
-    let early : let b = board in (base_on b c.args.i ≤ base_on b (c.args.i + 1)) × (base_on b (c.args.i + 1) ≤ 1024) = let sound = c.requires.0 in (sound.bases_rise c.args.i c.requires.3, le_trans (base_in board sound c.args.i c.requires.3) sound.few_all) in
-    omega (arith, early)
-
-pub bounds-ends-bases : goal.bounds-ends-bases
-bounds-ends-bases c =
-    let board : Board = let a = c.args in board_of a.leaves a.actions a.bases.now a.moves.now a.costs.now a.kinds.now a.factors a.conditions.now in
-    let part : let a = c.args in let b = board in (base_on b (a.i + 1) < length a.ends.now) × (get_or a.ends.now (base_on b a.i) 0 ≤ get_or a.ends.now (base_on b (a.i + 1)) 0) × (get_or a.ends.now (base_on b (a.i + 1)) 0 ≤ length a.edges.now) = leaf_part_lem board c.requires.0 c.args.edges.now c.args.ends.now c.requires.2 c.args.i c.requires.3 in
-    part.0
+-- they lead where its edges do
+meant : (c : Start) → let a = c.args in let b = board_in a.board.now in
+    Meant b.moves (row_on b) (base_on b a.i) b.costs a.mets.now a.edges.now.list.now a.edges.now.ends.now (length a.prices.now)
+    (length (acts c)) (cost_by b.costs (acts c)) (move_by b.moves (row_on b) (base_on b a.i) (acts c))
+meant c =
+    let a = c.args in
+    let r = c.requires in
+    rw r.3 (leaf_meant (board_in a.board.now) a.board.now.sound a.edges.now.list.now a.edges.now.ends.now r.1 a.i r.2 a.centre a.mets.now r.0)
 
 pub slice_bounds-some_met-count : goal.slice_bounds-some_met-count
 slice_bounds-some_met-count c =
-    let board : Board = let a = c.args in board_of a.leaves a.actions a.bases.now a.moves.now a.costs.now a.kinds.now a.factors a.conditions.now in
-    let part : let a = c.args in let b = board in (base_on b (a.i + 1) < length a.ends.now) × (get_or a.ends.now (base_on b a.i) 0 ≤ get_or a.ends.now (base_on b (a.i + 1)) 0) × (get_or a.ends.now (base_on b (a.i + 1)) 0 ≤ length a.edges.now) = leaf_part_lem board c.requires.0 c.args.edges.now c.args.ends.now c.requires.2 c.args.i c.requires.3 in
-    part.1
+    let a = c.args in
+    let states = c.leaf-states.ensures in
+    rw (states.begins, states.stops) (leaf_part_lem (board_in a.board.now) a.board.now.sound a.edges.now.list.now a.edges.now.ends.now c.requires.1 a.i c.requires.2).1
 
 pub slice_bounds-some_met-start : goal.slice_bounds-some_met-start
 slice_bounds-some_met-start c =
-    let board : Board = let a = c.args in board_of a.leaves a.actions a.bases.now a.moves.now a.costs.now a.kinds.now a.factors a.conditions.now in
-    let part : let a = c.args in let b = board in (base_on b (a.i + 1) < length a.ends.now) × (get_or a.ends.now (base_on b a.i) 0 ≤ get_or a.ends.now (base_on b (a.i + 1)) 0) × (get_or a.ends.now (base_on b (a.i + 1)) 0 ≤ length a.edges.now) = leaf_part_lem board c.requires.0 c.args.edges.now c.args.ends.now c.requires.2 c.args.i c.requires.3 in
-    part.1
-
-pub slice_bounds-some_met-end : goal.slice_bounds-some_met-end
-slice_bounds-some_met-end c =
-    let board : Board = let a = c.args in board_of a.leaves a.actions a.bases.now a.moves.now a.costs.now a.kinds.now a.factors a.conditions.now in
-    let part : let a = c.args in let b = board in (base_on b (a.i + 1) < length a.ends.now) × (get_or a.ends.now (base_on b a.i) 0 ≤ get_or a.ends.now (base_on b (a.i + 1)) 0) × (get_or a.ends.now (base_on b (a.i + 1)) 0 ≤ length a.edges.now) = leaf_part_lem board c.requires.0 c.args.edges.now c.args.ends.now c.requires.2 c.args.i c.requires.3 in
-    part.2
-
-pub some_met-requires : goal.some_met-requires
-some_met-requires c = omega (arith, c.requires.1.long)
+    let a = c.args in
+    let states = c.leaf-states.ensures in
+    rw (states.begins, states.stops) (leaf_part_lem (board_in a.board.now) a.board.now.sound a.edges.now.list.now a.edges.now.ends.now c.requires.1 a.i c.requires.2).1
 
 pub returns-then-not-some_met : goal.returns-then-not-some_met
 returns-then-not-some_met c =
-    let board : Board = let a = c.args in board_of a.leaves a.actions a.bases.now a.moves.now a.costs.now a.kinds.now a.factors a.conditions.now in
-    let acts : List ℕ = enabled_on board c.args.i c.args.centre c.args.actions in
-    let meant : let a = c.args in let b = board in Meant a.moves.now (row_on b) (base_on b a.i) a.costs.now a.mets.now a.edges.now a.ends.now (length a.prices.now) (length acts) (cost_by a.costs.now acts) (move_by a.moves.now (row_on b) (base_on b a.i) acts) = let a = c.args in rw c.requires.4 (leaf_meant board c.requires.0 a.edges.now a.ends.now c.requires.2 a.i c.requires.3 a.centre a.mets.now c.requires.1) in
+    let s = (goal.at.returns-then-not-some_met c).Start in
     let a = c.args in
+    let b = board_in a.board.now in
     let P = a.prices.now in
-    let none = told c.some_met.ensures c.if-not-some_met.true in
-    let unmet = leaf_unmet board c.requires.0 a.edges.now a.ends.now c.requires.2 a.i c.requires.3 a.mets.now (some_none _ _ none) in
-    let still = still_settled mark _ _ _ _ _ _ _ _ _ _ _ P meant (rw c.requires.4 unmet) refl
-    (at_most mark P (λ i. search rules)) in
-    (still ∙ leaf_settled board a.i a.centre acts _ refl refl P, (λ _. refl), sym none)
+    let states = c.leaf-states.ensures in
+    let looked = rw (states.begins, states.stops) at c.some_met.ensures in
+    let none = told looked c.if-not-some_met.true in
+    let unmet = leaf_unmet b a.board.now.sound a.edges.now.list.now a.edges.now.ends.now c.requires.1 a.i c.requires.2 a.mets.now (some_none _ _ none) in
+    let still = still_settled mark _ _ _ _ _ _ _ _ _ _ _ P (meant s) (rw c.requires.3 unmet) refl (at_most mark P (λ i. search rules)) in
+    (still ∙ leaf_settled b a.i a.centre (acts s) _ refl refl P, (λ _. refl), sym none)
 
--- the edges can be followed
 pub settle_along-requires : goal.settle_along-requires
 settle_along-requires c =
-    let board : Board = let a = c.args in board_of a.leaves a.actions a.bases.now a.moves.now a.costs.now a.kinds.now a.factors a.conditions.now in
-    let acts : List ℕ = enabled_on board c.args.i c.args.centre c.args.actions in
-    let meant : let a = c.args in let b = board in Meant a.moves.now (row_on b) (base_on b a.i) a.costs.now a.mets.now a.edges.now a.ends.now (length a.prices.now) (length acts) (cost_by a.costs.now acts) (move_by a.moves.now (row_on b) (base_on b a.i) acts) = let a = c.args in rw c.requires.4 (leaf_meant board c.requires.0 a.edges.now a.ends.now c.requires.2 a.i c.requires.3 a.centre a.mets.now c.requires.1) in
+    let s = (goal.at.settle_along-requires c).Start in
     let a = c.args in
-    let ways = leaf_ways board c.requires.0 a.edges.now a.ends.now c.requires.2 a.i c.requires.3 a.mets.now c.requires.1.long in
-    (omega (arith, c.requires.4, c.requires.0.few_states a.i c.requires.3), rw c.requires.4 ways, record { count = _; cost = _; to = _; meant = meant })
+    let b = board_in a.board.now in
+    let r = c.requires in
+    let ways = leaf_ways b a.board.now.sound a.edges.now.list.now a.edges.now.ends.now r.1 a.i r.2 a.mets.now r.0.long in
+    rw (c.states.ensures.is, c.leaf-states.ensures.begins)
+    (omega (arith, r.3, a.board.now.sound.few_states a.i r.2), rw r.3 ways, record { count = _; cost = _; to = _; meant = meant s })
 
 pub returns : goal.returns
 returns c =
-    let board : Board = let a = c.args in board_of a.leaves a.actions a.bases.now a.moves.now a.costs.now a.kinds.now a.factors a.conditions.now in
-    let acts : List ℕ = enabled_on board c.args.i c.args.centre c.args.actions in
-    let meant : let a = c.args in let b = board in Meant a.moves.now (row_on b) (base_on b a.i) a.costs.now a.mets.now a.edges.now a.ends.now (length a.prices.now) (length acts) (cost_by a.costs.now acts) (move_by a.moves.now (row_on b) (base_on b a.i) acts) = let a = c.args in rw c.requires.4 (leaf_meant board c.requires.0 a.edges.now a.ends.now c.requires.2 a.i c.requires.3 a.centre a.mets.now c.requires.1) in
-    (c.settle_along.ensures _ _ _ meant ∙ leaf_settled board c.args.i c.args.centre acts _ refl refl c.args.prices.now, (λ e. absurd (true≢false e)), sym (told c.some_met.ensures c.if-not-some_met.false))
+    let s = (goal.at.returns c).Start in
+    let a = c.args in
+    let states = c.leaf-states.ensures in
+    let along = rw (c.states.ensures.is, states.begins) at c.settle_along.ensures in
+    let looked = rw (states.begins, states.stops) at c.some_met.ensures in
+    (along _ _ _ (meant s) ∙ leaf_settled (board_in a.board.now) a.i a.centre (acts s) _ refl refl a.prices.now, (λ e. absurd (true≢false e)), sym (told looked c.if-not-some_met.false))

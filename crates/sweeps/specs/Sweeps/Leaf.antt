@@ -1,5 +1,5 @@
 -- The edges of a leaf's states can be followed, and they lead where the enabled actions of the leaf do. Assumes nothing.
-use Rattle.std.specs.Prelude.{◌≡◌, refl, true, false, not, ◌&&◌, List, ℕ, zero, suc, ◌+◌, ◌<◌, eqb, length, get_or}
+use Rattle.std.specs.Prelude.{◌≡◌, refl, true, not, ◌&&◌, List, ℕ, zero, suc, ◌+◌, ◌<◌, eqb, length, get_or}
 use Rattle.std.proofs.Common.{sym, ap, ◌∙◌, true≢false, arith, ne_eqb}
 use Rattle.loops.specs.Count.Laws.{and_in, and_out}
 use Rattle.task.specs.declared.Centre.{Centre}

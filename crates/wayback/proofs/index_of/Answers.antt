@@ -1,4 +1,4 @@
-use Rattle.std.proofs.Common.{◌≡◌, refl, ◌-◌, arith, length-set}
+use Rattle.std.proofs.Common.{◌≡◌, refl, ◌-◌, arith, length, length-set}
 use Rattle.wayback.specs.Woven.Laws.{index_none, index_more}
 use Rattle.wayback.proofs.index_of.Goals as goal
 
@@ -21,7 +21,7 @@ loop-j-preserved c =
     let here = c.type_inv.acts (l.j - 1) in (
       omega (arith, l.invariant.0),
       simp length-set l.invariant.1,
-      index_more a.acts.now l.j a.count l.index c.loop-j-test.true l.invariant.0 (omega (arith, here, l.invariant.1)) l.invariant.2,
+      index_more a.acts.now l.j (length a.acts.now) l.index c.loop-j-test.true l.invariant.0 (omega (arith, here, l.invariant.1)) l.invariant.2,
     )
 
 pub returns : goal.returns

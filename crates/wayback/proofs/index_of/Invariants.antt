@@ -4,7 +4,7 @@ use Rattle.wayback.specs.Woven.{IndexedFrom}
 use Rattle.wayback.proofs.index_of.Given as goal
 
 abbrev pub invariant-loop-j : goal.invariant-loop-j
-invariant-loop-j l = (l.j ≤ l.count) × (length l.index ≡ 256) × IndexedFrom l.acts l.j l.count l.index
+invariant-loop-j l = (l.j ≤ length l.acts) × (length l.index ≡ 256) × IndexedFrom l.acts l.j (length l.acts) l.index
 
 abbrev pub decreases-loop-j : goal.decreases-loop-j
 decreases-loop-j l = l.j

@@ -1,72 +1,63 @@
 -- `wayback::leaf_back` meets its contract. Without an action nothing is walked; else the tight edges of the actions are listed, and their way is the
 -- one meant. Assumes nothing.
-use Rattle.std.proofs.Common.{refl, List, ℕ, ◌≤◌, ◌<◌, arith, length, length-take}
+use Rattle.std.proofs.Common.{refl, ℕ, ◌≤◌, ◌<◌, arith, length, length-take, rules}
 use lib.ListN.{length-replicate}
 use Rattle.leaf.specs.Settle.Steps.{replicate_at}
+use Rattle.layer.specs.Board.{base_on, row_on}
+use Rattle.layer.specs.Held.{board_in}
 use Rattle.wayback.specs.Woven.{Backed}
 use Rattle.wayback.specs.Woven.Laws.{index_legible, tight_woven}
 use Rattle.wayback.specs.Ready.{back_none}
 use Rattle.wayback.proofs.leaf_back.Goals as goal
 use Rattle.wayback.proofs.leaf_back.Goals.{After-tight_edges}
 
--- the index
-abbrev index : (c : After-tight_edges) → List ℕ
-index c = c.index_of-index.result
+-- there is a stop behind each state's edges
+stops_long : (c : After-tight_edges) → length c.args.prices.now < length c.tight_edges.new.stops
+stops_long c = omega (arith, c.tight_edges.auto.stops, length-replicate {A = ℕ} 257 0, c.requires.walkable.few_states)
 
--- the listed edges and their stops
-abbrev tight : (c : After-tight_edges) → List ℕ
-tight c = c.tight_edges.new.tight
-
-abbrev stops : (c : After-tight_edges) → List ℕ
-stops c = c.tight_edges.new.stops
-
-stops_long : (c : After-tight_edges) → length c.args.prices.now < length (stops c)
-stops_long c = omega (arith, c.tight_edges.auto.stops, length-replicate {A = ℕ} 257 0, c.requires.walkable.0.few_states)
-
--- they can be walked along
-abbrev backed : (c : After-tight_edges) →
-    let a = c.args in
-    Backed a.moves.now a.row a.at a.acts.now (index c) (tight c) (stops c) a.begins.now a.prices.now a.state
+-- the listed edges can be walked along
+abbrev backed : (c : After-tight_edges) → let b = board_in c.args.board.now in
+    Backed b.moves (row_on b) (base_on b c.args.i) c.args.acts.now c.index_of-index.result c.tight_edges.new.tight c.tight_edges.new.stops
+    c.args.begins.now c.args.prices.now c.args.state
 backed c =
-    let w = c.requires.walkable.0 in
+    let w = c.requires.walkable in
     let o = c.index_of-index.ensures in
+    let e = c.ways_of-ways.ensures in
+    let listed =
+    rw (e.moves.0, e.moves.1, e.moves.2, e.moves.3, e.mets, e.edges.0, e.edges.1, c.states-row.ensures.is, c.leaf-at.ensures.begins) at c.tight_edges.ensures.1 in
     record {
-      woven = tight_woven _ _ _ _ _ _ _ (index c) w.lent o.1 o.0 w.few_actions w.few_states c.args.edges.now c.args.ends.now c.requires.covers.0 (tight c) (stops c) (stops_long c)
-          (omega (arith, c.tight_edges.ensures.0, c.tight_edges.auto.tight)) c.tight_edges.ensures.1 w.lent.acts_long;
+      woven = tight_woven _ _ _ _ _ _ _ c.index_of-index.result w.lent o.1 o.0 w.few_actions w.few_states c.args.edges.now.list.now c.args.edges.now.ends.now
+          c.requires.covers c.tight_edges.new.tight c.tight_edges.new.stops (stops_long c)
+          (omega (arith, c.tight_edges.ensures.0, c.tight_edges.auto.tight)) listed w.lent.acts_long;
       same = w.same;
       inside = w.inside;
       deep = w.deep;
     }
 
-pub returns-then-count-eq0 : goal.returns-then-count-eq0
-returns-then-count-eq0 c = record { walked = back_none _ _ _ _ _ _ _ _ _ c.requires.walkable.0 c.if-count-eq0.true _ _ _; lengths = refl }
-
-pub index_of-index-requires : goal.index_of-index-requires
-index_of-index-requires c = (c.requires.walkable.0.lent.acts_long, c.requires.walkable.0.few_actions)
+pub returns-then-is_empty-clause-walked : goal.returns-then-is_empty-clause-walked
+returns-then-is_empty-clause-walked c = back_none _ _ _ _ _ _ _ _ _ c.requires.walkable (search rules) _ _ _
 
 pub tight_edges-requires : goal.tight_edges-requires
 tight_edges-requires c =
-    let w = c.requires.walkable.0 in (
-      c.index_of-index.ensures.0,
-      omega (arith, w.few_states, length-replicate {A = ℕ} 257 0),
-      replicate_at 257 0 0,
-      index_legible _ _ _ _ _ _ _ _ w.lent c.index_of-index.ensures.1,
-      c.requires.covers.1,
-    )
-
-pub slice_bounds-tight_back-end-3 : goal.slice_bounds-tight_back-end-3
-slice_bounds-tight_back-end-3 c = simp length-take (omega (arith, c.requires.walkable.0.few_states))
+    let w = c.requires.walkable in
+    let o = c.index_of-index.ensures in
+    let e = c.ways_of-ways.ensures in
+    rw (e.moves.0, e.moves.1, e.moves.2, e.moves.3, e.mets, e.edges.0, e.edges.1, c.states-row.ensures.is, c.leaf-at.ensures.begins)
+    (o.0, omega (arith, w.few_states), refl, index_legible _ _ _ _ _ _ _ _ w.lent o.1, c.requires.spread)
 
 pub tight_back-requires : goal.tight_back-requires
 tight_back-requires c =
-    let begins : c.args.at ≤ length c.args.moves.now = let w = c.requires.walkable.0 in omega (arith, w.lent.moves_long 0 0 (omega (arith, c.if-count-eq0.false)) (omega (arith, w.inside))) in
-    let w = c.requires.walkable.0 in (
-      (backed (goal.at.tight_back-requires c).After-tight_edges),
-      simp length-take (omega (arith, w.few_states)),
-      begins,
-      c.requires.walkable.1,
-      c.requires.walkable.2,
-    )
+    let w = c.requires.walkable in
+    let e = c.ways_of-listed.ensures in
+    let b = board_in c.args.board.now in
+    let some : 0 < length c.args.acts.now = search rules in
+    let begins : base_on b c.args.i ≤ length b.moves = omega (arith, w.lent.moves_long 0 0 some (omega (arith, w.inside))) in
+    rw (e.moves.0, e.moves.1, e.moves.2, e.mets, e.edges.0, e.edges.1, c.states-row.ensures.is, c.leaf-at.ensures.begins)
+    (backed (goal.at.tight_back-requires c).After-tight_edges, simp length-take (omega (arith, w.few_states)), begins, c.requires.place)
 
-pub returns : goal.returns
-returns c = record { walked = c.tight_back.ensures (backed (goal.at.returns c).After-tight_edges); lengths = c.tight_edges.auto.tight }
+pub returns-clause-walked : goal.returns-clause-walked
+returns-clause-walked c =
+    let e = c.ways_of-listed.ensures in
+    let walked =
+    rw (e.moves.0, e.moves.1, e.moves.2, e.mets, e.edges.0, e.edges.1, c.states-row.ensures.is, c.leaf-at.ensures.begins) at c.tight_back.ensures.walked in
+    walked (backed (goal.at.returns-clause-walked c).After-tight_edges)

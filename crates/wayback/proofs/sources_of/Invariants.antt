@@ -1,11 +1,12 @@
 -- `wayback::sources_of` meets its contract. The invariant: the edges of the states so far are met. Assumes nothing.
-use Rattle.std.proofs.Common.{◌≡◌, ◌-◌, ◌≤◌, length}
+use Rattle.std.proofs.Common.{◌≡◌, ◌≤◌, length}
 use Rattle.wayback.specs.Least.{AllMet}
 use Rattle.wayback.proofs.sources_of.Given as goal
 
 abbrev pub invariant-loop-x : goal.invariant-loop-x
-invariant-loop-x l =
-    (l.x-end ≡ length l.depths) × (l.x ≤ l.x-end) × (length l.sources ≡ 256) × AllMet l.moves l.row l.at l.index l.tight l.stops l.depths l.x l.sources
-
-abbrev pub decreases-loop-x : goal.decreases-loop-x
-decreases-loop-x l = l.x-end - l.x
+invariant-loop-x l = record {
+  end : l.x-end ≡ length l.depths;
+  below : l.x ≤ l.x-end;
+  long : length l.sources ≡ 256;
+  met : AllMet l.ways.moves.now l.ways.row l.ways.at l.ways.mets.now l.ways.edges.list.now l.ways.edges.ends.now l.depths l.x l.sources;
+}

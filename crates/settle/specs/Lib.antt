@@ -1,0 +1,3 @@
+pub mod Settling
+pub mod Relaxing
+pub mod Listed
