@@ -24,12 +24,7 @@ fn some_met(mets: &[u8], acts: &[u8]) -> bool
     requires { 256 ≤ length mets.now }
     ensures { result ≡ some_met mets.now acts.now }
 {
-    for &a in acts {
-        if mets[a as usize] != 0 {
-            return true;
-        }
-    }
-    false
+    acts.iter().any(|&a| mets[a as usize] != 0)
 }
 
 // Prices settle along the edges of their states: every state sets out once, and then the dirty ones as long as a price falls of one that had its turn.
