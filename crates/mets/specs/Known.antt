@@ -1,11 +1,11 @@
 -- The known words: slots of 576 bytes that hold what is known of centre states met lately. In a slot stand 256 flags, the 32 values of the centre state, at 288 a 1
 -- once it is filled, at 289 how many actions are listed, and these from 320 on. Nobody but the code and its proof looks at these.
 use Rattle.std.specs.Prelude.{◌≡◌, refl, ◌⊎◌, Bool, true, false, cond, List, ◌++◌, ℕ, ◌+◌, ◌*◌, ◌-◌, ◌≤◌, ◌<◌, length, get_or, set, take, drop, replicate}
-use Rattle.std.proofs.Common.{sym, ap, ◌∙◌, inl, inr, arith, length-set, length-take, length-drop, length-append, get_or-set_same, get_or-set_other, get_or-take, get_or-drop, get_or-append-add}
+use Rattle.std.proofs.Common.{sym, ap, ◌∙◌, inl, inr, arith, length-take, length-drop, length-append, get_or-set_other, get_or-take, get_or-drop, get_or-append-add}
 use Rattle.std.proofs.Math.Decide.{dec_le, ℕ_discrete}
 use Rattle.std.proofs.lemmas.List.{get_or-replicate}
 use Rattle.std.proofs.Math.ListN.{get_or-append}
-use Rattle.loops.specs.Count.Laws.{all_ext, below_cases}
+use Rattle.loops.specs.Count.Laws.{all_ext}
 use Rattle.task.specs.declared.Centre.{Centre}
 use Rattle.task.specs.Factors.{holds_in}
 use Rattle.task.specs.Centre.{value_in, centre_meets}

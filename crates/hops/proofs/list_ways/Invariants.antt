@@ -1,10 +1,7 @@
 -- `hops::list_ways` meets its contract. The invariant: the ways are those of the actions so far. Assumes nothing.
-use Rattle.std.proofs.Common.{◌≡◌, ◌-◌, ◌≤◌}
+use Rattle.std.proofs.Common.{◌≡◌}
 use Rattle.hops.specs.Hops.{ways_by}
 use Rattle.hops.proofs.list_ways.Given as goal
 
 abbrev pub invariant-loop-a : goal.invariant-loop-a
-invariant-loop-a l = (l.a ≤ l.actions) × (l.ways ≡ ways_by l.hops l.a)
-
-abbrev pub decreases-loop-a : goal.decreases-loop-a
-decreases-loop-a l = l.actions - l.a
+invariant-loop-a l = l.ways ≡ ways_by l.hops l.a

@@ -1,4 +1,4 @@
-use Rattle.std.proofs.Common.{Bool, true, false, ℕ, refl, ◌<◌, ◌≤◌, ◌≡◌, cond, ap, sym, ◌∙◌, arith, length, take, drop, get_or, length-take, length-append, length-drop, not-suc-le-zero}
+use Rattle.std.proofs.Common.{Bool, true, false, ℕ, refl, ◌<◌, ◌≤◌, ◌≡◌, cond, ap, ◌∙◌, arith, length, take, drop, length-take, length-append, length-drop, not-suc-le-zero}
 use mir.Val.{bool_byte}
 use Rattle.std.proofs.Math.ListN.{get_or-append}
 use Rattle.std.proofs.lemmas.List.Edits.{fill_by_more}

@@ -1,4 +1,4 @@
-use Rattle.std.proofs.Common.{sym, true≢false, ◌-◌, not-suc-le-zero, arith, below_more, eqb-true}
+use Rattle.std.proofs.Common.{sym, true≢false, not-suc-le-zero, arith, below_more, eqb-true}
 use Rattle.loops.specs.Count.Laws.{and_out}
 use Rattle.mets.proofs.is_known.Goals as goal
 
