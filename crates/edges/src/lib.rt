@@ -12,8 +12,8 @@ fn actions_of(kinds: &[u8], actions: usize, i: usize, acts: &mut [u8]) -> usize
     ensures { Front (those (of_leaf kinds.now i) actions) acts.old result acts.new }
 {
     let mut count = 0;
-    for a in 0..actions {
-        if kinds[a] as usize == i + 1 {
+    for (a, kind) in kinds[..actions].iter().enumerate() {
+        if *kind as usize == i + 1 {
             acts[count] = a as u8;
             count += 1;
         }
@@ -28,10 +28,9 @@ fn edges_of(moves: &[u16], row: usize, own: &[u8], s: usize, acts: &mut [u8]) ->
     ensures { Front (edges_in moves.now row own.now s) acts.old result acts.new }
 {
     let mut count = 0;
-    for j in 0..own.len() {
-        let a = own[j];
-        if moves[a as usize * row + s] != 0 {
-            acts[count] = a;
+    for a in own {
+        if moves[*a as usize * row + s] != 0 {
+            acts[count] = *a;
             count += 1;
         }
     }

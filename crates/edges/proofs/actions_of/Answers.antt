@@ -1,34 +1,43 @@
-use Rattle.std.proofs.Common.{refl, ap, ◌∙◌, ◌-◌, le_antisymm, arith, length, length-set, eq-eqb, ne_eqb}
+use Rattle.std.proofs.Common.{refl, ap, sym, ◌∙◌, ◌≡◌, ◌<◌, ◌≤◌, arith, length, get_or, take, length-set, length-take, get_or-take, eq-eqb, ne_eqb}
 use Rattle.edges.specs.Edges.{those, of_leaf}
 use Rattle.edges.specs.Edges.Those.{those_here, those_not, front_more}
 use Rattle.edges.proofs.actions_of.Goals as goal
-use Rattle.edges.proofs.actions_of.Goals.{then-kinds-a, else-kinds-a}
+use Rattle.edges.proofs.actions_of.Goals.{In-loop-a, then-kind-i, else-kind-i}
+
+-- this turn's action, and its kind
+turn : (c : In-loop-a) → let l = c.loop-a in let s = c.args in (l.a < s.actions) × (get_or (take s.actions s.kinds.now) l.a 0 ≡ get_or s.kinds.now l.a 0)
+turn c =
+    let s = c.args in
+    let few : length (take s.actions s.kinds.now) ≤ s.actions = simp length-take (omega arith) in
+    let below : c.loop-a.a < s.actions = omega (arith, c.loop-a-test.true, few) in
+    (below, get_or-take s.actions s.kinds.now c.loop-a.a 0 below)
 
 pub loop-a-init : goal.loop-a-init
 unfolding those
-loop-a-init c = (omega arith, omega arith, refl, record { many = refl; written = refl })
-
-pub overflow_cast-kinds : goal.overflow_cast-kinds
-overflow_cast-kinds c = omega (arith, c.type_inv.kinds c.loop-a.a)
+loop-a-init c = (omega arith, refl, record { many = refl; written = refl })
 
 pub loop-a-preserved : goal.loop-a-preserved
 loop-a-preserved c =
     let l = c.loop-a in
     let s = c.args in
     let p = of_leaf s.kinds.now s.i in
-    elim c.if-kinds-a.branch [
-      | then-kinds-a w ↦ let e = those_here p l.a (eq-eqb _ _ w.if-kinds-a.true) in (
-        omega arith,
+    let t = turn (goal.at.loop-a-preserved c).In-loop-a in
+    elim c.if-kind-i.branch [
+      | then-kind-i w ↦ let e = those_here p l.a (eq-eqb _ _ (sym t.1 ∙ w.if-kind-i.true)) in (
         omega (arith, w.count-is),
-        ap length w.acts-is ∙ simp length-set l.invariant.2,
-        rw (e, w.acts-is, w.count-is) (front_more l.a (omega arith) l.invariant.3),
+        ap length w.acts-is ∙ simp length-set l.invariant.1,
+        rw (e, w.acts-is, w.count-is) (front_more l.a (omega (arith, t.0)) l.invariant.2),
       )
-      | else-kinds-a w ↦ let e = those_not p l.a (ne_eqb _ _ w.if-kinds-a.false) in
-          (omega arith, omega (arith, w.count-is), ap length w.acts-is ∙ l.invariant.2, rw (e, w.acts-is, w.count-is) l.invariant.3)
+      | else-kind-i w ↦ let e = those_not p l.a (ne_eqb _ _ (λ q. w.if-kind-i.false (t.1 ∙ q))) in
+          (omega (arith, w.count-is), ap length w.acts-is ∙ l.invariant.1, rw (e, w.acts-is, w.count-is) l.invariant.2)
     ]
 
 pub shape_of-acts : goal.shape_of-acts
-shape_of-acts c = c.loop-a.invariant.2
+shape_of-acts c = c.loop-a.invariant.1
 
 pub returns : goal.returns
-returns c = rw (le_antisymm c.loop-a.invariant.0 c.loop-a-test.false) at c.loop-a.invariant.3
+returns c =
+    let s = c.args in
+    let few : length (take s.actions s.kinds.now) ≡ s.actions = simp length-take (omega (arith, c.requires.2)) in
+    let every : c.loop-a.a ≡ s.actions = omega (arith, few) in
+    rw every at c.loop-a.invariant.2

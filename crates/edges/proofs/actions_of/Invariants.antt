@@ -1,13 +1,10 @@
 -- `edges::actions_of` meets its contract. The invariant: the leaf's actions so far stand at the front, and behind them the list is as it
 -- was. Assumes nothing.
-use Rattle.std.proofs.Common.{◌≡◌, ◌-◌, ◌≤◌, length}
+use Rattle.std.proofs.Common.{◌≡◌, ◌≤◌, length}
 use Rattle.layer.specs.Lent.{Front}
 use Rattle.edges.specs.Edges.{those, of_leaf}
 use Rattle.edges.proofs.actions_of.Given as goal
 
 abbrev pub invariant-loop-a : goal.invariant-loop-a
 invariant-loop-a l =
-    (l.a ≤ l.actions) × (l.count ≤ l.a) × (length l.acts ≡ length l.initial.acts) × Front (those (of_leaf l.kinds l.i) l.a) l.initial.acts l.count l.acts
-
-abbrev pub decreases-loop-a : goal.decreases-loop-a
-decreases-loop-a l = l.actions - l.a
+    (l.count ≤ l.a) × (length l.acts ≡ length l.initial.acts) × Front (those (of_leaf l.kinds l.i) l.a) l.initial.acts l.count l.acts

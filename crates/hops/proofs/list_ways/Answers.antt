@@ -1,6 +1,6 @@
-use Rattle.std.proofs.Common.{refl, ap, ◌∙◌, ◌≡◌, ◌<◌, arith, length, get_or, take, length-take, get_or-take}
+use Rattle.std.proofs.Common.{refl, ◌≡◌, ◌<◌, arith, length, get_or, take, length-take, get_or-take}
 use Rattle.hops.specs.Hops.{ways_by}
-use Rattle.hops.specs.Hops.Laws.{ways_right, way_pass, way_more}
+use Rattle.hops.specs.Hops.Laws.{way_pass, way_more}
 use Rattle.hops.proofs.list_ways.Goals as goal
 use Rattle.hops.proofs.list_ways.Goals.{In-loop-a}
 
@@ -16,17 +16,14 @@ pub loop-a-init : goal.loop-a-init
 unfolding ways_by
 loop-a-init c = refl
 
-pub overflow_cast-word : goal.overflow_cast-word
-overflow_cast-word c = ?
-
-pub overflow_sub-ways : goal.overflow_sub-ways
-overflow_sub-ways c = ?
-
-pub bounds-ways-word : goal.bounds-ways-word
-bounds-ways-word c = ?
-
 pub loop-a-preserved : goal.loop-a-preserved
-loop-a-preserved c = ?
+loop-a-preserved c =
+    let l = c.loop-a in
+    let H = c.args.hops.now in
+    let same = (turn (goal.at.loop-a-preserved c).In-loop-a).1 in
+    let more = way_more H l.a in
+    let pass = way_pass H l.a in
+    grind (arith, more, pass, same, l.invariant)
 
 pub returns : goal.returns
 returns c =

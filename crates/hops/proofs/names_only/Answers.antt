@@ -1,4 +1,4 @@
-use Rattle.std.proofs.Common.{refl, ap, ◌∙◌, ◌≡◌, ◌<◌, Bool, ◌&&◌, ◌||◌, ℕ, ◌+◌, ◌-◌, add-one, arith, eqb, length, get_or, take, drop}
+use Rattle.std.proofs.Common.{refl, ap, ◌∙◌, ◌≡◌, ◌<◌, Bool, ◌&&◌, ◌||◌, ℕ, ◌+◌, add-one, arith, eqb, get_or}
 use Rattle.loops.specs.Count.{all}
 use Rattle.loops.specs.Count.Chains.{part_length, part_at}
 use Rattle.hops.specs.Hops.{names_only}
