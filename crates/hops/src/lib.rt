@@ -17,8 +17,8 @@ fn names_only(pairs: &[u8], at: usize, v: usize) -> bool
     ensures { result ≡ names_only pairs.now at v }
 {
     let mut alone = true;
-    for w in 0..32 {
-        alone = alone & ((w == v) | (pairs[at + w] == FREE));
+    for (w, pair) in pairs[at..at + 32].iter().enumerate() {
+        alone = alone & ((w == v) | (*pair == FREE));
     }
     alone
 }
@@ -77,9 +77,17 @@ pub fn list_hops(board: &Board<'_>, effects: &[u8], firsts: &[u8], still: &[u8])
     ensures { result ≡ hops_by board.now.actions board.now.kinds.now board.now.conditions.now effects.now firsts.now still.now }
 {
     let mut hops = [0u16; 256];
+<<<<<<< HEAD
     for a in 0..board.actions {
         let word = hop_word(board, effects, firsts, still, a);
         hops[a] = word;
+=======
+    for (a, word) in hops[..actions].iter_mut().enumerate() {
+        *word = hop_word(
+            leaves, actions, bases, moves, costs, kinds, factors, conditions, effects, firsts,
+            still, a,
+        );
+>>>>>>> 0ef9bbd868aaf0560745ef17d7e6cbd554390e85
     }
     hops
 }
@@ -91,10 +99,9 @@ pub fn list_ways(actions: usize, hops: &[u16]) -> [u8; 8192]
     ensures { result ≡ ways_by hops.now actions }
 {
     let mut ways = [0u8; 8192];
-    for a in 0..actions {
-        let word = hops[a] as usize;
-        if word != 0 {
-            ways[word - 1] = a as u8 + 1;
+    for (a, word) in hops[..actions].iter().enumerate() {
+        if *word != 0 {
+            ways[*word as usize - 1] = a as u8 + 1;
         }
     }
     ways

@@ -1,12 +1,12 @@
 -- Actions that leave each state of a leaf, or of each leaf, as it is. Assumes nothing.
-use Rattle.std.specs.Prelude.{◌≡◌, refl, Bool, true, false, cond, not, ◌&&◌, List, ◌++◌, ℕ, suc, ◌+◌, ◌-◌, ◌*◌, ◌/◌, ◌%◌, ◌≤◌, ◌<◌, ltb, eqb, length, get_or, set, drop, replicate}
-use Rattle.std.proofs.Common.{sym, ap, ◌∙◌, true≢false, mul-le-mul_right, arith, length-append, length-drop, get_or-append-add, get_or-drop, eq-eqb, eqb-true}
+use Rattle.std.specs.Prelude.{◌≡◌, refl, Bool, true, false, cond, not, ◌&&◌, List, ◌++◌, ℕ, suc, ◌+◌, ◌-◌, ◌*◌, ◌/◌, ◌%◌, ◌≤◌, ◌<◌, ltb, eqb, length, get_or, set, take, drop, replicate}
+use Rattle.std.proofs.Common.{sym, ap, ◌∙◌, true≢false, mul-le-mul_right, arith, length-append, length-take, length-drop, get_or-append-add, get_or-drop, eq-eqb, eqb-true}
 use Rattle.std.proofs.Math.Decide.{dec_le}
 use Rattle.std.proofs.lemmas.List.{length-replicate, get_or-replicate}
 use Rattle.std.proofs.Math.ListN.{get_or-append, get_or-eq_default}
 use Rattle.std.proofs.Math.Arith.{digits_div, digits_mod}
 use Rattle.loops.specs.Count.{all, list}
-use Rattle.loops.specs.Count.Laws.{and_out, all_out, list_length, list_at, list_more}
+use Rattle.loops.specs.Count.Laws.{and_out, all_out, list_length, list_at, list_more, list_over}
 use Rattle.keys.specs.Scan.{Cut}
 use Rattle.keys.specs.Scan.Laws.{cut_in}
 
@@ -92,6 +92,13 @@ module _ (m : ℕ) (f : ℕ → ℕ) where
   -- a turn of the loop that stores the next
   pub padded_more : (n : ℕ) → n < m → set (padded m n f) n (f n) ≡ padded m (n + 1) f
   padded_more n l = list_more n f (replicate m 0) (omega (arith, length-replicate {A = ℕ} m 0))
+
+  -- the loop over the front alone, which begins with zeros
+  pub padded_all : (n a : ℕ) (ys : List ℕ) → n ≤ m → ys ≡ list a f ++ drop a (take n (replicate m 0)) → length (take n (replicate {A = ℕ} m 0)) ≤ a → a ≤ length (take n (replicate {A = ℕ} m 0))
+      → ys ++ drop n (replicate m 0) ≡ padded m n f
+  padded_all n a ys l e low high =
+      let long : length (take n (replicate {A = ℕ} m 0)) ≡ n = simp (length-take, length-replicate) (omega arith) in
+      ap (λ xs. xs ++ drop n (replicate m 0)) (list_over n a f (take n (replicate m 0)) ys e (omega arith) (omega arith))
 
   pub padded_at : (n k : ℕ) → k < n → get_or (padded m n f) k 0 ≡ f k
   padded_at n k l = get_or-append (list n f) (drop n (replicate m 0)) 0 k (omega (arith, list_length n f)) ∙ list_at n f k l

@@ -10,12 +10,10 @@ fn is_still_leaf(moves: &[u16], at: usize, states: usize) -> bool
     requires { at + states ≤ length moves.now }
     ensures { result ≡ stays_by moves.now at states }
 {
-    for x in 0..states {
-        if moves[at + x] as usize != x + 1 {
-            return false;
-        }
-    }
-    true
+    moves[at..at + states]
+        .iter()
+        .enumerate()
+        .all(|(x, next)| *next as usize == x + 1)
 }
 
 // Entry k of the table by action and leaf: 1 if action k / 8 leaves each state of the leaf behind k % 8 leaves as it is, else 0.
@@ -30,10 +28,7 @@ fn still_entry(leaves: usize, bases: &[usize], moves: &[u16], k: usize) -> u8
     let from = k / 8 * bases[leaves];
     let at = bases[i];
     let to = bases[i + 1];
-    if is_still_leaf(moves, from + at, to - at) {
-        return 1;
-    }
-    0
+    u8::from(is_still_leaf(moves, from + at, to - at))
 }
 
 // By action and leaf, eight entries to an action: 1 where the action leaves each state of the leaf as it is, 0 elsewhere.
@@ -42,9 +37,8 @@ pub fn still_leaves(leaves: usize, actions: usize, bases: &[usize], moves: &[u16
     ensures { result ≡ still_leaves leaves actions bases.now moves.now }
 {
     let mut stills = [0u8; 2048];
-    for k in 0..actions * 8 {
-        let stays = still_entry(leaves, bases, moves, k);
-        stills[k] = stays;
+    for (k, stays) in stills[..actions * 8].iter_mut().enumerate() {
+        *stays = still_entry(leaves, bases, moves, k);
     }
     stills
 }
@@ -54,12 +48,8 @@ fn is_still(leaves: usize, stills: &[u8], a: usize) -> u8
     requires { a * 8 + leaves ≤ length stills.now }
     ensures { result ≡ still_by leaves stills.now a }
 {
-    for i in 0..leaves {
-        if stills[a * 8 + i] == 0 {
-            return 0;
-        }
-    }
-    1
+    let from = a * 8;
+    u8::from(!stills[from..from + leaves].contains(&0))
 }
 
 // The actions that leave each state of each leaf as it is: 1 for those, 0 for the others. They are read off the table by action and leaf, so that
@@ -69,9 +59,8 @@ pub fn still_actions(leaves: usize, actions: usize, stills: &[u8]) -> [u8; 256]
     ensures { result ≡ still_actions leaves actions stills.now }
 {
     let mut still = [0u8; 256];
-    for a in 0..actions {
-        let stays = is_still(leaves, stills, a);
-        still[a] = stays;
+    for (a, stays) in still[..actions].iter_mut().enumerate() {
+        *stays = is_still(leaves, stills, a);
     }
     still
 }

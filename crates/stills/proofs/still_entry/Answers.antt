@@ -1,5 +1,6 @@
 -- `stills::still_entry` meets its contract: the leaf's moves lie within the action's. Assumes nothing.
-use Rattle.std.proofs.Common.{◌≡◌, sym, cond, ◌+◌, ◌*◌, ◌/◌, ◌%◌, ◌≤◌, arith, length, get_or, lt-ltb, le-ltb}
+use Rattle.std.proofs.Common.{◌≡◌, ◌∙◌, sym, cond, ◌+◌, ◌*◌, ◌/◌, ◌%◌, ◌≤◌, arith, length, get_or, lt-ltb, le-ltb}
+use Rattle.loops.specs.Count.Chains.{byte_of}
 use Rattle.keys.specs.Scan.{Cut}
 use Rattle.stills.specs.Still.{within, still_entry}
 use Rattle.stills.proofs.still_entry.Goals as goal
@@ -34,8 +35,5 @@ overflow_sub-to c = omega (arith, room (goal.at.overflow_sub-to c).Else-i-leaves
 pub is_still_leaf-requires : goal.is_still_leaf-requires
 is_still_leaf-requires c = omega (arith, room (goal.at.is_still_leaf-requires c).Else-i-leaves)
 
-pub returns-then-is_still_leaf : goal.returns-then-is_still_leaf
-returns-then-is_still_leaf c = rw c.if-is_still_leaf.true at (found (goal.at.returns-then-is_still_leaf c).After-is_still_leaf)
-
 pub returns : goal.returns
-returns c = rw c.if-is_still_leaf.false at (found (goal.at.returns c).After-is_still_leaf)
+returns c = c.from.ensures ∙ byte_of _ ∙ found (goal.at.returns c).After-is_still_leaf
