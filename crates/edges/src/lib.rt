@@ -31,8 +31,8 @@ fn actions_of(kinds: &[u8], actions: usize, i: usize, acts: &mut [u8]) -> usize
     ensures { Front (those (of_leaf kinds.now i) actions) acts.old result acts.new }
 {
     let mut count = 0;
-    for (a, kind) in kinds[..actions].iter().enumerate() {
-        if *kind as usize == i + 1 {
+    for (a, &kind) in kinds[..actions].iter().enumerate() {
+        if kind as usize == i + 1 {
             acts[count] = a as u8;
             count += 1;
         }
@@ -47,15 +47,9 @@ fn edges_of(moves: &[u16], row: usize, own: &[u8], s: usize, acts: &mut [u8]) ->
     ensures { Front (edges_in moves.now row own.now s) acts.old result acts.new }
 {
     let mut count = 0;
-<<<<<<< HEAD
     for &a in own {
         if moves[a as usize * row + s] != 0 {
             acts[count] = a;
-=======
-    for a in own {
-        if moves[*a as usize * row + s] != 0 {
-            acts[count] = *a;
->>>>>>> 0ef9bbd868aaf0560745ef17d7e6cbd554390e85
             count += 1;
         }
     }

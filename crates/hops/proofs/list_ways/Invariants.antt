@@ -1,8 +1,4 @@
-<<<<<<< HEAD
 -- `hops::list_ways` meets its contract. The invariant: the actions so far have their ways. Assumes nothing.
-=======
--- `hops::list_ways` meets its contract. The invariant: the ways are those of the actions so far. Assumes nothing.
->>>>>>> 0ef9bbd868aaf0560745ef17d7e6cbd554390e85
 use Rattle.std.proofs.Common.{◌≡◌}
 use Rattle.hops.specs.Hops.{ways_by}
 use Rattle.hops.proofs.list_ways.Given as goal

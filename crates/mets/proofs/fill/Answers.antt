@@ -1,9 +1,5 @@
 -- `mets::fill` meets its contract: flags, values and list stand in the slot. Assumes nothing.
-<<<<<<< HEAD
 use Rattle.std.proofs.Common.{List, ℕ, ap, ◌∙◌, ◌++◌, ◌-◌, arith, length, take, drop}
-=======
-use Rattle.std.proofs.Common.{List, ℕ, ap, ◌∙◌, ◌++◌, ◌-◌, arith, length, take, drop, length-set}
->>>>>>> 0ef9bbd868aaf0560745ef17d7e6cbd554390e85
 use Rattle.mets.specs.Known.{Stored, stored_part, flags_right, flags_low, slot_filled}
 use Rattle.mets.proofs.fill.Goals as goal
 use Rattle.mets.proofs.fill.Goals.{After-copy_from_slice}

@@ -1,10 +1,5 @@
-<<<<<<< HEAD
 use Rattle.std.proofs.Common.{◌≡◌, refl, sym, ◌∙◌, List, ℕ, ◌+◌, ◌<◌, arith, get_or, set, get_or-set_same, get_or-set_other}
 use Rattle.mets.specs.Listed.{listed_ext, listed_more}
-=======
-use Rattle.std.proofs.Common.{◌≡◌, refl, sym, ◌∙◌, List, ℕ, ◌+◌, ◌≤◌, ◌<◌, arith, length, get_or, set, length-set, get_or-set_same, get_or-set_other}
-use Rattle.mets.specs.Listed.{listed_none, listed_ext, listed_more}
->>>>>>> 0ef9bbd868aaf0560745ef17d7e6cbd554390e85
 use Rattle.mets.proofs.list_flagged.Goals as goal
 use Rattle.mets.proofs.list_flagged.Goals.{In-loop-a}
 
