@@ -5,4 +5,4 @@ use Rattle.stills.specs.Still.{still_by}
 use Rattle.stills.proofs.still_actions.Given as goal
 
 abbrev pub invariant-loop-a : goal.invariant-loop-a
-invariant-loop-a l = l.stays-items ≡ list l.a (still_by l.leaves l.stills) ++ drop l.a (take l.actions (replicate 256 0))
+invariant-loop-a l = l.stays-items ≡ list l.a (still_by l.board.leaves l.stills) ++ drop l.a (take l.board.actions (replicate 256 0))

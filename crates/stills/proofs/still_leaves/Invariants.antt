@@ -5,4 +5,4 @@ use Rattle.stills.specs.Still.{still_entry}
 use Rattle.stills.proofs.still_leaves.Given as goal
 
 abbrev pub invariant-loop-k : goal.invariant-loop-k
-invariant-loop-k l = l.stays-items ≡ list l.k (still_entry l.leaves l.bases l.moves) ++ drop l.k (take (l.actions * 8) (replicate 2048 0))
+invariant-loop-k l = l.stays-items ≡ list l.k (still_entry l.board.leaves l.board.bases.now l.board.moves.now) ++ drop l.k (take (l.board.actions * 8) (replicate 2048 0))
