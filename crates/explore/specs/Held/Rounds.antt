@@ -3,7 +3,7 @@ use Rattle.std.specs.Prelude.{◌≡◌, ◌⊎◌, Bool, true, false, cond, ◌
 use Rattle.std.proofs.Math.Path.{refl, ap}
 use Rattle.std.proofs.Common.{sym, ◌∙◌, inl, inr, length-set, get_or-set_same, get_or-set_other, ext_get_or}
 use Rattle.std.proofs.Math.Bool.{and-false}
-use Prim.Native.Nat.{ℕ, zero, suc, ◌+◌, ◌-◌, ◌≤◌, ◌<◌, min}
+use Prim.Native.Nat.{ℕ, zero, suc, ◌+◌, ◌-◌, ◌*◌, ◌≤◌, ◌<◌, min}
 use native.Mathlib.Omega.{arith}
 use Rattle.std.proofs.Math.Decide.{ℕ_discrete}
 use Rattle.std.proofs.Math.Dec.{ltb}
@@ -36,7 +36,7 @@ use Rattle.offers.specs.declared.Full.{Full}
 use Rattle.explore.specs.declared.Stop.{Stop}
 use Rattle.expand.specs.Held.{Suits, expanded_of}
 use Rattle.explore.specs.Held.{stopped_of}
-use Rattle.offers.specs.Held.{search_of, run_of, Cached, Room}
+use Rattle.offers.specs.Held.{best_number, search_of, run_of, Cached, Room}
 use Rattle.offers.specs.Held.Laws.{kept_length, node_at_lem, below_is, best_cap}
 
 -- ---- the flags
@@ -160,7 +160,7 @@ module _ (S : ℕ) (T O P : List ℕ) (r : Run) (u : ℕ) (long : u < length O) 
   -- the mark as open key: node u's expansion has begun
   pub begin_is : search_of S T P (begun r) ≡ begin u (search_of S T O r)
   unfolding search_of begin
-  begin_is = ap {B = Search} (λ ds. record { kept = nodes_in S T r.count; done = ds; begun = r.begun + 1; best = r.best }) flags
+  begin_is = ap {B = Search} (λ ds. record { kept = nodes_in S T r.count; done = ds; begun = r.begun + 1; best = best_number r.best }) flags
     where
       new : Search
       new = search_of S T P (begun r)
@@ -253,6 +253,10 @@ module _ (t : Task) (ok : Valid t) (nodes : ℕ) (few : nodes ≤ 4096) (budget 
   pub ahead_count : r.count ≤ nodes
   ahead_count = omega (arith, kept_length S T O r, a.holds.base.room)
 
+  -- the table has room for the nodes and one row more
+  pub ahead_room : S ≤ 1024 → (nodes + 1) * (40 + S) ≤ length T → length O ≡ 17696 → Room S nodes T O r
+  ahead_room small wide long = record { few_states = small; few_nodes = few; table_long = wide; scan_long = long; count_few = ahead_count; chained = a.chained }
+
   -- one round more is left
   ahead_more : explore t nodes budget (suc (nodes - r.begun)) (search_of S T O r) ≡ explored t nodes budget
   ahead_more = let e : suc nodes - r.begun ≡ suc (nodes - r.begun) = omega (arith, ahead_begun) in rw e at a.rest
@@ -342,8 +346,3 @@ module _ (t : Task) (ok : Valid t) (nodes : ℕ) (few : nodes ≤ 4096) (budget 
 abbrev pub Rounded : Task → ℕ → ℕ → ℕ → ℕ → List ℕ → List ℕ → Result Run Stop → Type 0
 Rounded t nodes budget b S T O (Err r) = (stopped_of S T O r ≡ explored t nodes budget) × Cached t S T O r.run
 Rounded t nodes budget b S T O (Ok r) = Ahead t nodes budget S T O r × (r.begun ≡ b + 1)
-
--- the rest is ahead as it was, for every task that the tables suit
-abbrev pub AheadBy : Board → List ℕ → List ℕ → List ℕ → ℕ → ℕ → List ℕ → List ℕ → Run → List ℕ → List ℕ → Run → Type 0
-AheadBy b effects goals goalPairs nodes budget T₀ O₀ r₀ T O r =
-    (t : Task) → Suits t b effects goals goalPairs → Ahead t nodes budget (all_states t) T₀ O₀ r₀ → Ahead t nodes budget (all_states t) T O r

@@ -10,15 +10,12 @@ use Rattle.task.specs.declared.Centre.{Centre}
 use Rattle.task.specs.Meaning.{initial}
 use Rattle.task.specs.Factors.{all_states}
 use Rattle.task.specs.Centre.{centre}
-use Rattle.task.specs.Valid.{Valid}
 use Rattle.leaf.specs.Price.{mark}
 use Rattle.layer.specs.Layer.{first_prices}
 use Rattle.layer.specs.Layer.Laws.{first_length}
-use Rattle.layer.specs.Board.{Board, row_on, first_on, Sound}
+use Rattle.layer.specs.Board.{Board, row_on, first_on}
 use Rattle.layer.specs.Board.Laws.{row_on_lem, first_on_lem}
-use Rattle.layer.specs.Lent.{board_of}
-use Rattle.tables.specs.Tables.{Starts, Goals, Tabled}
-use Rattle.tables.specs.Fit.{tables_fit}
+use Rattle.tables.specs.Tables.{Starts}
 use Rattle.search.specs.Node.{first_node, key, is_goal, goal_cost}
 use Rattle.search.specs.Made.{Made, made_first}
 use Rattle.search.specs.Small.{made_key, made_goal}
@@ -36,17 +33,6 @@ use Rattle.expand.specs.Held.{Suits}
 use Rattle.offers.specs.Held.{search_of, Cached, Kept}
 use Rattle.offers.specs.Held.Laws.{key_is, goal_is, keep_is, keep_cached}
 use Rattle.expand.specs.Held.Turns.{suits_scans}
-
--- ---- the tables
-
--- the tables of a valid task suit it, and can be indexed
-pub tables_suit : (t : Task) → Valid t → (bases moves costs kinds starts goals : List ℕ) → Tabled t bases moves costs kinds starts → Goals t goals
-    → length t.factors ≡ 32 → length t.conditions ≡ 8192
-    → let b = board_of t.leaves t.actions bases moves costs kinds t.factors t.conditions in
-    Suits t b t.effects goals t.goal × Sound b
-tables_suit t ok bases moves costs kinds starts goals h g f c =
-    let w = tables_fit t ok bases moves costs kinds h.is_bases h.is_moves h.is_costs h.is_kinds h.long_moves f c in
-    (record { valid = ok; fits = w.0; effects_is = refl; goals_is = g; goal_is = refl }, w.1)
 
 -- ---- a search of no nodes
 
