@@ -15,7 +15,6 @@ use Rattle.expand.proofs.list_turns.Goals.{Start}
 abbrev board : Start → Board
 board s = board_in s.args.tables.now.board
 
-
 -- what a hop's word tells of the node: it was made by that hop, and has its parent's prices
 hop : (s : Start) (word : ℕ)
     → (let a = s.args in let o = a.opened.now in word ≡ hop_behind o.node.states a.tables.now.board.actions a.table.now a.tables.now.hops.now o.number o.node.prices.now)
