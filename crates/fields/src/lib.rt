@@ -100,7 +100,8 @@ impl<'a> BitReader<'a> {
         ensures { result ≡ field_of self.now.bytes.now self.now.at width }
     {
         let mut value: u16 = 0;
-        for k in self.at..self.at + width {
+        for i in 0..width {
+            let k = self.at + i;
             let low = k % 8;
             let high = 7 - low;
             let bit = (self.bytes[k / 8] >> high) % 2;
@@ -119,7 +120,7 @@ impl<'a> BitReader<'a> {
         ensures same_record { self.new.bytes ≡ self.old.bytes }
     {
         let width = field.width();
-        if (self.at + width).div_ceil(8) > self.bytes.len() {
+        if (self.at + width + 7) / 8 > self.bytes.len() {
             return Err(Refusal::RecordEnds);
         }
         let value = self.bits(width);

@@ -35,7 +35,8 @@ pub fn read_pair(r: &mut BitReader<'_>, sizes: &[u8], low: usize) -> Result<Pair
 }
 
 // `count` pairs of the variables of these sizes, each value into `pairs` at `base` plus its variable. Where one is refused, the entries of this list, one for
-// each variable from `base` on, are left to the program; all others stay as they were.
+// each variable from `base` on, are left to the program; all others stay as they were. Most of a record is pairs, so a reader of the loop's own goes from pair to
+// pair: its place stays in a register.
 pub fn read_pairs(
     r: &mut BitReader<'_>,
     sizes: &[u8],
@@ -50,13 +51,15 @@ pub fn read_pairs(
     ensures same_record { r.new.bytes ≡ r.old.bytes }
     ensures elsewhere { Elsewhere base (length sizes.now) pairs.old pairs.new }
 {
+    let mut next = *r;
     let mut low = 0;
     for _ in 0..count {
-        let pair = read_pair(r, sizes, low)?;
+        let pair = read_pair(&mut next, sizes, low)?;
         let v = pair.variable as usize;
         pairs[base + v] = pair.value;
         low = v + 1;
     }
+    *r = next;
     Ok(())
 }
 

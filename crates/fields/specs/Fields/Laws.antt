@@ -1,5 +1,5 @@
 -- Laws of a record's fields. Assumes nothing.
-use Rattle.std.specs.Prelude.{ℕ, zero, suc, ◌+◌, ◌-◌, ◌*◌, ◌^◌, ◌<◌, ◌≤◌, ◌≡◌, refl, Bool, true, false, cond, List, leb, length}
+use Rattle.std.specs.Prelude.{ℕ, zero, suc, ◌+◌, ◌*◌, ◌^◌, ◌<◌, ◌≤◌, ◌≡◌, refl, Bool, true, false, cond, List, leb, length}
 use Rattle.std.proofs.Common.{pow-suc, lt_of_lt_of_le, add-one, arith, le-leb, leb-true, leb→le, pow_mono}
 use Rattle.std.proofs.lemmas.Bool.{lt-leb}
 use Rattle.loops.specs.Parsed.{got, refused}
@@ -33,13 +33,6 @@ field_below m rec k {w} h = lt_of_lt_of_le (field_lt rec k w) (pow_mono h)
 pub field_more : (rec : List ℕ) (k w : ℕ) → field_of rec k (w + 1) ≡ field_of rec k w * 2 + bit_of rec (k + w)
 unfolding field_of
 field_more rec k w = rw add-one
-
--- the same, where the bits are counted from k to the bit that is reached
-pub field_on : (rec : List ℕ) (k i : ℕ) → k ≤ i → field_of rec k (i + 1 - k) ≡ field_of rec k (i - k) * 2 + bit_of rec i
-field_on rec k i h =
-    let one : i + 1 - k ≡ i - k + 1 = omega arith in
-    let there : k + (i - k) ≡ i = omega arith in
-    rw (one, field_more, there)
 
 -- ---- next_field
 

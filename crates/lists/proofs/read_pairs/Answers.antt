@@ -14,7 +14,7 @@ returns-in_err-pair-clause-told c =
     let a = c.args in
     let l = c.loop.invariant in
     let p = err_from_is_err_and c.from_residual.result c.from_residual.ensures.1 in
-    let e : pair_of (next_field a.r.now.bytes.now) a.sizes.now (length a.sizes.now) c.loop.low c.loop.r.at ≡ refused c.in_err-pair.field-0.0 =
+    let e : pair_of (next_field a.r.now.bytes.now) a.sizes.now (length a.sizes.now) c.loop.low c.loop.next.at ≡ refused c.in_err-pair.field-0.0 =
     rw (← l.same_record) c.in_err-pair.ensures.told in
     let all : rest a.r.now.bytes.now a.sizes.now a.base a.count 0 a.pairs.now 0 a.r.now.at ≡ refused c.in_err-pair.field-0.0 =
     l.left ∙ turns_stop _ _ _ _ _ (omega arith) (simp e) in
@@ -24,7 +24,7 @@ pub loop-preserved : goal.loop-preserved
 loop-preserved c =
     let a = c.args in
     let l = c.loop.invariant in
-    let e : pair_of (next_field a.r.now.bytes.now) a.sizes.now (length a.sizes.now) c.loop.low c.loop.r.at ≡ got c.in_ok-pair.pair c.read_pair.new.r.at =
+    let e : pair_of (next_field a.r.now.bytes.now) a.sizes.now (length a.sizes.now) c.loop.low c.loop.next.at ≡ got c.in_ok-pair.pair c.read_pair.new.r.at =
     rw (← l.same_record) c.in_ok-pair.ensures.told in
     record {
       near = omega (arith, c.in_ok-pair.ensures.near);
@@ -37,6 +37,6 @@ pub returns-clause-told : goal.returns-clause-told
 unfolding pairs_from
 returns-clause-told c =
     let a = c.args in
-    let all : rest a.r.now.bytes.now a.sizes.now a.base a.count 0 a.pairs.now 0 a.r.now.at ≡ got (record { low = c.loop.low; into = c.loop.pairs }) c.loop.r.at =
+    let all : rest a.r.now.bytes.now a.sizes.now a.base a.count 0 a.pairs.now 0 a.r.now.at ≡ got (record { low = c.loop.low; into = c.loop.pairs }) c.loop.next.at =
     c.loop.invariant.left ∙ turns_end _ _ _ _ _ c.loop-test.false in
     simp all

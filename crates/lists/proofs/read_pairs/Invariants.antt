@@ -16,10 +16,10 @@ rest rec sizes base left i pairs low k =
 abbrev pub invariant-loop : goal.invariant-loop
 invariant-loop l =
     record {
-      near : l.r.at ≤ l.initial.r.at + 9 * l.counter;
-      same_record : l.r.bytes ≡ l.initial.r.bytes;
+      near : l.next.at ≤ l.initial.r.at + 9 * l.counter;
+      same_record : l.next.bytes ≡ l.initial.r.bytes;
       elsewhere : Elsewhere l.base (length l.sizes) l.initial.pairs l.pairs;
       left :
           rest l.initial.r.bytes.now l.sizes l.base l.count 0 l.initial.pairs 0 l.initial.r.at
-          ≡ rest l.initial.r.bytes.now l.sizes l.base (l.count - l.counter) l.counter l.pairs l.low l.r.at;
+          ≡ rest l.initial.r.bytes.now l.sizes l.base (l.count - l.counter) l.counter l.pairs l.low l.next.at;
     }

@@ -3,8 +3,8 @@ use Rattle.std.proofs.Common.{arith}
 use Rattle.fields.specs.Fields.Laws.{field_lt, next_ends, next_got}
 use Rattle.fields.proofs.BitReader.read.Goals as goal
 
-pub returns-then-div_ceil-self-clause-told : goal.returns-then-div_ceil-self-clause-told
-returns-then-div_ceil-self-clause-told c = next_ends _ _ _ (omega arith)
+pub returns-then-self-width-clause-told : goal.returns-then-self-width-clause-told
+returns-then-self-width-clause-told c = next_ends _ _ _ (omega arith)
 
 pub returns-clause-told : goal.returns-clause-told
 returns-clause-told c =
