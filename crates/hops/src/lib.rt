@@ -4,7 +4,7 @@
 ghost use Rattle.std.specs.Prelude.{◌≡◌, ℕ, ◌+◌, ◌*◌, ◌≤◌, ◌<◌, length, get_or};
 ghost use Rattle.layer.specs.First.{Firsts};
 ghost use Rattle.layer.specs.Held.{board_in};
-ghost use Rattle.stills.specs.Still.{Still};
+ghost use Rattle.stills.specs.Still.{StillOn};
 ghost use Rattle.hops.specs.Hops.{names_only, pair_word, hop_word, hops_by, ways_by};
 
 use layer::Board;
@@ -51,7 +51,7 @@ fn pair_word(conditions: &[u8], effects: &[u8], a: usize, v: usize) -> u16
 fn hop_word(board: &Board<'_>, effects: &[u8], firsts: &[u8], still: &[u8], a: usize) -> u16
     requires effects { length effects.now ≡ 8192 }
     requires firsts { Firsts (board_in board.now) firsts.now }
-    requires still { Still board.now.leaves board.now.actions board.now.bases.now board.now.moves.now still.now }
+    requires still { StillOn (board_in board.now) still.now }
     requires a_lt_actions { a < board.now.actions }
     ensures { result ≡ hop_word board.now.kinds.now board.now.conditions.now effects.now firsts.now still.now a }
 {
@@ -72,7 +72,7 @@ fn hop_word(board: &Board<'_>, effects: &[u8], firsts: &[u8], still: &[u8], a: u
 pub fn list_hops(board: &Board<'_>, effects: &[u8], firsts: &[u8], still: &[u8]) -> [u16; 256]
     requires effects { length effects.now ≡ 8192 }
     requires firsts { Firsts (board_in board.now) firsts.now }
-    requires still { Still board.now.leaves board.now.actions board.now.bases.now board.now.moves.now still.now }
+    requires still { StillOn (board_in board.now) still.now }
     ensures { result ≡ hops_by board.now.actions board.now.kinds.now board.now.conditions.now effects.now firsts.now still.now }
 {
     let mut hops = [0u16; 256];
