@@ -159,8 +159,8 @@ pub fn walk_task(
     ensures { walked result (take (all_states task) layer.new) ≡ walk task (first_layer task) path.now }
 {
     let mut moves = [0u16; 261120];
-    fill_moves(task, bases, &mut moves);
-    let costs = action_costs(task);
-    let starts = leaf_starts(task);
+    fill_moves(&task, bases, &mut moves);
+    let costs = action_costs(&task);
+    let starts = leaf_starts(&task);
     walk_path(task, &bases, &moves, &costs, &kinds, &starts, path, layer)
 }

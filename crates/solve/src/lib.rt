@@ -167,11 +167,11 @@ fn search_with(
     ensures { ◌≡◌ {A = Outcome} (record { answer = result; plan = plan.new; words = [] })
         (at_stop task (explored task nodes budget).reason (explored task nodes budget).search plan.old []) }
 {
-    fill_moves(task, bases, moves);
-    let costs = action_costs(task);
-    let kinds = action_kinds(task);
-    let starts = leaf_starts(task);
-    let goals = leaf_goals(task, bases);
+    fill_moves(&task, bases, moves);
+    let costs = action_costs(&task);
+    let kinds = action_kinds(&task);
+    let starts = leaf_starts(&task);
+    let goals = leaf_goals(&task, bases);
     let mut ends: [usize; 1025] = [0; 1025];
     task_edges(task, &bases, moves, &costs, &kinds, edges, &mut ends);
     let mut scan = [0u64; 17696];
