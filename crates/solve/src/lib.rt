@@ -91,7 +91,7 @@ fn answer_of(
 // The tables of the task, the search, and its answer; `moves` is lent for what each action makes of each leaf state, `edges` for the leaf actions
 // that move it.
 fn search_with(
-    task: Task,
+    task: &Task,
     bases: [usize; 9],
     nodes: usize,
     budget: u32,
@@ -100,18 +100,18 @@ fn search_with(
     plan: &mut [u8],
     table: &mut [u64],
 ) -> PlanAnswer
-    requires valid { Valid task }
-    requires bases { Bases task bases × (1 ≤ nodes) × (nodes ≤ 4096) × (table_words task nodes ≤ length table.old)
-        × (task.actions * all_states task ≤ length moves.old) × (task.actions * all_states task ≤ length edges.old) }
+    requires valid { Valid task.now }
+    requires bases { Bases task.now bases × (1 ≤ nodes) × (nodes ≤ 4096) × (table_words task.now nodes ≤ length table.old)
+        × (task.now.actions * all_states task.now ≤ length moves.old) × (task.now.actions * all_states task.now ≤ length edges.old) }
     ensures { ◌≡◌ {A = Outcome} (record { answer = result; plan = plan.new; words = [] })
-        (at_stop task (explored task nodes budget).reason (explored task nodes budget).search plan.old []) }
+        (at_stop task.now (explored task.now nodes budget).reason (explored task.now nodes budget).search plan.old []) }
 {
     fill_moves(task, bases, moves);
     let costs = action_costs(task);
     let kinds = action_kinds(task);
     let starts = leaf_starts(task);
     let goals = leaf_goals(task, bases);
-    let tables = TaskTables::new(&task, &bases, moves, &costs, &kinds, &starts);
+    let tables = TaskTables::new(task, &bases, moves, &costs, &kinds, &starts);
     let mut ends = [0usize; 1025];
     fill_edges(&tables.board, edges, &mut ends);
     let leads = EdgeTable {
@@ -125,17 +125,17 @@ fn search_with(
 
 // The search with room for the moves: less of it to fill where the task has few.
 fn search_tables(
-    task: Task,
+    task: &Task,
     bases: [usize; 9],
     nodes: usize,
     budget: u32,
     plan: &mut [u8],
     table: &mut [u64],
 ) -> PlanAnswer
-    requires valid { Valid task }
-    requires bases { Bases task bases × (1 ≤ nodes) × (nodes ≤ 4096) × (table_words task nodes ≤ length table.old) }
+    requires valid { Valid task.now }
+    requires bases { Bases task.now bases × (1 ≤ nodes) × (nodes ≤ 4096) × (table_words task.now nodes ≤ length table.old) }
     ensures { ◌≡◌ {A = Outcome} (record { answer = result; plan = plan.new; words = [] })
-        (at_stop task (explored task nodes budget).reason (explored task nodes budget).search plan.old []) }
+        (at_stop task.now (explored task.now nodes budget).reason (explored task.now nodes budget).search plan.old []) }
 {
     let leaves = task.leaves as usize;
     let actions = task.actions as usize;
@@ -162,17 +162,17 @@ fn search_tables(
 
 // The search, and its words zeroed behind it.
 pub fn search_task(
-    task: Task,
+    task: &Task,
     bases: [usize; 9],
     nodes: usize,
     budget: u32,
     plan: &mut [u8],
     table: &mut [u64],
 ) -> PlanAnswer
-    requires valid { Valid task }
-    requires bases { Bases task bases × (1 ≤ nodes) × (nodes ≤ 4096) × (table_words task nodes ≤ length table.old) }
+    requires valid { Valid task.now }
+    requires bases { Bases task.now bases × (1 ≤ nodes) × (nodes ≤ 4096) × (table_words task.now nodes ≤ length table.old) }
     ensures { ◌≡◌ {A = Outcome} (record { answer = result; plan = plan.new; words = table.new })
-        (searched task nodes budget plan.old table.old) }
+        (searched task.now nodes budget plan.old table.old) }
 {
     let leaves = task.leaves as usize;
     let words = (nodes + 1) * (40 + bases[leaves]);

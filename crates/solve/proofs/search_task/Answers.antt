@@ -7,18 +7,18 @@ use Rattle.solve.proofs.search_task.Goals as goal
 use Rattle.solve.proofs.search_task.Goals.{Start}
 
 -- the words that the nodes need
-words : (s : Start) → (s.args.nodes + 1) * (40 + get_or s.args.bases s.args.task.leaves 0) ≡ table_words s.args.task s.args.nodes
-words s = words_is s.args.task s.args.bases s.requires.bases.0 s.args.nodes
+words : (s : Start) → (s.args.nodes + 1) * (40 + get_or s.args.bases s.args.task.now.leaves 0) ≡ table_words s.args.task.now s.args.nodes
+words s = words_is s.args.task.now s.args.bases s.requires.bases.0 s.args.nodes
 
-few : (s : Start) → table_words s.args.task s.args.nodes ≤ 4359208
-few s = words_few s.args.task s.requires.valid s.args.nodes s.requires.bases.2
+few : (s : Start) → table_words s.args.task.now s.args.nodes ≤ 4359208
+few s = words_few s.args.task.now s.requires.valid s.args.nodes s.requires.bases.2
 
 -- the front of the table has so many
-front : (s : Start) → let n = (s.args.nodes + 1) * (40 + get_or s.args.bases s.args.task.leaves 0) in length (take n s.args.table.now) ≡ n
+front : (s : Start) → let n = (s.args.nodes + 1) * (40 + get_or s.args.bases s.args.task.now.leaves 0) in length (take n s.args.table.now) ≡ n
 front s = length-take-le _ s.args.table.now (omega (arith, words s, s.requires.bases.3))
 
 pub overflow_add-words-2 : goal.overflow_add-words-2
-overflow_add-words-2 c = omega (arith, row_of c.args.task c.args.bases c.requires.bases.0, c.requires.valid.whole.few_all_states)
+overflow_add-words-2 c = omega (arith, row_of c.args.task.now c.args.bases c.requires.bases.0, c.requires.valid.whole.few_all_states)
 
 pub overflow_mul-words : goal.overflow_mul-words
 overflow_mul-words c = omega (arith, words (goal.at.overflow_mul-words c).Start, few (goal.at.overflow_mul-words c).Start)
@@ -35,12 +35,12 @@ search_tables-answer-requires c = record { valid = c.requires.valid; bases = (c.
 pub zero_words-requires : goal.zero_words-requires
 zero_words-requires c =
     let t = c.search_tables-answer in
-    let kept : length t.new.table ≡ length (take ((c.args.nodes + 1) * (40 + get_or c.args.bases c.args.task.leaves 0)) c.args.table.now) = t.auto.table in
+    let kept : length t.new.table ≡ length (take ((c.args.nodes + 1) * (40 + get_or c.args.bases c.args.task.now.leaves 0)) c.args.table.now) = t.auto.table in
     simp length-append (omega (arith, kept, front (goal.at.zero_words-requires c).Start))
 
 pub returns : goal.returns
 returns c =
     let t = c.search_tables-answer in
-    let kept : length t.new.table ≡ length (take ((c.args.nodes + 1) * (40 + get_or c.args.bases c.args.task.leaves 0)) c.args.table.now) = t.auto.table in
-    search_is c.args.task c.args.nodes c.args.budget c.args.plan.now c.args.table.now t.result t.new.plan t.new.table
+    let kept : length t.new.table ≡ length (take ((c.args.nodes + 1) * (40 + get_or c.args.bases c.args.task.now.leaves 0)) c.args.table.now) = t.auto.table in
+    search_is c.args.task.now c.args.nodes c.args.budget c.args.plan.now c.args.table.now t.result t.new.plan t.new.table
     _ (words (goal.at.returns c).Start) (kept ∙ front (goal.at.returns c).Start) t.ensures _ c.zero_words.ensures

@@ -9,7 +9,7 @@ use Rattle.solve.proofs.search_with.Goals as goal
 use Rattle.solve.proofs.search_with.Goals.{After-explore-stop, After-leaf_goals-goals}
 
 -- the tables are the task's
-tabled : (c : After-leaf_goals-goals) → Tabled c.args.task c.args.bases c.fill_moves.new.moves c.action_costs-costs.result c.action_kinds-kinds.result c.leaf_starts-starts.result
+tabled : (c : After-leaf_goals-goals) → Tabled c.args.task.now c.args.bases c.fill_moves.new.moves c.action_costs-costs.result c.action_kinds-kinds.result c.leaf_starts-starts.result
 tabled c =
     let c = c in
     let kept : length c.fill_moves.new.moves ≡ length c.args.moves.now = c.fill_moves.auto.moves in
@@ -23,11 +23,11 @@ tabled c =
     }
 
 -- what the search stops with is sound
-sound : (c : After-explore-stop) → Sound c.args.task c.explore-stop.new.table c.explore-stop.result.run
+sound : (c : After-explore-stop) → Sound c.args.task.now c.explore-stop.new.table c.explore-stop.result.run
 sound c =
     let c = c in
     let kept : length c.explore-stop.new.table ≡ length c.args.table.now = c.explore-stop.ensures.lengths.0 in
-    stop_sound c.args.task c.args.nodes c.args.budget c.explore-stop.new.table c.explore-stop.new.scan c.explore-stop.result c.explore-stop.ensures.searched.0
+    stop_sound c.args.task.now c.args.nodes c.args.budget c.explore-stop.new.table c.explore-stop.new.scan c.explore-stop.result c.explore-stop.ensures.searched.0
     c.requires.bases.1 c.requires.bases.2 (omega (arith, kept, c.requires.bases.3)) c.explore-stop.ensures.searched.1.some
 
 pub task_edges-requires : goal.task_edges-requires
@@ -72,4 +72,4 @@ shape_of-edges c = c.task_edges.auto.edges
 pub returns : goal.returns
 returns c =
     c.answer_of.ensures
-    ∙ stop_is c.args.task c.args.nodes c.args.budget c.explore-stop.new.table c.explore-stop.new.scan c.explore-stop.result c.explore-stop.ensures.searched.0 c.args.plan.now []
+    ∙ stop_is c.args.task.now c.args.nodes c.args.budget c.explore-stop.new.table c.explore-stop.new.scan c.explore-stop.result c.explore-stop.ensures.searched.0 c.args.plan.now []
