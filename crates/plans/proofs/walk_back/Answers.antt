@@ -29,7 +29,7 @@ loop-u-init c =
     let a = c.args in
     let h = a.tables.now in
     let priced = subst (λ (S : ℕ). Priced h.task.now (held_in S a.table.now a.count) a.node (λ i. get_or a.ends i 0))
-        (sym (row_on_lem h.task.now (board_in h.board) h.fits)) c.requires.real.1 in record {
+    (sym (row_on_lem h.task.now (board_in h.board) h.fits)) c.requires.real.1 in record {
       below = c.requires.node.0;
       states_long = search rules;
       tight_long = refl;
@@ -110,9 +110,9 @@ returns-clause-walked c =
     let row : row_on b ≡ all_states h.task.now = row_on_lem h.task.now b h.fits in
     let walked = rw (l.invariant.kept.total, c.new-out.ensures.total) at c.layer_back.ensures.walked in
     let end = along_end h.task.now b h.starts.now a.table.now a.count grounds a.node a.ends a.total _
-        l.u l.states l.out.place l.out.plan.now l.invariant.below l.invariant.along _ _ _ (omega arith) walked in
+    l.u l.states l.out.place l.out.plan.now l.invariant.below l.invariant.along _ _ _ (omega arith) walked in
     let few = layer_few b h.board.sound h.starts.now a.table.now l.u (λ i. get_or l.states i 0)
-        (walks h.task.now b h.starts.now a.table.now a.count grounds l.u (λ i. get_or l.states i 0) l.invariant.below l.invariant.along.priced) in
+    (walks h.task.now b h.starts.now a.table.now a.count grounds l.u (λ i. get_or l.states i 0) l.invariant.below l.invariant.along.priced) in
     let one : (a.node + 1) * (row_on b + 1) ≡ a.node * (row_on b + 1) + (row_on b + 1) = omega (arith, suc-mul a.node (row_on b + 1)) in
     let ended : c.layer_back.new.out.place ≤ (a.node + 1) * (row_on b + 1) = omega (arith, c.layer_back.ensures.walked.place, few, l.invariant.room, one) in
     let plan = rw (row, c.new-out.ensures.plan) at end.1 in
