@@ -1,7 +1,7 @@
 // What the search scans: chains of nodes, and the node that dominates.
 #![tactic(auto)]
 
-ghost use Rattle.std.specs.Prelude.{◌≡◌, ⊤, ◌+◌, ◌*◌, ◌≤◌, ◌<◌, length};
+ghost use Rattle.std.specs.Prelude.{◌≡◌, ◌+◌, ◌*◌, ◌≤◌, ◌<◌, length};
 ghost use Rattle.search.specs.Node.{dominates};
 ghost use Rattle.rows.specs.Row.{row_in, node_in, Packed};
 ghost use Rattle.rows.specs.Sign.{class_of, sign_of};
@@ -13,9 +13,13 @@ use dominance::{Candidate, test_row};
 
 // Where the words of the groups, the heads of the classes, the number of groups, the signatures and the nodes of the entries stand among the scan words.
 const GROUPS: usize = 4096;
+
 const HEADS: usize = 6144;
+
 const GROUP_COUNT: usize = 7168;
+
 const SIGNS: usize = 7456;
+
 const ENTRIES: usize = 15648;
 
 // ---- chains
@@ -43,7 +47,7 @@ fn add_group(scan: &mut [u64; SCAN_WORDS], class: usize, group: usize)
 
 // The group that the next node of a class goes to: the last of the class where that has room, else a new one.
 fn group_for(scan: &mut [u64; SCAN_WORDS], class: usize) -> usize
-    requires { (class < 1024) }
+    requires { class < 1024 }
     ensures { (result ≡ group_for scan.old class) × (scan.new ≡ opened_to scan.old class) }
 {
     let head = scan[HEADS + class];
@@ -116,7 +120,13 @@ fn lacks(sign: u64, theirs: u64) -> bool
 }
 
 // The same, by the signatures first; `theirs` is that of node `u`.
-fn test_node(table: &[u64], u: usize, theirs: u64, candidate: &Candidate<'_>, hint: &mut usize) -> bool
+fn test_node(
+    table: &[u64],
+    u: usize,
+    theirs: u64,
+    candidate: &Candidate<'_>,
+    hint: &mut usize,
+) -> bool
     requires row { (u * (40 + candidate.now.states) + (40 + candidate.now.states) ≤ length table.now) × Packed (row_in candidate.now.states table.now u) }
     requires signed { theirs ≡ sign_of (node_in candidate.now.states table.now u).prices }
     ensures { result ≡ dominates (node_in candidate.now.states table.now u) (node_held candidate.now) }
@@ -150,7 +160,7 @@ fn try_group(
     hint: &mut usize,
 ) -> Option<usize>
     requires chained { (count ≤ 4096) × (count * (40 + candidate.now.states) ≤ length table.now) × Chained candidate.now.states table.now scan.now count }
-    requires known { group < groups_in scan.now }
+    requires known { (group < groups_in scan.now) × (group < 2048) }
     ensures { Tried candidate.now.states table.now scan.now count (node_held candidate.now) group result }
 {
     let fill = (scan[GROUPS + group] / 65536 % 8) as usize;
@@ -166,9 +176,15 @@ fn try_group(
 }
 
 // A node that dominates the candidate, if one does: the groups of its class are tried, the last first, but for those whose signatures all lack a bit.
-fn walk(table: &[u64], count: usize, scan: &[u64; SCAN_WORDS], class: usize, candidate: &Candidate<'_>) -> Option<usize>
+fn walk(
+    table: &[u64],
+    count: usize,
+    scan: &[u64; SCAN_WORDS],
+    class: usize,
+    candidate: &Candidate<'_>,
+) -> Option<usize>
     requires chained { (count ≤ 4096) × (count * (40 + candidate.now.states) ≤ length table.now) × Chained candidate.now.states table.now scan.now count }
-    requires classed { class ≡ class_of candidate.now.spot }
+    requires classed { (class ≡ class_of candidate.now.spot) × (class < 1024) }
     ensures { Dominator candidate.now.states table.now count (node_held candidate.now) result }
 {
     let mut to = scan[HEADS + class] as usize;

@@ -13,6 +13,10 @@ use Rattle.rows.specs.Sign.{sign_of, class_of}
 use Rattle.rows.specs.Sign.Laws.{class_lt, other_class, other_sign}
 use Rattle.nodes.specs.Chain.{link_at, head_at, groups_in, class_at, fill_at, shown_at, entry_at, lacking, all_lack, Grouped, Dominator, Missed, Walked}
 
+-- a signature that lacks a bit of another is not their union
+pub lacking_out : (s t : ℕ) → lacking s t ≡ true → bit_or s t ≡ t → ⊥
+lacking_out s t e q = true≢false (sym e ∙ ap not (eq-eqb (bit_or s t) t q))
+
 -- ---- walks along groups
 
 module _ (S : ℕ) (T C : List ℕ) (n : ℕ) (m : Node) (r : Grouped S T C n) where
@@ -74,9 +78,6 @@ module _ (S : ℕ) (T C : List ℕ) (n : ℕ) (m : Node) (r : Grouped S T C n) w
 
   -- signatures that lack a bit: their nodes do not dominate
   module _ (rows : n * (40 + S) ≤ length T) (wide : length m.prices ≡ S) where
-    lacking_out : (s t : ℕ) → lacking s t ≡ true → bit_or s t ≡ t → ⊥
-    lacking_out s t e q = true≢false (sym e ∙ ap not (eq-eqb (bit_or s t) t q))
-
     lack_missed : (g k : ℕ) → g < groups_in C → k < fill_at C g → lacking (sign_of m.prices) (shown_at C g k) ≡ true
         → dominates (node_in S T (entry_at C g k)) m ≡ false
     lack_missed g k l b e =
