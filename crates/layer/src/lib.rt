@@ -11,7 +11,7 @@ ghost use Rattle.layer.specs.Held.{board_in};
 ghost use Rattle.layer.specs.First.{First, Firsts, asks_of};
 
 use leaf::{pass, passes};
-use settle::settle;
+use settle::{ListedActions, settle};
 use std::ops::Range;
 use task::{Centre, FREE};
 
@@ -166,17 +166,14 @@ fn settle_leaf(board: &Board<'_>, centre: Centre, i: usize, prices: &mut [u64])
 {
     let mut acts = [0u8; 256];
     let count = enabled(board, centre, i, &mut acts);
-    let row = board.states();
-    let at = board.bases[i];
-    settle(
-        prices,
-        board.moves,
-        row,
-        at,
-        board.costs,
-        &acts[..count],
-        count,
-    );
+    let actions = ListedActions {
+        moves: board.moves,
+        row: board.states(),
+        at: board.bases[i],
+        costs: board.costs,
+        acts: &acts[..count],
+    };
+    settle(prices, &actions);
 }
 
 // The first prices of the leaf behind i leaves: every state starts as unreachable, its initial state has price 0, and settling reaches the others.

@@ -6,8 +6,9 @@ ghost use Rattle.leaf.specs.Price.{mark};
 ghost use Rattle.leaf.specs.Settle.{settled};
 ghost use Rattle.leaf.specs.Settle.Walks.{Ranged};
 ghost use Rattle.leaf.specs.Settle.Sweeps.{Fell, Reach};
-ghost use Rattle.leaf.specs.Lent.{Lent, cost_by, move_by};
+ghost use Rattle.leaf.specs.Lent.{cost_by, move_by};
 ghost use Rattle.settle.specs.Settling.{Aim, Lowers, SweptBy, SettledBy};
+ghost use Rattle.settle.specs.Listed.{LentBy};
 
 use leaf::{MARK, add_price, lowered};
 
@@ -25,7 +26,9 @@ pub trait LeafActions {
 
     // The actions lower the prices of what they make of state x, and a state whose price fell is dirty. Whether one fell that is not behind x.
     fn relax(&self, prices: &mut [u64], dirty: &mut [u8], x: usize) -> bool
-        requires { (x < length prices.old) × (length prices.old ≤ length dirty.old) × can_relax self.now (length prices.old) }
+        requires inside { x < length prices.old }
+        requires room { length prices.old ≤ length dirty.old }
+        requires can { can_relax self.now (length prices.old) }
         ensures lowers { Lowers (meant self.now (length prices.old)) x prices.old prices.new }
         ensures told { Fell mark x prices.old dirty.old result prices.new dirty.new };
 
@@ -35,9 +38,10 @@ pub trait LeafActions {
 
 // State x, where it is reached, is clean afterwards and has lowered the prices of what the actions make of it. Whether one fell
 // that is not behind x.
-#[tactic(auto, using(crate::proofs::Visits::set_out_far))]
 fn set_out<A: LeafActions>(prices: &mut [u64], dirty: &mut [u8], actions: &A, x: usize) -> bool
-    requires { (x < length prices.old) × (length prices.old ≤ length dirty.old) × A.can_relax actions.now (length prices.old) }
+    requires inside { x < length prices.old }
+    requires room { length prices.old ≤ length dirty.old }
+    requires can { A.can_relax actions.now (length prices.old) }
     ensures { (j k : ℕ) → Reach j k x (x + 1)
         → SweptBy (A.meant actions.now (length prices.old)) (length prices.old) j k x (x + 1) prices.old dirty.old result prices.new dirty.new }
 {
@@ -51,7 +55,9 @@ fn set_out<A: LeafActions>(prices: &mut [u64], dirty: &mut [u8], actions: &A, x:
 // State x sets out where it is dirty. Whether a price fell that is not behind x.
 #[tactic(auto, using(leaf::specs::Settle::Sweeps::visit_clean))]
 fn visit<A: LeafActions>(prices: &mut [u64], dirty: &mut [u8], actions: &A, x: usize) -> bool
-    requires { (x < length prices.old) × (length prices.old ≤ length dirty.old) × A.can_relax actions.now (length prices.old) }
+    requires inside { x < length prices.old }
+    requires room { length prices.old ≤ length dirty.old }
+    requires can { A.can_relax actions.now (length prices.old) }
     ensures { SweptBy (A.meant actions.now (length prices.old)) (length prices.old) (length prices.old) (length prices.old) x (x + 1)
         prices.old dirty.old result prices.new dirty.new }
 {
@@ -81,8 +87,9 @@ fn set_out_part<A: LeafActions>(
     from: usize,
     end: usize,
 ) -> bool
-    requires { (from ≤ end) × (end ≤ length prices.old) × (length prices.old ≤ length dirty.old)
-        × A.can_relax actions.now (length prices.old) }
+    requires inside { (from ≤ end) × (end ≤ length prices.old) }
+    requires room { length prices.old ≤ length dirty.old }
+    requires can { A.can_relax actions.now (length prices.old) }
     ensures { SweptBy (A.meant actions.now (length prices.old)) (length prices.old) from end from end
         prices.old dirty.old result prices.new dirty.new }
 {
@@ -95,7 +102,9 @@ fn set_out_part<A: LeafActions>(
 
 // The four states from x on set out, where one of them is reached. Whether a price fell of a state that had its turn.
 fn set_out_four<A: LeafActions>(prices: &mut [u64], dirty: &mut [u8], actions: &A, x: usize) -> bool
-    requires { (x + 4 ≤ length prices.old) × (length prices.old ≤ length dirty.old) × A.can_relax actions.now (length prices.old) }
+    requires inside { x + 4 ≤ length prices.old }
+    requires room { length prices.old ≤ length dirty.old }
+    requires can { A.can_relax actions.now (length prices.old) }
     ensures { SweptBy (A.meant actions.now (length prices.old)) (length prices.old) x (x + 4) x (x + 4)
         prices.old dirty.old result prices.new dirty.new }
 {
@@ -107,23 +116,24 @@ fn set_out_four<A: LeafActions>(prices: &mut [u64], dirty: &mut [u8], actions: &
 
 // Every state once, by rising number: most are not reached, so four are looked at together. Whether a price fell of a state that had its turn.
 fn first_sweep<A: LeafActions>(prices: &mut [u64], dirty: &mut [u8], actions: &A) -> bool
-    requires { (length prices.old ≤ length dirty.old) × A.can_relax actions.now (length prices.old) }
+    requires room { length prices.old ≤ length dirty.old }
+    requires can { A.can_relax actions.now (length prices.old) }
     ensures { SweptBy (A.meant actions.now (length prices.old)) (length prices.old) 0 (length prices.old) 0 (length prices.old)
         prices.old dirty.old result prices.new dirty.new }
 {
     let mut fell = false;
-    let mut x = 0;
-    while prices.len() - x >= 4 {
-        fell |= set_out_four(prices, dirty, actions, x);
-        x += 4;
+    let fours = prices.len() / 4;
+    for k in 0..fours {
+        fell |= set_out_four(prices, dirty, actions, 4 * k);
     }
     let last = prices.len();
-    fell | set_out_part(prices, dirty, actions, x, last)
+    fell | set_out_part(prices, dirty, actions, 4 * fours, last)
 }
 
 // Every dirty state once, by rising number. Whether a price fell of a state that had its turn.
 fn sweep<A: LeafActions>(prices: &mut [u64], dirty: &mut [u8], actions: &A) -> bool
-    requires { (length prices.old ≤ length dirty.old) × A.can_relax actions.now (length prices.old) }
+    requires room { length prices.old ≤ length dirty.old }
+    requires can { A.can_relax actions.now (length prices.old) }
     ensures { SweptBy (A.meant actions.now (length prices.old)) (length prices.old) (length prices.old) (length prices.old)
         0 (length prices.old) prices.old dirty.old result prices.new dirty.new }
 {
@@ -148,30 +158,17 @@ pub fn settle_by<A: LeafActions>(prices: &mut [u64], actions: &A)
     while sweep(prices, &mut dirty, actions) {}
 }
 
-// The prices of a leaf settle by the first `count` actions of a list. Without actions none changes.
-pub fn settle(
-    prices: &mut [u64],
-    moves: &[u16],
-    row: usize,
-    at: usize,
-    costs: &[u16],
-    acts: &[u8],
-    count: usize,
-)
-    requires { (length prices.old ≤ 256) × Lent moves.now row at costs.now acts.now count (length prices.old) }
+// The prices of a leaf settle by the actions of a list. Without actions none changes.
+pub fn settle(prices: &mut [u64], actions: &ListedActions<'_>)
+    requires few { length prices.old ≤ 256 }
+    requires lent { LentBy actions.now (length prices.old) }
     ensures { prices.new
-        ≡ settled mark count (cost_by costs.now acts.now) (move_by moves.now row at acts.now)
+        ≡ settled mark (length actions.now.acts.now) (cost_by actions.now.costs.now actions.now.acts.now)
+        (move_by actions.now.moves.now actions.now.row actions.now.at actions.now.acts.now)
         prices.old }
 {
-    if count == 0 {
+    if actions.acts.is_empty() {
         return;
     }
-    let actions = ListedActions {
-        moves,
-        row,
-        at,
-        costs,
-        acts: &acts[..count],
-    };
-    settle_by(prices, &actions);
+    settle_by(prices, actions);
 }

@@ -1,7 +1,11 @@
 -- What a program holds of the ways of a leaf, in the words of the ways.
-use Rattle.std.specs.Prelude.{ℕ}
+use Rattle.std.specs.Prelude.{ℕ, ◌+◌, ◌*◌, get_or}
 use Rattle.sweeps.specs.declared.held.LeafWays.{LeafWays}
 use Rattle.sweeps.specs.Sweeps.{Ways, Meant, Aims}
+
+-- what an action makes of state x: one more than a state, or 0
+abbrev pub move_in : LeafWays → (action x : ℕ) → ℕ
+move_in w action x = get_or w.moves.now (action * w.row + (w.at + x)) 0
 
 -- the edges of each state of a leaf of n states can be followed
 abbrev pub WaysIn : LeafWays → ℕ → Type 0

@@ -6,7 +6,7 @@ ghost use Rattle.leaf.specs.Price.{mark};
 ghost use Rattle.leaf.specs.Settle.{lower};
 ghost use Rattle.leaf.specs.Settle.Sweeps.{Fell};
 ghost use Rattle.sweeps.specs.Sweeps.{gated};
-ghost use Rattle.sweeps.specs.Held.{WaysIn, MeantIn};
+ghost use Rattle.sweeps.specs.Held.{move_in, WaysIn, MeantIn};
 
 use edges::EdgeTable;
 use leaf::{add_price, lowered};
@@ -27,14 +27,13 @@ pub struct LeafWays<'a> {
 impl LeafWays<'_> {
     // An action whose flag is set lowers the price of what it makes of state x, whose price is d. Whether a price fell that is not behind x.
     fn follow(&self, prices: &mut [u64], dirty: &mut [u8], action: usize, x: usize, d: u64) -> bool
-        requires { (action < length self.now.costs.now) × (action < length self.now.mets.now)
-            × (action * self.now.row + (self.now.at + x) < length self.now.moves.now)
-            × (get_or self.now.moves.now (action * self.now.row + (self.now.at + x)) 0 ≤ length prices.old)
-            × (length prices.old ≤ length dirty.old) }
-        ensures { (prices.new ≡ lower mark prices.old
-            (gated (get_or self.now.mets.now action 0) (get_or self.now.moves.now (action * self.now.row + (self.now.at + x)) 0))
-            (min (d + get_or self.now.costs.now action 0) mark))
-            × Fell mark x prices.old dirty.old result prices.new dirty.new }
+        requires action { (action < length self.now.costs.now) × (action < length self.now.mets.now) }
+        requires place { action * self.now.row + (self.now.at + x) < length self.now.moves.now }
+        requires inside { move_in self.now action x ≤ length prices.old }
+        requires room { length prices.old ≤ length dirty.old }
+        ensures lowers { prices.new ≡ lower mark prices.old (gated (get_or self.now.mets.now action 0) (move_in self.now action x))
+            (min (d + get_or self.now.costs.now action 0) mark) }
+        ensures told { Fell mark x prices.old dirty.old result prices.new dirty.new }
     {
         if self.mets[action] == 0 {
             return false;

@@ -24,12 +24,7 @@ fn some_met(mets: &[u8], acts: &[u8]) -> bool
     requires { 256 ≤ length mets.now }
     ensures { result ≡ some_met mets.now acts.now }
 {
-    for &a in acts {
-        if mets[a as usize] != 0 {
-            return true;
-        }
-    }
-    false
+    acts.iter().any(|&a| mets[a as usize] != 0)
 }
 
 // Prices settle along the edges of their states: every state sets out once, and then the dirty ones as long as a price falls of one that had its turn.
@@ -50,11 +45,12 @@ fn settle_leaf(
     i: usize,
     prices: &mut [u64],
 ) -> bool
-    requires { Mets (board_in board.now) centre mets.now
-        × Edges (board_in board.now) edges.now.list.now edges.now.ends.now
-        × (i < board.now.leaves) × (length prices.old ≡ states_on (board_in board.now) i) }
-    ensures { (prices.new ≡ settle_on (board_in board.now) i centre prices.old) × (result ≡ false → prices.new ≡ prices.old)
-        × (result ≡ some_met mets.now (edges_of board.now.bases.now edges.now.list.now edges.now.ends.now i)) }
+    requires flags { Mets (board_in board.now) centre mets.now }
+    requires table { Edges (board_in board.now) edges.now.list.now edges.now.ends.now }
+    requires leaf { (i < board.now.leaves) × (length prices.old ≡ states_on (board_in board.now) i) }
+    ensures settled { prices.new ≡ settle_on (board_in board.now) i centre prices.old }
+    ensures same { result ≡ false → prices.new ≡ prices.old }
+    ensures told { result ≡ some_met mets.now (edges_of board.now.bases.now edges.now.list.now edges.now.ends.now i) }
 {
     let states = board.leaf(i);
     let at = states.start;

@@ -1,6 +1,6 @@
 -- `layer::begin_layer` meets its contract. The invariant: what came through of the leaves so far stands one leaf's behind the other, and behind
 -- them the prices are as they were. Assumes nothing.
-use Rattle.std.proofs.Common.{List, ℕ, ◌-◌, ◌≤◌, []}
+use Rattle.std.proofs.Common.{List, ℕ, ◌-◌, ◌≤◌}
 use Rattle.layer.specs.Board.{Board, base_on, part_on, pass_on}
 use Rattle.layer.specs.Board.Turns.{Laid}
 use Rattle.layer.specs.Held.{board_in}

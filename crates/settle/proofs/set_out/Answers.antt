@@ -4,7 +4,7 @@ use Rattle.settle.proofs.set_out.Goals as goal
 
 pub returns : goal.returns
 returns g c = λ j k reach m cost to meant.
-    set_out_near _ m cost to j k _ _ _ c.requires.0 reach _ _ _ (g.met.A.LeafActions.stays _ _ _ _ _ meant) refl c.requires.1 (omega arith)
+    set_out_near _ m cost to j k _ _ _ c.requires.inside reach _ _ _ (g.met.A.LeafActions.stays _ _ _ _ _ meant) refl c.requires.room (omega arith)
     (c.relax.ensures.lowers m cost to meant) c.relax.ensures.told
 
 pub returns-then-prices-x-ge-MARK : goal.returns-then-prices-x-ge-MARK

@@ -23,13 +23,13 @@ loop-i-preserved c =
     let kept = rw (states.begins, states.stops) at c.settle_leaf.auto.prices in
     let rise : from ≤ to = omega (arith, c.args.board.now.sound.bases_rise l.i c.loop-i-test.true) in
     let room : to ≤ length l.new = omega (arith, states.inside, states.stops, c.requires.2, l.invariant.laid.kept) in
-    let settled = one.0 ∙ ap (λ (xs : List ℕ). settle_on b l.i c.args.centre (take (to - from) xs)) (laid_rest l.invariant.laid) in
+    let settled = one.settled ∙ ap (λ (xs : List ℕ). settle_on b l.i c.args.centre (take (to - from) xs)) (laid_rest l.invariant.laid) in
     rw (states.begins, states.stops)
     record {
       within = omega arith;
       laid = laid_more _ l.i from to _ l.new _ rise room l.invariant.laid settled kept;
-      same = λ e. let none = or_false l.swept _ e in put_back from (to - from) l.new _ (one.1 none.1) ∙ l.invariant.same none.0;
-      told = any_next l.i _ l.invariant.told one.2;
+      same = λ e. let none = or_false l.swept _ e in put_back from (to - from) l.new _ (one.same none.1) ∙ l.invariant.same none.0;
+      told = any_next l.i _ l.invariant.told one.told;
     }
 
 pub returns : goal.returns

@@ -1,5 +1,5 @@
 -- The enabled actions lead where the leaf's edges do; where no edge has its flag set they lead nowhere. Assumes nothing.
-use Rattle.std.proofs.Common.{refl, sym, ◌∙◌, true≢false, List, ℕ, arith, length, rules}
+use Rattle.std.proofs.Common.{refl, sym, ◌∙◌, List, ℕ, arith, length, rules}
 use Rattle.loops.specs.Count.Laws.{told}
 use Rattle.leaf.specs.Price.{mark}
 use Rattle.leaf.specs.Settle.Turns.{at_most}
@@ -24,19 +24,19 @@ meant : (c : Start) → let a = c.args in let b = board_in a.board.now in
 meant c =
     let a = c.args in
     let r = c.requires in
-    rw r.3 (leaf_meant (board_in a.board.now) a.board.now.sound a.edges.now.list.now a.edges.now.ends.now r.1 a.i r.2 a.centre a.mets.now r.0)
+    rw r.leaf.1 (leaf_meant (board_in a.board.now) a.board.now.sound a.edges.now.list.now a.edges.now.ends.now r.table a.i r.leaf.0 a.centre a.mets.now r.flags)
 
 pub slice_bounds-some_met-count : goal.slice_bounds-some_met-count
 slice_bounds-some_met-count c =
     let a = c.args in
     let states = c.leaf-states.ensures in
-    rw (states.begins, states.stops) (leaf_part_lem (board_in a.board.now) a.board.now.sound a.edges.now.list.now a.edges.now.ends.now c.requires.1 a.i c.requires.2).1
+    rw (states.begins, states.stops) (leaf_part_lem (board_in a.board.now) a.board.now.sound a.edges.now.list.now a.edges.now.ends.now c.requires.table a.i c.requires.leaf.0).1
 
 pub slice_bounds-some_met-start : goal.slice_bounds-some_met-start
 slice_bounds-some_met-start c =
     let a = c.args in
     let states = c.leaf-states.ensures in
-    rw (states.begins, states.stops) (leaf_part_lem (board_in a.board.now) a.board.now.sound a.edges.now.list.now a.edges.now.ends.now c.requires.1 a.i c.requires.2).1
+    rw (states.begins, states.stops) (leaf_part_lem (board_in a.board.now) a.board.now.sound a.edges.now.list.now a.edges.now.ends.now c.requires.table a.i c.requires.leaf.0).1
 
 pub returns-then-not-some_met : goal.returns-then-not-some_met
 returns-then-not-some_met c =
@@ -47,9 +47,9 @@ returns-then-not-some_met c =
     let states = c.leaf-states.ensures in
     let looked = rw (states.begins, states.stops) at c.some_met.ensures in
     let none = told looked c.if-not-some_met.true in
-    let unmet = leaf_unmet b a.board.now.sound a.edges.now.list.now a.edges.now.ends.now c.requires.1 a.i c.requires.2 a.mets.now (some_none _ _ none) in
-    let still = still_settled mark _ _ _ _ _ _ _ _ _ _ _ P (meant s) (rw c.requires.3 unmet) refl (at_most mark P (λ i. search rules)) in
-    (still ∙ leaf_settled b a.i a.centre (acts s) _ refl refl P, (λ _. refl), sym none)
+    let unmet = leaf_unmet b a.board.now.sound a.edges.now.list.now a.edges.now.ends.now c.requires.table a.i c.requires.leaf.0 a.mets.now (some_none _ _ none) in
+    let still = still_settled mark _ _ _ _ _ _ _ _ _ _ _ P (meant s) (rw c.requires.leaf.1 unmet) refl (at_most mark P (λ i. search rules)) in
+    record { settled = still ∙ leaf_settled b a.i a.centre (acts s) _ refl refl P; same = λ _. refl; told = sym none }
 
 pub settle_along-requires : goal.settle_along-requires
 settle_along-requires c =
@@ -57,15 +57,19 @@ settle_along-requires c =
     let a = c.args in
     let b = board_in a.board.now in
     let r = c.requires in
-    let ways = leaf_ways b a.board.now.sound a.edges.now.list.now a.edges.now.ends.now r.1 a.i r.2 a.mets.now r.0.long in
+    let ways = leaf_ways b a.board.now.sound a.edges.now.list.now a.edges.now.ends.now r.table a.i r.leaf.0 a.mets.now r.flags.long in
     rw (c.states.ensures.is, c.leaf-states.ensures.begins)
-    (omega (arith, r.3, a.board.now.sound.few_states a.i r.2), rw r.3 ways, record { count = _; cost = _; to = _; meant = meant s })
+    (omega (arith, r.leaf.1, a.board.now.sound.few_states a.i r.leaf.0), rw r.leaf.1 ways, record { count = _; cost = _; to = _; meant = meant s })
 
-pub returns : goal.returns
-returns c =
-    let s = (goal.at.returns c).Start in
+pub returns-clause-settled : goal.returns-clause-settled
+returns-clause-settled c =
+    let s = (goal.at.returns-clause-settled c).Start in
     let a = c.args in
+    let along = rw (c.states.ensures.is, c.leaf-states.ensures.begins) at c.settle_along.ensures in
+    along _ _ _ (meant s) ∙ leaf_settled (board_in a.board.now) a.i a.centre (acts s) _ refl refl a.prices.now
+
+pub returns-clause-told : goal.returns-clause-told
+returns-clause-told c =
     let states = c.leaf-states.ensures in
-    let along = rw (c.states.ensures.is, states.begins) at c.settle_along.ensures in
     let looked = rw (states.begins, states.stops) at c.some_met.ensures in
-    (along _ _ _ (meant s) ∙ leaf_settled (board_in a.board.now) a.i a.centre (acts s) _ refl refl a.prices.now, (λ e. absurd (true≢false e)), sym (told looked c.if-not-some_met.false))
+    sym (told looked c.if-not-some_met.false)

@@ -1,29 +1,15 @@
-use Rattle.std.proofs.Common.{sym, ap, Bool, not, ℕ, le_antisymm, arith, eqb, length, get_or, eq-eqb, ne_eqb, refl}
-use Rattle.loops.specs.Count.{any}
-use Rattle.loops.specs.Count.Laws.{any_in, any_more}
+-- The test at each action. An action is a byte, and there are flags for all bytes. Assumes nothing.
+use Rattle.std.proofs.Common.{not, eqb, get_or, rules}
+use Rattle.std.proofs.lemmas.Iterator.{YieldsList-from_slice}
+use Rattle.std.proofs.lemmas.Iterator.Search.{any_from_yields_List}
+use borrow.Author.Tests.{tests}
+use Rattle.loops.specs.Slices.{any_entry}
 use Rattle.sweeps.specs.Sweeps.{some_met}
 use Rattle.sweeps.proofs.some_met.Goals as goal
-
-pub loop-a-init : goal.loop-a-init
-unfolding any
-loop-a-init c = (omega arith, refl)
-
-pub returns-then-mets-a-ne0 : goal.returns-then-mets-a-ne0
-unfolding some_met
-returns-then-mets-a-ne0 c =
-    let a = c.args in
-    let met : ℕ → Bool = λ k. not (eqb (get_or a.mets.now (get_or a.acts.now k 0) 0) 0) in
-    sym (any_in (length a.acts.now) met c.loop-a.a-index c.loop-a-test.true (ap not (ne_eqb _ _ c.if-mets-a-ne0.true)))
-
-pub loop-a-preserved : goal.loop-a-preserved
-loop-a-preserved c =
-    let l = c.loop-a in
-    let a = c.args in
-    let met : ℕ → Bool = λ k. not (eqb (get_or a.mets.now (get_or a.acts.now k 0) 0) 0) in
-    (omega arith, any_more l.a-index met l.invariant.1 (ap not (eq-eqb _ _ c.if-mets-a-ne0.false)))
 
 pub returns : goal.returns
 unfolding some_met
 returns c =
-    let l = c.loop-a in
-    sym (rw (le_antisymm l.invariant.0 c.loop-a-test.false) at l.invariant.1)
+    let mets = c.args.mets.now in
+    rw (any_entry (λ a. not (eqb (get_or mets a 0) 0)) c.args.acts.now)
+    (any_from_yields_List (λ a. not (eqb (get_or mets a 0) 0)) _ _ c.any.result c.any.ensures.ran (YieldsList-from_slice c.args.acts.now cc) (λ x b q k. search (rules, tests)))

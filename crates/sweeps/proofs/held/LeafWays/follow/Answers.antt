@@ -7,9 +7,9 @@ use Rattle.sweeps.specs.Sweeps.Leaf.{gated_shut, gated_open}
 use Rattle.sweeps.proofs.held.LeafWays.follow.Goals as goal
 
 pub returns-then-self-action-eq0 : goal.returns-then-self-action-eq0
-returns-then-self-action-eq0 c = (sym (lower_none _ _ _ _ (gated_shut _ _ (search rules))), fell_none mark _ _ _)
+returns-then-self-action-eq0 c = record { lowers = sym (lower_none _ _ _ _ (gated_shut _ _ (search rules))); told = fell_none mark _ _ _ }
 
-pub returns : goal.returns
-returns c =
+pub returns-clause-lowers : goal.returns-clause-lowers
+returns-clause-lowers c =
     let set : get_or c.args.self.now.mets.now c.args.action 0 ≡ 0 → ⊥ = search rules in
-    rw (gated_open _ _ set, ← c.add_price-v.ensures) c.lowered.ensures
+    rw (gated_open _ _ set, ← c.add_price-v.ensures) c.lowered.ensures.0

@@ -21,7 +21,7 @@ loop-a-preserved c =
       within = omega arith;
       relaxing =
           relaxing_more (cost_by w.costs.now acts) (move_met w.moves.now w.row w.at w.mets.now acts) c.args.x _ _ l.a-index _ l.fell _ l.prices l.dirty _ _
-          c.requires.0 l.invariant.relaxing refl one.0 one.1 c.follow-fell.auto.prices c.follow-fell.auto.dirty (λ i. omega (arith, c.type_inv.prices i));
+          c.requires.inside l.invariant.relaxing refl one.lowers one.told c.follow-fell.auto.prices c.follow-fell.auto.dirty (λ i. omega (arith, c.type_inv.prices i));
     }
 
 -- the edges of the state lead where the actions do that are meant
@@ -31,4 +31,4 @@ returns-clause-lowers c = λ m cost to meant.
     let x = c.args.x in
     let past = rw c.of-a-items.ensures at c.loop-a-test.false in
     rw (le_antisymm l.invariant.within past) at l.invariant.relaxing.lowers
-    ∙ relax_same mark x _ c.args.prices.now m cost to _ _ _ (meant.out x c.requires.0) (meant.back x c.requires.0)
+    ∙ relax_same mark x _ c.args.prices.now m cost to _ _ _ (meant.out x c.requires.inside) (meant.back x c.requires.inside)
