@@ -9,7 +9,7 @@ ghost use Rattle.layer.specs.Held.{board_in};
 ghost use Rattle.search.specs.Node.{least_of};
 ghost use Rattle.rows.specs.Begun.{begun_words};
 ghost use Rattle.rows.specs.Sign.{sign_of};
-ghost use Rattle.stills.specs.Still.{Still, Stills};
+ghost use Rattle.stills.specs.Still.{StillOn, StillsOn};
 ghost use Rattle.begins.specs.Begin.{stuck_in, stuck_by, leasts, Risen};
 
 use keys::least;
@@ -90,7 +90,7 @@ fn begin_moved(
     low: u64,
     new: &mut [u64],
 ) -> u64
-    requires stills { Stills board.now.leaves board.now.actions board.now.bases.now board.now.moves.now stills.now }
+    requires stills { StillsOn (board_in board.now) stills.now }
     requires action_lt_actions { action < board.now.actions }
     requires prices { (row_on (board_in board.now) ≤ length old.now) × (row_on (board_in board.now) ≤ length new.old) }
     ensures begun { new.new ≡ begin_on (board_in board.now) action old.now ++ drop (row_on (board_in board.now)) new.old }
@@ -126,8 +126,8 @@ pub fn begin_of(
     sign: u64,
     next: &mut [u64],
 ) -> Begun
-    requires still { Still board.now.leaves board.now.actions board.now.bases.now board.now.moves.now still.now }
-    requires stills { Stills board.now.leaves board.now.actions board.now.bases.now board.now.moves.now stills.now }
+    requires still { StillOn (board_in board.now) still.now }
+    requires stills { StillsOn (board_in board.now) stills.now }
     requires a_lt_actions { a < board.now.actions }
     requires prices { (row_on (board_in board.now) ≤ length old.now) × (row_on (board_in board.now) ≤ length next.old) }
     requires sign_value { sign ≡ sign_of (take (row_on (board_in board.now)) old.now) }

@@ -62,8 +62,8 @@ fn same_words(xs: &[u64], ys: &[u64]) -> bool
     ensures { result ≡ same_front xs.now ys.now }
 {
     let mut apart: u64 = 0;
-    for j in 0..xs.len() {
-        apart = apart | (xs[j] ^ ys[j]);
+    for (j, x) in xs.iter().enumerate() {
+        apart = apart | (*x ^ ys[j]);
     }
     apart == 0
 }

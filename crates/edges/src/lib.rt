@@ -31,8 +31,8 @@ fn actions_of(kinds: &[u8], actions: usize, i: usize, acts: &mut [u8]) -> usize
     ensures { Front (those (of_leaf kinds.now i) actions) acts.old result acts.new }
 {
     let mut count = 0;
-    for a in 0..actions {
-        if kinds[a] as usize == i + 1 {
+    for (a, &kind) in kinds[..actions].iter().enumerate() {
+        if kind as usize == i + 1 {
             acts[count] = a as u8;
             count += 1;
         }

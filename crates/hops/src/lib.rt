@@ -4,21 +4,21 @@
 ghost use Rattle.std.specs.Prelude.{◌≡◌, ℕ, ◌+◌, ◌*◌, ◌≤◌, ◌<◌, length, get_or};
 ghost use Rattle.layer.specs.First.{Firsts};
 ghost use Rattle.layer.specs.Held.{board_in};
-ghost use Rattle.stills.specs.Still.{Still};
+ghost use Rattle.stills.specs.Still.{StillOn};
 ghost use Rattle.hops.specs.Hops.{names_only, pair_word, hop_word, hops_by, ways_by};
 
 use layer::Board;
 use task::FREE;
 
 // Whether an action's row of conditions or effects, which begins at `at`, names no variable but v. All are looked at: without a branch that is quicker.
-#[tactic(auto, unfolding(crate::specs::Hops::names_only))]
+
 fn names_only(pairs: &[u8], at: usize, v: usize) -> bool
     requires { at + 32 ≤ length pairs.now }
     ensures { result ≡ names_only pairs.now at v }
 {
     let mut alone = true;
-    for w in 0..32 {
-        alone = alone & ((w == v) | (pairs[at + w] == FREE));
+    for (w, &pair) in pairs[at..at + 32].iter().enumerate() {
+        alone = alone & ((w == v) | (pair == FREE));
     }
     alone
 }
@@ -51,7 +51,7 @@ fn pair_word(conditions: &[u8], effects: &[u8], a: usize, v: usize) -> u16
 fn hop_word(board: &Board<'_>, effects: &[u8], firsts: &[u8], still: &[u8], a: usize) -> u16
     requires effects { length effects.now ≡ 8192 }
     requires firsts { Firsts (board_in board.now) firsts.now }
-    requires still { Still board.now.leaves board.now.actions board.now.bases.now board.now.moves.now still.now }
+    requires still { StillOn (board_in board.now) still.now }
     requires a_lt_actions { a < board.now.actions }
     ensures { result ≡ hop_word board.now.kinds.now board.now.conditions.now effects.now firsts.now still.now a }
 {
@@ -69,17 +69,15 @@ fn hop_word(board: &Board<'_>, effects: &[u8], firsts: &[u8], still: &[u8], a: u
 }
 
 // The word of each action.
-#[tactic(auto, unfolding(crate::specs::Hops::hops_by, loops::specs::Count::list))]
 pub fn list_hops(board: &Board<'_>, effects: &[u8], firsts: &[u8], still: &[u8]) -> [u16; 256]
     requires effects { length effects.now ≡ 8192 }
     requires firsts { Firsts (board_in board.now) firsts.now }
-    requires still { Still board.now.leaves board.now.actions board.now.bases.now board.now.moves.now still.now }
+    requires still { StillOn (board_in board.now) still.now }
     ensures { result ≡ hops_by board.now.actions board.now.kinds.now board.now.conditions.now effects.now firsts.now still.now }
 {
     let mut hops = [0u16; 256];
-    for a in 0..board.actions {
-        let word = hop_word(board, effects, firsts, still, a);
-        hops[a] = word;
+    for (a, word) in hops[..board.actions].iter_mut().enumerate() {
+        *word = hop_word(board, effects, firsts, still, a);
     }
     hops
 }
@@ -91,10 +89,9 @@ pub fn list_ways(actions: usize, hops: &[u16]) -> [u8; 8192]
     ensures { result ≡ ways_by hops.now actions }
 {
     let mut ways = [0u8; 8192];
-    for a in 0..actions {
-        let word = hops[a] as usize;
+    for (a, &word) in hops[..actions].iter().enumerate() {
         if word != 0 {
-            ways[word - 1] = a as u8 + 1;
+            ways[word as usize - 1] = a as u8 + 1;
         }
     }
     ways

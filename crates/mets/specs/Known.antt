@@ -1,16 +1,15 @@
 -- The known words: slots of 576 bytes that hold what is known of centre states met lately. In a slot stand 256 flags, the 32 values of the centre state, at 288 a 1
 -- once it is filled, at 289 how many actions are listed, and these from 320 on. Nobody but the code and its proof looks at these.
 use Rattle.std.specs.Prelude.{◌≡◌, refl, ◌⊎◌, Bool, true, false, cond, List, ◌++◌, ℕ, ◌+◌, ◌*◌, ◌-◌, ◌≤◌, ◌<◌, length, get_or, set, take, drop, replicate}
-use Rattle.std.proofs.Common.{sym, ap, ◌∙◌, inl, inr, arith, length-set, length-take, length-drop, length-append, get_or-set_same, get_or-set_other, get_or-take, get_or-drop, get_or-append-add}
+use Rattle.std.proofs.Common.{sym, ap, ◌∙◌, inl, inr, arith, length-take, length-drop, length-append, get_or-set_other, get_or-take, get_or-drop, get_or-append-add}
 use Rattle.std.proofs.Math.Decide.{dec_le, ℕ_discrete}
 use Rattle.std.proofs.lemmas.List.{get_or-replicate}
 use Rattle.std.proofs.Math.ListN.{get_or-append}
-use Rattle.loops.specs.Count.Laws.{all_ext, below_cases}
+use Rattle.loops.specs.Count.Laws.{all_ext}
 use Rattle.task.specs.declared.Centre.{Centre}
 use Rattle.task.specs.Factors.{holds_in}
 use Rattle.task.specs.Centre.{value_in, centre_meets}
 use Rattle.layer.specs.Board.{Board, met_on}
-use Rattle.layer.specs.First.{Firsts, asks_of}
 use Rattle.mets.specs.Mets.{Mets}
 use Rattle.mets.specs.Listed.{Listed, listed_ext}
 
@@ -244,22 +243,3 @@ list_copied b c K L L' at count t many copied =
         ∙ copied.inside j l
         ∙ lent_at K (at + 320) (at + 320 + count) j (omega arith)
         ∙ ap (λ k. get_or K k 0) z
-
--- ---- only the parts of a Board that say which conditions its actions have count
-
-module _ (b : Board) where
-  -- those parts
-  abbrev pub asks : Board
-  asks = asks_of b.actions b.factors b.conditions
-
-  pub firsts_asks : (firsts : List ℕ) → Firsts b firsts → Firsts asks firsts
-  firsts_asks firsts f = record { long = f.long; inside = f.inside; named = f.named }
-
-  pub known_asks : (K : List ℕ) → Known b K → Known asks K
-  known_asks K k = record { long = k.long; slots = λ s l d c v. let t = k.slots s l d c v in record { right = t.right; listed = t.listed } }
-
-  pub asks_known : (K : List ℕ) → Known asks K → Known b K
-  asks_known K k = record { long = k.long; slots = λ s l d c v. let t = k.slots s l d c v in record { right = t.right; listed = t.listed } }
-
-  pub asks_told : (c : Centre) (f : ℕ → ℕ) → Told asks c f → Told b c f
-  asks_told c f t = record { right = t.right; listed = t.listed }

@@ -7,39 +7,34 @@
 
 ghost use Rattle.std.specs.Prelude.{◌≡◌, Bool, cond, true, ℕ, ◌+◌, ◌≤◌, ◌<◌, length, get_or};
 ghost use Rattle.layer.specs.Board.{met_on};
-ghost use Rattle.layer.specs.First.{Firsts, asks_of};
+ghost use Rattle.layer.specs.First.{Firsts};
+ghost use Rattle.layer.specs.Held.{board_in};
 ghost use Rattle.mets.specs.Listed.{Listed};
 ghost use Rattle.mets.specs.Known.{Flagged, Told, Slot, Known};
 
-use layer::met_by;
+use layer::{Board, met_by};
 use task::Centre;
 
 // The flags of all actions, at the front of `flags`.
-fn find(
-    actions: usize,
-    firsts: &[u8],
-    values: &[u8],
-    factors: [u8; 32],
-    conditions: &[u8],
-    centre: Centre,
-    flags: &mut [u8],
-)
-    requires { (actions ≤ 255) × (length conditions.now ≡ 8192) × Firsts (asks_of actions factors conditions.now) firsts.now
-        × (length flags.old ≡ 256) × (values.now ≡ centre.values) × (length values.now ≡ 32) }
-    ensures { Flagged (asks_of actions factors conditions.now) centre actions flags.new }
+fn find(board: &Board<'_>, firsts: &[u8], values: &[u8], centre: Centre, flags: &mut [u8])
+    requires firsts { Firsts (board_in board.now) firsts.now }
+    requires values { (values.now ≡ centre.values) × (length values.now ≡ 32) }
+    requires flags { length flags.old ≡ 256 }
+    ensures { Flagged (board_in board.now) centre board.now.actions flags.new }
 {
-    for (a, flag) in flags[..actions].iter_mut().enumerate() {
-        *flag = u8::from(met_by(firsts, values, factors, conditions, centre, a));
+    for (a, flag) in flags[..board.actions].iter_mut().enumerate() {
+        *flag = u8::from(met_by(board, firsts, values, centre, a));
     }
 }
 
 // The actions whose flag is set are listed in the slot, by rising number. Each is written at the end of the list, which grows by its flag: without a branch
 // that is quicker.
 fn list_flagged(actions: usize, slot: &mut [u8])
-    requires { (actions ≤ 255) × (length slot.old ≡ 576) × ((a : ℕ) → a < actions → get_or slot.old a 0 ≤ 1) }
-    ensures { ((i : ℕ) → i < 289 → get_or slot.new i 0 ≡ get_or slot.old i 0)
-        × ((p : ℕ → Bool) → ((a : ℕ) → a < actions → get_or slot.old a 0 ≡ cond (p a) 1 0)
-        → Listed p actions (get_or slot.new 289 0) (λ j. get_or slot.new (320 + j) 0)) }
+    requires flags { (actions ≤ 255) × ((a : ℕ) → a < actions → get_or slot.old a 0 ≤ 1) }
+    requires slot { length slot.old ≡ 576 }
+    ensures kept { (i : ℕ) → i < 289 → get_or slot.new i 0 ≡ get_or slot.old i 0 }
+    ensures listed { (p : ℕ → Bool) → ((a : ℕ) → a < actions → get_or slot.old a 0 ≡ cond (p a) 1 0)
+        → Listed p actions (get_or slot.new 289 0) (λ j. get_or slot.new (320 + j) 0) }
 {
     let mut count: usize = 0;
     for a in 0..actions {
@@ -74,49 +69,34 @@ fn slot_of(class: usize) -> usize
 }
 
 // A slot is filled with what holds in a centre state, whose values are given.
-fn fill(
-    actions: usize,
-    firsts: &[u8],
-    values: &[u8],
-    factors: [u8; 32],
-    conditions: &[u8],
-    centre: Centre,
-    slot: &mut [u8],
-)
-    requires { (actions ≤ 255) × (length conditions.now ≡ 8192) × Firsts (asks_of actions factors conditions.now) firsts.now
-        × (length slot.old ≡ 576) × (values.now ≡ centre.values) × (length values.now ≡ 32) }
-    ensures { Slot (asks_of actions factors conditions.now) (λ i. get_or slot.new i 0)
-        × Told (asks_of actions factors conditions.now) centre (λ i. get_or slot.new i 0) }
+fn fill(board: &Board<'_>, firsts: &[u8], values: &[u8], centre: Centre, slot: &mut [u8])
+    requires firsts { Firsts (board_in board.now) firsts.now }
+    requires values { (values.now ≡ centre.values) × (length values.now ≡ 32) }
+    requires slot { length slot.old ≡ 576 }
+    ensures slot { Slot (board_in board.now) (λ i. get_or slot.new i 0) }
+    ensures told { Told (board_in board.now) centre (λ i. get_or slot.new i 0) }
 {
-    find(
-        actions,
-        firsts,
-        values,
-        factors,
-        conditions,
-        centre,
-        &mut slot[0..256],
-    );
+    find(board, firsts, values, centre, &mut slot[0..256]);
     slot[256..288].copy_from_slice(values);
     slot[288] = 1;
-    list_flagged(actions, slot);
+    list_flagged(board.actions, slot);
 }
 
 // Where the slot begins that holds what is known of a centre state of this class; it is filled where it holds another. Which slot that is, and so the words
 // of `known` afterwards, is left to the program: what each slot holds is right (`Known`), and this one holds what is asked for (`Told`).
 pub fn slot_for(
-    actions: usize,
+    board: &Board<'_>,
     firsts: &[u8],
-    factors: [u8; 32],
-    conditions: &[u8],
     centre: Centre,
     class: usize,
     known: &mut [u8],
 ) -> usize
-    requires { (actions ≤ 255) × (length conditions.now ≡ 8192) × Firsts (asks_of actions factors conditions.now) firsts.now
-        × (class < 4096) × Known (asks_of actions factors conditions.now) known.old }
-    ensures { (result + 576 ≤ 36864) × Known (asks_of actions factors conditions.now) known.new
-        × Told (asks_of actions factors conditions.now) centre (λ i. get_or known.new (result + i) 0) }
+    requires firsts { Firsts (board_in board.now) firsts.now }
+    requires class { class < 4096 }
+    requires known { Known (board_in board.now) known.old }
+    ensures inside { result + 576 ≤ 36864 }
+    ensures known { Known (board_in board.now) known.new }
+    ensures told { Told (board_in board.now) centre (λ i. get_or known.new (result + i) 0) }
 {
     let values = centre.values;
     let at = slot_of(class) * 576;
@@ -124,38 +104,31 @@ pub fn slot_for(
     if is_known(&known[at..end], &values) {
         return at;
     }
-    fill(
-        actions,
-        firsts,
-        &values,
-        factors,
-        conditions,
-        centre,
-        &mut known[at..end],
-    );
+    fill(board, firsts, &values, centre, &mut known[at..end]);
     at
 }
 
 // The actions whose centre conditions hold in a centre state of this class, by rising number, at the front of `list`: how many. Behind them `list` stays as
 // it is, and its length stays. The words of `known` afterwards are left to the program: what each slot holds is right (`Known`).
 pub fn list_mets(
-    actions: usize,
+    board: &Board<'_>,
     firsts: &[u8],
-    factors: [u8; 32],
-    conditions: &[u8],
     centre: Centre,
     class: usize,
     known: &mut [u8],
     list: &mut [u8],
 ) -> usize
-    requires { (actions ≤ 255) × (length conditions.now ≡ 8192) × Firsts (asks_of actions factors conditions.now) firsts.now
-        × (class < 4096) × (length list.old ≡ 256) × Known (asks_of actions factors conditions.now) known.old }
-    ensures listed { Known (asks_of actions factors conditions.now) known.new × (result ≤ 256)
-        × Listed (met_on (asks_of actions factors conditions.now) centre) actions result (λ j. get_or list.new j 0)
-        × ((k : ℕ) → result ≤ k → get_or list.new k 0 ≡ get_or list.old k 0) }
+    requires firsts { Firsts (board_in board.now) firsts.now }
+    requires class { class < 4096 }
+    requires known { Known (board_in board.now) known.old }
+    requires list { length list.old ≡ 256 }
+    ensures known { Known (board_in board.now) known.new }
+    ensures listed { Listed (met_on (board_in board.now) centre) board.now.actions result (λ j. get_or list.new j 0) }
+    ensures few { result ≤ 256 }
+    ensures behind { (k : ℕ) → result ≤ k → get_or list.new k 0 ≡ get_or list.old k 0 }
     ensures lengths { length list.new ≡ length list.old }
 {
-    let at = slot_for(actions, firsts, factors, conditions, centre, class, known);
+    let at = slot_for(board, firsts, centre, class, known);
     let count = known[at + 289] as usize;
     let from = at + 320;
     let end = from + count;

@@ -1,14 +1,13 @@
 -- Actions that leave each state of a leaf, or of each leaf, as it is. Assumes nothing.
-use Rattle.std.specs.Prelude.{◌≡◌, refl, Bool, true, false, cond, not, ◌&&◌, List, ◌++◌, ℕ, suc, ◌+◌, ◌-◌, ◌*◌, ◌/◌, ◌%◌, ◌≤◌, ◌<◌, ltb, eqb, length, get_or, set, drop, replicate}
-use Rattle.std.proofs.Common.{sym, ap, ◌∙◌, true≢false, mul-le-mul_right, arith, length-append, length-drop, get_or-append-add, get_or-drop, eq-eqb, eqb-true}
+use Rattle.std.specs.Prelude.{◌≡◌, refl, Bool, true, false, cond, not, ◌&&◌, List, ◌++◌, ℕ, suc, ◌+◌, ◌-◌, ◌*◌, ◌/◌, ◌%◌, ◌≤◌, ◌<◌, ltb, eqb, length, get_or, set, take, drop, replicate}
+use Rattle.std.proofs.Common.{sym, ap, ◌∙◌, true≢false, arith, length-append, length-take, length-drop, get_or-append-add, get_or-drop, eq-eqb, eqb-true}
 use Rattle.std.proofs.Math.Decide.{dec_le}
 use Rattle.std.proofs.lemmas.List.{length-replicate, get_or-replicate}
 use Rattle.std.proofs.Math.ListN.{get_or-append, get_or-eq_default}
 use Rattle.std.proofs.Math.Arith.{digits_div, digits_mod}
 use Rattle.loops.specs.Count.{all, list}
-use Rattle.loops.specs.Count.Laws.{and_out, all_out, list_length, list_at, list_more}
-use Rattle.keys.specs.Scan.{Cut}
-use Rattle.keys.specs.Scan.Laws.{cut_in}
+use Rattle.loops.specs.Count.Laws.{and_out, all_out, list_length, list_at, list_more, list_over}
+use Rattle.layer.specs.Board.{Board}
 
 -- an action whose moves begin at `from` leaves each state of the leaf behind i leaves as it is
 abbrev pub StaysIn : ℕ → List ℕ → List ℕ → ℕ → Type 0
@@ -32,6 +31,13 @@ pub record Entries (n leaves : ℕ) (bases moves stills : List ℕ) : Type 0 whe
 -- those of all actions
 abbrev pub Stills : ℕ → ℕ → List ℕ → List ℕ → List ℕ → Type 0
 Stills leaves actions bases moves stills = Entries (actions * 8) leaves bases moves stills
+
+-- the same of a Board's actions
+abbrev pub StillOn : Board → List ℕ → Type 0
+StillOn b still = Still b.leaves b.actions b.bases b.moves still
+
+abbrev pub StillsOn : Board → List ℕ → Type 0
+StillsOn b stills = Stills b.leaves b.actions b.bases b.moves stills
 
 -- ---- what the code counts, one definition for each function
 
@@ -61,20 +67,6 @@ still_by leaves stills a = cond (all leaves (λ i. not (eqb (get_or stills (a * 
 unfoldable pub still_actions : (leaves actions : ℕ) (stills : List ℕ) → List ℕ
 still_actions leaves actions stills = padded 256 actions (still_by leaves stills)
 
--- ---- finding them
-
--- a leaf's moves lie within the action's, which begin at `from`
-pub within : (leaves : ℕ) (bases : List ℕ) (n : ℕ) → Cut leaves bases n → (from : ℕ) → from + get_or bases leaves 0 ≤ n → (i : ℕ) → i < leaves
-    → (get_or bases i 0 ≤ get_or bases (i + 1) 0) × (from + get_or bases (i + 1) 0 ≤ n)
-within leaves bases n cut from h i l =
-    let tight : Cut leaves bases (get_or bases leaves 0) = record { few = cut.few; long = cut.long; rise = cut.rise; fits = omega arith } in
-    let inside = cut_in leaves bases (get_or bases leaves 0) tight i l in
-    (omega (arith, inside), omega (arith, inside))
-
--- an action's moves lie within the table
-pub action_in : (n a w m : ℕ) → a < n → n * w ≤ m → a * w + w ≤ m
-action_in n a w m l h = omega (arith, mul-le-mul_right {m = suc a} {n = n} w l, h)
-
 -- ---- tables with zeros behind
 
 -- zeros alone
@@ -92,6 +84,13 @@ module _ (m : ℕ) (f : ℕ → ℕ) where
   -- a turn of the loop that stores the next
   pub padded_more : (n : ℕ) → n < m → set (padded m n f) n (f n) ≡ padded m (n + 1) f
   padded_more n l = list_more n f (replicate m 0) (omega (arith, length-replicate {A = ℕ} m 0))
+
+  -- the loop over the front alone, which begins with zeros
+  pub padded_all : (n a : ℕ) (ys : List ℕ) → n ≤ m → ys ≡ list a f ++ drop a (take n (replicate m 0)) → length (take n (replicate {A = ℕ} m 0)) ≤ a → a ≤ length (take n (replicate {A = ℕ} m 0))
+      → ys ++ drop n (replicate m 0) ≡ padded m n f
+  padded_all n a ys l e low high =
+      let long : length (take n (replicate {A = ℕ} m 0)) ≡ n = simp (length-take, length-replicate) (omega arith) in
+      ap (λ xs. xs ++ drop n (replicate m 0)) (list_over n a f (take n (replicate m 0)) ys e (omega arith) (omega arith))
 
   pub padded_at : (n k : ℕ) → k < n → get_or (padded m n f) k 0 ≡ f k
   padded_at n k l = get_or-append (list n f) (drop n (replicate m 0)) 0 k (omega (arith, list_length n f)) ∙ list_at n f k l

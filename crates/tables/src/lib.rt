@@ -116,8 +116,8 @@ fn starts_of(
     ensures { (length result ≡ 8) × Filled leaves (λ i. number_to (entries factors.now) (entries sizes.now) (suc i) (entries values.now) variables) result }
 {
     let mut starts: [usize; 8] = [0; 8];
-    for i in 0..leaves {
-        starts[i] = number_of(sizes, factors, values, variables, i + 1);
+    for (i, start) in starts[..leaves].iter_mut().enumerate() {
+        *start = number_of(sizes, factors, values, variables, i + 1);
     }
     starts
 }
@@ -148,9 +148,9 @@ fn costs_of(handling: &[u16], distance: &[u16], actions: usize) -> [u16; 256]
     ensures { (length result ≡ 256) × Filled actions (λ a. get_or handling.now a 0 + drive_time (get_or distance.now a 0)) result }
 {
     let mut costs: [u16; 256] = [0; 256];
-    for a in 0..actions {
+    for (a, cost) in costs[..actions].iter_mut().enumerate() {
         let time = drive::drive_time(distance[a]);
-        costs[a] = handling[a] + time;
+        *cost = handling[a] + time;
     }
     costs
 }
@@ -210,8 +210,8 @@ fn kinds_of<'a>(
     ensures { (length result ≡ 256) × Each actions (λ a k. KindIs variables (entries factors.now) leaves (entries_from (a * 32) conditions.now) (entries_from (a * 32) effects.now) k) result }
 {
     let mut kinds: [u8; 256] = [0; 256];
-    for a in 0..actions {
-        kinds[a] = kind_of(factors, conditions, effects, a * 32, variables, leaves);
+    for (a, kind) in kinds[..actions].iter_mut().enumerate() {
+        *kind = kind_of(factors, conditions, effects, a * 32, variables, leaves);
     }
     kinds
 }

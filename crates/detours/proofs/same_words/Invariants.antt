@@ -1,10 +1,7 @@
 -- `detours::same_words` meets its contract. The invariant: no bit was apart so far just where the words so far are the same. Assumes nothing.
-use Rattle.std.proofs.Common.{◌≡◌, ◌-◌, ◌≤◌, eqb, length, get_or}
+use Rattle.std.proofs.Common.{◌≡◌, eqb, get_or}
 use Rattle.loops.specs.Count.{all}
 use Rattle.detours.proofs.same_words.Given as goal
 
 abbrev pub invariant-loop-j : goal.invariant-loop-j
-invariant-loop-j l = (l.j-end ≡ length l.xs) × (l.j ≤ l.j-end) × (eqb l.apart 0 ≡ all l.j (λ k. eqb (get_or l.xs k 0) (get_or l.ys k 0)))
-
-abbrev pub decreases-loop-j : goal.decreases-loop-j
-decreases-loop-j l = l.j-end - l.j
+invariant-loop-j l = eqb l.apart 0 ≡ all l.j (λ k. eqb (get_or l.xs k 0) (get_or l.ys k 0))

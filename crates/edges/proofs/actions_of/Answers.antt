@@ -1,4 +1,4 @@
-use Rattle.std.proofs.Common.{arith}
+use Rattle.std.proofs.Common.{arith, length-take, get_or-take}
 use Rattle.edges.specs.Edges.{those, of_leaf}
 use Rattle.edges.specs.Edges.Those.{front_none, those_turn}
 use Rattle.edges.proofs.actions_of.Goals as goal
@@ -11,7 +11,9 @@ pub loop-a-preserved : goal.loop-a-preserved
 loop-a-preserved c =
     let s = c.args in
     let l = c.loop-a in
+    let kind = get_or-take s.actions s.kinds.now l.a 0 (omega (arith, length-take s.actions s.kinds.now)) in
     record {
       few = grind arith;
-      front = those_turn (of_leaf s.kinds.now s.i) l.a s.acts.now l.acts _ l.count _ (omega arith) l.invariant.front (λ e. grind arith) (λ e. grind arith);
+      front = those_turn (of_leaf s.kinds.now s.i) l.a s.acts.now l.acts _ l.count _ (omega (arith, length-take s.actions s.kinds.now)) l.invariant.front
+          (λ e. grind (arith, kind)) (λ e. grind (arith, kind));
     }

@@ -1,7 +1,8 @@
 -- What a chain of iterators tells of a list's elements, as a test over the numbers below the list's length. Assumes nothing.
-use Rattle.std.specs.Prelude.{◌≡◌, refl, Bool, true, false, ◌&&◌, ◌||◌, List, [], ◌∷◌, ℕ, zero, suc, ◌+◌, ◌<◌, ◌≤◌, min, length, get_or}
+use Rattle.std.specs.Prelude.{◌≡◌, refl, Bool, true, false, cond, not, ◌&&◌, ◌||◌, List, [], ◌∷◌, ℕ, zero, suc, ◌+◌, ◌-◌, ◌<◌, ◌≤◌, length, get_or, take, drop}
+use mir.Val.{bool_byte}
 use Rattle.std.specs.List.{list_all, list_any, zip, enumerate_from}
-use Rattle.std.proofs.Common.{sym, ap, ap₂, ◌∙◌, arith}
+use Rattle.std.proofs.Common.{sym, ap, ap₂, ◌∙◌, arith, length-take, length-drop, get_or-take, get_or-drop}
 use Rattle.std.proofs.Math.Bool.{and-true, or-false}
 use Rattle.std.proofs.lemmas.Slice.Zip.{length-zip, get_or-zip}
 use Rattle.std.proofs.lemmas.List.FromFn.{length-enumerate_from, get_or-enumerate_from}
@@ -14,6 +15,10 @@ and_join false b c = refl
 or_join : (a b c : Bool) → ((a || b) || c) ≡ (a || (b || c))
 or_join true b c = refl
 or_join false b c = refl
+
+not_or : (a b : Bool) → not (a || b) ≡ (not a && not b)
+not_or true b = refl
+not_or false b = refl
 
 -- the first number before the others
 pub all_first : (n : ℕ) (p : ℕ → Bool) → all (suc n) p ≡ (p 0 && all n (λ k. p (suc k)))
@@ -62,3 +67,28 @@ all_placed p xs q d h =
     all_of p (enumerate_from 0 xs) q (0, d)
     (λ k m. let l : k < length xs = omega arith in ap p (get_or-enumerate_from 0 xs k (0, d) l ∙ (let e : 0 + k ≡ k = omega arith in ap (λ j. (j, get_or xs k d)) e)) ∙ h k l)
     ∙ ap (λ n. all n q) long
+
+-- none of a list's elements passes
+pub none_of : {X : Type 0} (p : X → Bool) (xs : List X) (q : ℕ → Bool) (d : X) → ((k : ℕ) → k < length xs → not (p (get_or xs k d)) ≡ q k)
+    → not (list_any p xs) ≡ all (length xs) q
+unfolding all
+none_of p [] q d h = refl
+none_of p (x ∷ xs) q d h =
+    not_or (p x) (list_any p xs)
+    ∙ ap₂ ◌&&◌ (h 0 (omega arith)) (none_of p xs (λ k. q (suc k)) d (λ k l. h (suc k) (omega arith)))
+    ∙ sym (all_first (length xs) q)
+
+-- ---- a part of a list, n elements from `at` on
+
+pub part_length : {X : Type 0} (xs : List X) (at n : ℕ) → at + n ≤ length xs → length (take (at + n - at) (drop at xs)) ≡ n
+part_length xs at n l = simp (length-take, length-drop) (omega arith)
+
+pub part_at : {X : Type 0} (xs : List X) (at n k : ℕ) (d : X) → k < n → get_or (take (at + n - at) (drop at xs)) k d ≡ get_or xs (at + k) d
+part_at xs at n k d l = get_or-take (at + n - at) (drop at xs) k d (omega arith) ∙ get_or-drop at xs k d
+
+-- ---- a test as a number
+
+-- 1 where it holds, else 0
+pub byte_of : (t : Bool) → bool_byte t ≡ cond t 1 0
+byte_of true = refl
+byte_of false = refl

@@ -1,20 +1,29 @@
-use Rattle.std.proofs.Common.{ap, ℕ, ◌+◌, le_antisymm, arith, get_or, length-set}
-use Rattle.tables.specs.Tables.Laws.{filled_more}
+use Rattle.std.proofs.Common.{ap, ℕ, ◌+◌, ◌≡◌, ◌<◌, ◌≤◌, not-suc-le-zero, arith, length, get_or, take, replicate, length-take}
+use Rattle.drive.specs.Drive.{drive_time}
+use Rattle.tables.specs.Tables.Laws.{filled_more, each_front}
 use Rattle.tables.proofs.costs_of.Goals as goal
+use Rattle.tables.proofs.costs_of.Goals.{In-loop-a}
 
-pub overflow_add-costs : goal.overflow_add-costs
-overflow_add-costs c =
-    let fits = c.requires.by_index c.loop-a.a c.loop-a-test.true in
+-- the turn's action
+below : (c : In-loop-a) → c.loop-a.a < c.args.actions
+below c =
+    let few : length (take c.args.actions (replicate {A = ℕ} 256 0)) ≤ c.args.actions = simp length-take (omega arith) in
+    omega (arith, c.loop-a-test.true, few)
+
+pub overflow_add-cost : goal.overflow_add-cost
+overflow_add-cost c =
+    let fits = c.requires.by_index c.loop-a.a (below (goal.at.overflow_add-cost c).In-loop-a) in
     omega (arith, c.drive_time-time.ensures.named)
 
 pub loop-a-preserved : goal.loop-a-preserved
 loop-a-preserved c =
     let l = c.loop-a in
-    let handling = get_or c.args.handling.now l.a 0 in (
-      omega arith,
-      simp length-set l.invariant.1,
-      filled_more _ l.a l.costs (omega arith) l.invariant.2 (ap (λ (t : ℕ). handling + t) c.drive_time-time.ensures.named),
-    )
+    let handling = get_or c.args.handling.now l.a 0 in
+    filled_more _ l.a l.cost-items (omega arith) l.invariant (ap (λ (t : ℕ). handling + t) c.drive_time-time.ensures.named)
 
 pub returns : goal.returns
-returns c = let l = c.loop-a in (l.invariant.1, rw (le_antisymm l.invariant.0 c.loop-a-test.false) at l.invariant.2)
+returns c =
+    let l = c.loop-a in
+    let a = c.args in
+    each_front 256 a.actions l.a (λ k x. x ≡ get_or a.handling.now k 0 + drive_time (get_or a.distance.now k 0)) l.cost-items
+    (omega (arith, c.requires.actions_in_bounds.2)) l.invariant l.auto.cost-items c.loop-a-test.false

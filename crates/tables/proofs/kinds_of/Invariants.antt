@@ -1,5 +1,5 @@
 -- `tables::kinds_of` meets its contract. The invariant: the first a entries are the kinds of the actions. Assumes nothing.
-use Rattle.std.proofs.Common.{◌≡◌, List, ℕ, ◌-◌, ◌*◌, ◌≤◌, length}
+use Rattle.std.proofs.Common.{List, ℕ, ◌*◌}
 use Rattle.digits.specs.Digits.{entries, entries_from, Each}
 use Rattle.tables.specs.Tables.{KindIs}
 use Rattle.tables.proofs.kinds_of.Given as goal
@@ -10,7 +10,4 @@ kind factors conditions effects variables leaves k x =
     KindIs variables (entries factors) leaves (entries_from (k * 32) conditions) (entries_from (k * 32) effects) x
 
 abbrev pub invariant-loop-a : goal.invariant-loop-a
-invariant-loop-a l = (l.a ≤ l.actions) × (length l.kinds ≡ 256) × Each l.a (kind l.factors l.conditions l.effects l.variables l.leaves) l.kinds
-
-abbrev pub decreases-loop-a : goal.decreases-loop-a
-decreases-loop-a l = l.actions - l.a
+invariant-loop-a l = Each l.a (kind l.factors l.conditions l.effects l.variables l.leaves) l.kind-items

@@ -1,7 +1,9 @@
 -- Laws of the tables: a turn of each loop that fills one, and numbers that fit. Each is about lists and functions, no task. Assumes nothing.
-use Rattle.std.specs.Prelude.{◌≡◌, refl, true, false, List, ℕ, ◌+◌, ◌*◌, ◌≤◌, ◌<◌, eqb, length, get_or, set}
+use Rattle.std.specs.Prelude.{◌≡◌, refl, true, false, List, ◌++◌, ℕ, ◌+◌, ◌*◌, ◌≤◌, ◌<◌, eqb, length, get_or, set, take, drop, replicate}
 use Rattle.std.proofs.Math.Logic.{inl, inr}
-use Rattle.std.proofs.Common.{add-one, arith, get_or-set_same, get_or-set_other}
+use Rattle.std.proofs.Common.{sym, subst, ◌∙◌, add-one, arith, length-append, length-take, length-drop, get_or-set_same, get_or-set_other}
+use Rattle.std.proofs.lemmas.List.{length-replicate}
+use Rattle.std.proofs.Math.ListN.{get_or-append}
 use Rattle.std.proofs.Math.Decide.{ℕ_discrete}
 use Rattle.task.specs.Meaning.{State, Partial}
 use Rattle.task.specs.Factors.{touches, leaf_pairs, number_to, states_to}
@@ -57,3 +59,10 @@ module _ (n : ℕ) (fac : ℕ → ℕ) (leaves : ℕ) (p q : Partial) where
   pub kind_leaf : (i : ℕ) → i < leaves → leaf_pairs n fac p q (i + 1) ≡ true → KindIs n fac leaves p q (i + 1)
   unfolding KindIs
   kind_leaf i l e = inr (i, (l, (refl, e)))
+
+-- a front of a table that has what it should, with zeros behind it
+pub each_front : (m n a : ℕ) (P : ℕ → ℕ → Type 0) (ys : List ℕ) → n ≤ m → Each a P ys → length ys ≡ length (take n (replicate {A = ℕ} m 0))
+    → length (take n (replicate {A = ℕ} m 0)) ≤ a → (length (ys ++ drop n (replicate m 0)) ≡ m) × Each n P (ys ++ drop n (replicate m 0))
+each_front m n a P ys few each long all =
+    let front : length ys ≡ n = long ∙ simp (length-take, length-replicate) (omega arith) in
+    (simp (length-append, length-drop, length-replicate) (omega arith), λ k l. subst (P k) (sym (get_or-append ys (drop n (replicate m 0)) 0 k (omega arith))) (each k (omega arith)))
