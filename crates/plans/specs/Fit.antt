@@ -13,8 +13,8 @@ use Rattle.layer.specs.Layer.{enabled, start_leaf, leaf_part}
 use Rattle.layer.specs.Layer.Leaf.{leaf_length}
 use Rattle.layer.specs.Board.{Board, Fits, Sound, base_on, row_on, states_on, enabled_on}
 use Rattle.layer.specs.Board.Laws.{states_on_lem, row_on_lem, part_on_lem, enabled_on_lem, pass_on_lem}
-use Rattle.tables.specs.Tables.{Tabled}
-use Rattle.tables.specs.Fit.{board_of, tables_fit}
+use Rattle.layer.specs.Held.{board_in}
+use Rattle.tables.specs.declared.held.TaskTables.{TaskTables}
 use Rattle.search.specs.Node.{first_node}
 use Rattle.search.specs.Explore.{Search, node_at}
 use Rattle.search.specs.Plan.{begins, back_in, over}
@@ -66,12 +66,16 @@ pub record Grounds (t : Task) (b : Board) (starts T : List ℕ) (count : ℕ) : 
   pub real : Real t (held_in (row_on b) T count)
 
 -- the tables of a task are such
-pub grounds_on : (t : Task) (bases moves costs kinds starts T : List ℕ) (count : ℕ) → Valid t → Tabled t bases moves costs kinds starts
-    → length t.factors ≡ 32 → length t.conditions ≡ 8192 → Real t (held_in (all_states t) T count)
-    → Grounds t (board_of t bases moves costs kinds) starts T count
-grounds_on t bases moves costs kinds starts T count ok h fl cl r =
-    let (f, sound) = tables_fit t ok bases moves costs kinds h.is_bases h.is_moves h.is_costs h.is_kinds h.long_moves fl cl in
-    record { valid = ok; fits = f; sound = sound; starts_is = h.is_starts.is; real = rw (row_on_lem t (board_of t bases moves costs kinds) f) r }
+pub grounds_in : (h : TaskTables) (T : List ℕ) (count : ℕ) → Valid h.task.now → Real h.task.now (held_in (all_states h.task.now) T count)
+    → Grounds h.task.now (board_in h.board) h.starts.now T count
+grounds_in h T count ok r =
+    record {
+      valid = ok;
+      fits = h.fits;
+      sound = h.board.sound;
+      starts_is = h.tabled.is_starts.is;
+      real = rw (row_on_lem h.task.now (board_in h.board) h.fits) r;
+    }
 
 -- the search in the table
 abbrev pub search_on : Board → List ℕ → ℕ → Search
@@ -102,13 +106,11 @@ module _ (t : Task) (b : Board) (starts T : List ℕ) (count : ℕ) (g : Grounds
   pub standing_on : b.leaves ≤ length starts → count * (40 + row_on b) ≤ length T → (u : ℕ) → u < count → Standing b starts T u
   standing_on many long u h =
       record {
-        sound = g.sound;
         starts_long = many;
         starts_in = λ i l. let m : i < t.leaves = rw g.fits.leaves_is at l in
             omega (arith, g.starts_is i m, number_lt t (suc i) g.valid.fields.initial_inside, states_on_lem t b g.fits i m);
         here = row u h;
-        before = λ z. row (node_on b T u).parent (omega (arith, parent_below u z h));
-        known = λ z. known u z h;
+        made = λ z. record { here = row u h; before = row (node_on b T u).parent (omega (arith, parent_below u z h)); known = known u z h };
       }
     where
       row : (v : ℕ) → v < count → RowIn (row_on b) T v

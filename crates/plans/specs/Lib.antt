@@ -3,4 +3,3 @@ pub mod Kept
 pub mod Fit
 pub mod Steps
 pub mod Goal
-pub mod Turned

@@ -3,13 +3,14 @@ pub mod Laws
 pub mod Turns
 use Rattle.std.specs.Prelude.{◌≡◌, true, false, ◌&&◌, List, [], ◌++◌, reverse, ℕ, zero, suc, ◌+◌, ◌-◌, ◌*◌, ◌≤◌, ◌<◌, eqb, leb, length, get_or, set, drop, replicate}
 use Rattle.leaf.specs.Price.{mark}
-use Rattle.layer.specs.Board.{Board, Sound, base_on, row_on, states_on, part_on, enabled_on, pass_on}
+use Rattle.layer.specs.Board.{Board, base_on, row_on, states_on, part_on, enabled_on, pass_on}
 use Rattle.search.specs.Node.{Node, least_of}
 use Rattle.search.specs.Explore.{Search}
 use Rattle.search.specs.Plan.{lowest, Back}
 use Rattle.search.specs.Plan.Laid.{put, laid}
 use Rattle.rows.specs.Row.{node_in, nodes_in}
 use Rattle.keys.specs.Scan.{part_by, goals_by}
+use Rattle.wayback.specs.declared.held.PlanBuffer.{PlanBuffer}
 use Rattle.wayback.specs.Steps.{table_back, Walkable}
 use Rattle.plans.specs.Kept.{bare}
 
@@ -73,14 +74,18 @@ RowIn S T u = u * (40 + S) + (40 + S) ≤ length T
 abbrev pub Roomy : ℕ → ℕ → List ℕ → ℕ → Type 0
 Roomy leaves actions bases k = (i : ℕ) → i < leaves → actions * (get_or bases (i + 1) 0 - get_or bases i 0) ≤ k
 
--- the tables can be indexed, each leaf begins in one of its states, the rows of node u and of its parent lie within the table, and its action is known
+-- the rows of node u and of its parent lie within the table, and its action is known
+pub record Made (b : Board) (T : List ℕ) (u : ℕ) : Type 0 where
+  pub here : RowIn (row_on b) T u
+  pub before : RowIn (row_on b) T (node_on b T u).parent
+  pub known : (node_on b T u).action < b.actions
+
+-- each leaf begins in one of its states, the row of node u lies within the table, and where it is not node 0, it was made from one there
 pub record Standing (b : Board) (starts T : List ℕ) (u : ℕ) : Type 0 where
-  pub sound : Sound b
   pub starts_long : b.leaves ≤ length starts
   pub starts_in : (i : ℕ) → i < b.leaves → get_or starts i 0 < states_on b i
   pub here : RowIn (row_on b) T u
-  pub before : 0 < u → RowIn (row_on b) T (node_on b T u).parent
-  pub known : 0 < u → (node_on b T u).action < b.actions
+  pub made : 0 < u → Made b T u
 
 -- ---- what is left behind
 
@@ -100,6 +105,13 @@ pub record NodeWalked (n : ℕ) (f : ℕ → Back) (a : ℕ) (go : ℕ → ℕ �
   pub place : r ≡ p + length (backs f n) + 1
   pub written : plan' ≡ put total (p + length (backs f n)) a (laid total p (backs f n) plan)
   pub states : (i : ℕ) → i < n → get_or ends' i 0 ≡ go i (f i).from
+
+-- the same in the buffer of a plan
+abbrev pub LayerWalkedIn : ℕ → (ℕ → Back) → PlanBuffer → List ℕ → PlanBuffer → Type 0
+LayerWalkedIn n f before ends' after = LayerWalked n f before.total before.place before.plan.now after.place ends' after.plan.now
+
+abbrev pub NodeWalkedIn : ℕ → (ℕ → Back) → ℕ → (ℕ → ℕ → ℕ) → PlanBuffer → List ℕ → PlanBuffer → Type 0
+NodeWalkedIn n f a go before ends' after = NodeWalked n f a go before.total before.place before.plan.now after.place ends' after.plan.now
 
 -- a plan at the front of the lent buffer; where it does not fit nothing is written
 unfoldable pub written : List ℕ → List ℕ → List ℕ

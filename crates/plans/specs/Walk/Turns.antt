@@ -11,7 +11,6 @@ use Rattle.digits.specs.Digits.{Filled}
 use Rattle.tables.specs.Tables.Laws.{filled_more}
 use Rattle.search.specs.Plan.{Back}
 use Rattle.search.specs.Plan.Laid.{put, laid, laid_append}
-use Rattle.wayback.specs.declared.Ended.{Ended}
 use Rattle.wayback.specs.Walked.{Walked}
 use Rattle.plans.specs.Walk.{backs, LayerWalked, NodeWalked}
 
@@ -35,18 +34,18 @@ module _ (n : ℕ) (g : ℕ → ℕ → Back) (total p₀ : ℕ) (ends₀ plan�
   layer_all = record { waits = λ j l. refl; done = λ j a b. absurd (omega arith); room = omega arith; end = refl; written = refl }
 
   -- one leaf less
-  less : (i p : ℕ) (ends plan : List ℕ) (r : Ended) (plan' : List ℕ) → i < length ends → length (g i (get_or ends i 0)).acts ≤ 256
-      → Walked (g i (get_or ends i 0)) total p plan r plan' → LayerLeft n g total p₀ ends₀ plan₀ (suc i) p ends plan
-      → LayerLeft n g total p₀ ends₀ plan₀ i r.place (set ends i r.state) plan'
+  less : (i p : ℕ) (ends plan : List ℕ) (s q : ℕ) (plan' : List ℕ) → i < length ends → length (g i (get_or ends i 0)).acts ≤ 256
+      → Walked (g i (get_or ends i 0)) total p plan s q plan' → LayerLeft n g total p₀ ends₀ plan₀ (suc i) p ends plan
+      → LayerLeft n g total p₀ ends₀ plan₀ i q (set ends i s) plan'
   unfolding backs
-  less i p ends plan r plan' h few w l =
+  less i p ends plan s q plan' h few w l =
       let same : g i (get_or ends i 0) ≡ ways_from g ends₀ i = ap (g i) (l.waits i (omega arith)) in
       let xs = reverse (ways_from g ends₀ i).acts in
       let many : length (g i (get_or ends i 0)).acts ≡ length xs =
       ap (λ (b : Back). length b.acts) same ∙ sym (length-reverse (ways_from g ends₀ i).acts) in
       let plan_is : plan' ≡ laid total p xs plan = w.plan ∙ ap (λ (b : Back). laid total p (reverse b.acts) plan) same in
       record {
-        waits = λ j k. get_or-set_other ends i j r.state 0 (λ e. omega arith) ∙ l.waits j (omega arith);
+        waits = λ j k. get_or-set_other ends i j s 0 (λ e. omega arith) ∙ l.waits j (omega arith);
         done = λ j a b. state j a b (ℕ_discrete j i);
         room = omega (arith, w.place, l.room);
         end = omega (arith, w.place, many, simp length-append at l.end);
@@ -54,19 +53,19 @@ module _ (n : ℕ) (g : ℕ → ℕ → Back) (total p₀ : ℕ) (ends₀ plan�
             rw (w.place, plan_is, many) (sym (laid_append total p xs (backs (ways_from g ends₀) i) plan) ∙ l.written);
       }
     where
-      state : (j : ℕ) → i ≤ j → j < n → Dec (j ≡ i) → get_or (set ends i r.state) j 0 ≡ (ways_from g ends₀ j).from
+      state : (j : ℕ) → i ≤ j → j < n → Dec (j ≡ i) → get_or (set ends i s) j 0 ≡ (ways_from g ends₀ j).from
       state j a b (yes e) =
-          rw e (get_or-set_same ends i r.state 0 h ∙ w.state ∙ ap (λ (y : ℕ). (g i y).from) (l.waits i (omega arith)))
-      state j a b (no d) = get_or-set_other ends i j r.state 0 d ∙ l.done j (omega arith) b
+          rw e (get_or-set_same ends i s 0 h ∙ w.state ∙ ap (λ (y : ℕ). (g i y).from) (l.waits i (omega arith)))
+      state j a b (no d) = get_or-set_other ends i j s 0 d ∙ l.done j (omega arith) b
 
-  pub layer_less : (i p : ℕ) (ends plan : List ℕ) (r : Ended) (plan' : List ℕ) → 0 < i → i ≤ length ends
+  pub layer_less : (i p : ℕ) (ends plan : List ℕ) (s q : ℕ) (plan' : List ℕ) → 0 < i → i ≤ length ends
       → length (g (i - 1) (get_or ends (i - 1) 0)).acts ≤ 256
-      → Walked (g (i - 1) (get_or ends (i - 1) 0)) total p plan r plan' → LayerLeft n g total p₀ ends₀ plan₀ i p ends plan
-      → LayerLeft n g total p₀ ends₀ plan₀ (i - 1) r.place (set ends (i - 1) r.state) plan'
-  layer_less zero p ends plan r plan' z h few w l = absurd (not-suc-le-zero z)
-  layer_less (suc i) p ends plan r plan' z h few w l =
+      → Walked (g (i - 1) (get_or ends (i - 1) 0)) total p plan s q plan' → LayerLeft n g total p₀ ends₀ plan₀ i p ends plan
+      → LayerLeft n g total p₀ ends₀ plan₀ (i - 1) q (set ends (i - 1) s) plan'
+  layer_less zero p ends plan s q plan' z h few w l = absurd (not-suc-le-zero z)
+  layer_less (suc i) p ends plan s q plan' z h few w l =
       let back : suc i - 1 ≡ i = omega arith in
-      rw back (less i p ends plan r plan' h (rw back at few) (rw back at w) l)
+      rw back (less i p ends plan s q plan' h (rw back at few) (rw back at w) l)
 
   -- no leaf is left
   pub layer_end : (i p : ℕ) (ends plan : List ℕ) → i ≡ 0 → LayerLeft n g total p₀ ends₀ plan₀ i p ends plan

@@ -5,12 +5,12 @@ use Rattle.solve.proofs.answer_of.Goals as goal
 
 pub returns-in-TableFull : goal.returns-in-TableFull
 returns-in-TableFull c =
-    stop_full c.args.task c.args.table.now c.args.stop c.args.plan.now c.in-TableFull.is
+    stop_full c.args.tables.now.task.now c.args.table.now c.args.stop c.args.plan.now c.in-TableFull.is
 
 pub returns-in-BudgetSpent : goal.returns-in-BudgetSpent
 returns-in-BudgetSpent c =
-    stop_spent c.args.task c.args.table.now c.args.stop c.args.plan.now c.in-BudgetSpent.is
+    stop_spent c.args.tables.now.task.now c.args.table.now c.args.stop c.args.plan.now c.in-BudgetSpent.is
 
 pub returns-in-Finished : goal.returns-in-Finished
 returns-in-Finished c =
-    c.finish.ensures ∙ stop_finished c.args.task c.args.table.now c.args.stop c.args.plan.now c.in-Finished.is
+    c.finish.ensures ∙ stop_finished c.args.tables.now.task.now c.args.table.now c.args.stop c.args.plan.now c.in-Finished.is

@@ -1,5 +1,5 @@
 -- A search that has stopped, as the code hands it on: the table's rows and the counts. Assumes nothing.
-use Rattle.std.specs.Prelude.{◌≡◌, refl, List, [], ◌++◌, ℕ, zero, suc, ◌+◌, ◌-◌, ◌*◌, ◌≤◌, ◌<◌, drop, replicate}
+use Rattle.std.specs.Prelude.{◌≡◌, refl, Option, Some, None, List, [], ◌++◌, ℕ, zero, suc, ◌+◌, ◌-◌, ◌*◌, ◌≤◌, ◌<◌, drop, replicate}
 use Rattle.std.proofs.Common.{sym, ◌∙◌, arith, drop_at}
 use Rattle.std.proofs.Math.Path.{ap}
 use Rattle.std.proofs.Math.Bool.{true, false}
@@ -22,7 +22,7 @@ use Rattle.offers.specs.declared.Run.{Run}
 use Rattle.explore.specs.declared.Stop.{Stop}
 use Rattle.explore.specs.declared.Why.TheVariants.{Finished, TableFull as FullTable, BudgetSpent as SpentBudget}
 use Rattle.explore.specs.Held.{reason_of, stopped_of}
-use Rattle.offers.specs.Held.{search_of}
+use Rattle.offers.specs.Held.{best_number, search_of}
 use Rattle.plans.specs.Walk.{held_in, written}
 use Rattle.plans.specs.Goal.{written_fits, written_not}
 use Rattle.plans.specs.Kept.{plan_kept, real_kept}
@@ -33,15 +33,15 @@ use Rattle.solve.specs.Solve.{Outcome, counts_of, unwritten, with_plan, planned,
 
 -- the search that a table and the counts hold; which nodes are expanded does not matter any more
 abbrev pub run_in : ℕ → List ℕ → Run → Search
-run_in S T r = record { kept = nodes_in S T r.count; done = []; begun = r.begun; best = r.best }
+run_in S T r = record { kept = nodes_in S T r.count; done = []; begun = r.begun; best = best_number r.best }
 
 -- it is real, and its best node is a goal node of best's cost
 pub record Sound (t : Task) (T : List ℕ) (r : Run) : Type 0 where
   pub few : r.count ≤ 4096
   pub fits : r.count * (40 + all_states t) ≤ length T
   pub real : Real t (run_in (all_states t) T r)
-  pub best_in : (u : ℕ) → r.best ≡ suc u → (u < r.count) × (is_goal t (node_at t (run_in (all_states t) T r) u) ≡ true)
-  pub best_cost : (u : ℕ) → r.best ≡ suc u → r.best_cost ≡ goal_cost t (node_at t (run_in (all_states t) T r) u)
+  pub best_in : (u : ℕ) → r.best ≡ Some u → (u < r.count) × (is_goal t (node_at t (run_in (all_states t) T r) u) ≡ true)
+  pub best_cost : (u : ℕ) → r.best ≡ Some u → r.best_cost ≡ goal_cost t (node_at t (run_in (all_states t) T r) u)
 
 -- searches with the same nodes, counts and best have the same outcome
 same_planned : (t : Task) (s r : Search) (u : ℕ) (plan words : List ℕ) → s.kept ≡ r.kept → s.begun ≡ r.begun
@@ -72,7 +72,7 @@ module _ (t : Task) (nodes budget : ℕ) (T O : List ℕ) (r : Stop) (e : stoppe
   unfolding search_of
   begun_is = ap (λ (x : Stopped). x.search.begun) e
 
-  best_is : r.run.best ≡ s.best
+  best_is : best_number r.run.best ≡ s.best
   unfolding search_of
   best_is = ap (λ (x : Stopped). x.search.best) e
 
@@ -85,15 +85,15 @@ module _ (t : Task) (nodes budget : ℕ) (T O : List ℕ) (r : Stop) (e : stoppe
 
   -- and it is sound
   pub stop_sound : 1 ≤ nodes → nodes ≤ 4096 → table_words t nodes ≤ length T
-      → ((u : ℕ) → r.run.best ≡ suc u → r.run.best_cost ≡ goal_cost t (node_in (all_states t) T u)) → Sound t T r.run
+      → ((u : ℕ) → r.run.best ≡ Some u → r.run.best_cost ≡ goal_cost t (node_in (all_states t) T u)) → Sound t T r.run
   unfolding table_words
   stop_sound some few long cost =
       record {
         few = omega (arith, room);
         fits = omega (arith, mul-le-mul_right (40 + all_states t) (room'));
         real = real_kept t s (run_in (all_states t) T r.run) (sym kept_is) (explored_real t nodes budget);
-        best_in = λ u q. let (l, g) = b.best_in u (sym best_is ∙ q) in (omega (arith, count_is), rw (← kept_is) at g);
-        best_cost = λ u q. cost u q ∙ ap (goal_cost t) (sym (nodes_in_at (all_states t) T r.run.count u (first_node t) (omega (arith, (b.best_in u (sym best_is ∙ q)).0, count_is))));
+        best_in = λ u q. let (l, g) = b.best_in u (sym best_is ∙ ap best_number q) in (omega (arith, count_is), rw (← kept_is) at g);
+        best_cost = λ u q. cost u q ∙ ap (goal_cost t) (sym (nodes_in_at (all_states t) T r.run.count u (first_node t) (omega (arith, (b.best_in u (sym best_is ∙ ap best_number q)).0, count_is))));
       }
     where
       b : Base t nodes s
@@ -126,36 +126,33 @@ module _ (t : Task) (T : List ℕ) (r : Run) (plan : List ℕ) where
   plan_is u = plan_kept t (held_in (all_states t) T r.count) held u refl
 
   -- with no best
-  pub finish_none : r.best ≡ 0 → unwritten (Unsolvable counted) plan [] ≡ at_best t held r.best plan []
+  pub finish_none : r.best ≡ None → unwritten (Unsolvable counted) plan [] ≡ at_best t held (best_number r.best) plan []
   finish_none e = rw (counted_is, e)
 
-  module _ (n : ℕ) (plan' : List ℕ) (some : 1 ≤ r.best)
-      (isLength : n ≡ length (plan_of t (held_in (all_states t) T r.count) (r.best - 1)))
-      (isPlan : plan' ≡ written (plan_of t (held_in (all_states t) T r.count) (r.best - 1)) plan) where
-    best_suc : r.best ≡ suc (r.best - 1)
-    best_suc = omega arith
-
+  module _ (u n : ℕ) (plan' : List ℕ) (some : r.best ≡ Some u)
+      (isLength : n ≡ length (plan_of t (held_in (all_states t) T r.count) u))
+      (isPlan : plan' ≡ written (plan_of t (held_in (all_states t) T r.count) u) plan) where
     -- what stands in the buffer
-    front : plan' ≡ written (plan_of t held (r.best - 1)) plan
-    front = isPlan ∙ ap (λ p. written p plan) (plan_is (r.best - 1))
+    front : plan' ≡ written (plan_of t held u) plan
+    front = isPlan ∙ ap (λ p. written p plan) (plan_is u)
 
     -- a plan that is too long
-    pub finish_long : length plan < n → unwritten (Refused PlanLong counted) plan' [] ≡ at_best t held r.best plan []
+    pub finish_long : length plan < n → unwritten (Refused PlanLong counted) plan' [] ≡ at_best t held (best_number r.best) plan []
     unfolding with_plan
     finish_long l =
-        let h : length plan < length (plan_of t held (r.best - 1)) = rw (isLength, plan_is (r.best - 1)) at l in
-        let e : leb (length (plan_of t held (r.best - 1))) (length plan) ≡ false = lt-leb _ _ h in
-        rw (counted_is, front ∙ written_not _ plan h) (sym (ap (λ b. at_best t held b plan []) best_suc ∙ rw (e, with_plan)))
+        let h : length plan < length (plan_of t held u) = rw (isLength, plan_is u) at l in
+        let e : leb (length (plan_of t held u)) (length plan) ≡ false = lt-leb _ _ h in
+        rw (counted_is, front ∙ written_not _ plan h) (sym (ap (λ b. at_best t held (best_number b) plan []) some ∙ rw (e, with_plan)))
 
     -- a plan that has space
-    pub finish_solved : n ≤ length plan → (c : ℕ) → c ≡ goal_cost t (node_at t held (r.best - 1))
-        → ◌≡◌ {A = Outcome} (record { answer = Solved (record { length = n; cost = c }) counted; plan = plan'; words = [] }) (at_best t held r.best plan [])
+    pub finish_solved : n ≤ length plan → (c : ℕ) → c ≡ goal_cost t (node_at t held u)
+        → ◌≡◌ {A = Outcome} (record { answer = Solved (record { length = n; cost = c }) counted; plan = plan'; words = [] }) (at_best t held (best_number r.best) plan [])
     unfolding with_plan
     finish_solved l c q =
-        let k : n ≡ length (plan_of t held (r.best - 1)) = isLength ∙ rw (plan_is (r.best - 1)) in
-        let h : length (plan_of t held (r.best - 1)) ≤ length plan = rw k at l in
-        let e : leb (length (plan_of t held (r.best - 1))) (length plan) ≡ true = le-leb _ _ h in
-        rw (counted_is, front ∙ written_fits _ plan h, q, k) (sym (ap (λ b. at_best t held b plan []) best_suc ∙ rw (e, with_plan)))
+        let k : n ≡ length (plan_of t held u) = isLength ∙ rw (plan_is u) in
+        let h : length (plan_of t held u) ≤ length plan = rw k at l in
+        let e : leb (length (plan_of t held u)) (length plan) ≡ true = le-leb _ _ h in
+        rw (counted_is, front ∙ written_fits _ plan h, q, k) (sym (ap (λ b. at_best t held (best_number b) plan []) some ∙ rw (e, with_plan)))
 
 -- ---- the answers of a search that has stopped
 
@@ -171,7 +168,7 @@ module _ (t : Task) (T : List ℕ) (x : Stop) (plan : List ℕ) where
       → unwritten (Refused BudgetSpent (record { expanded = x.run.begun; kept = x.run.count })) plan [] ≡ at_stop t (reason_of x.why) stopped plan []
   stop_spent e = rw (counted_is t T x.run plan, e)
 
-  pub stop_finished : x.why ≡ Finished → at_best t stopped x.run.best plan [] ≡ at_stop t (reason_of x.why) stopped plan []
+  pub stop_finished : x.why ≡ Finished → at_best t stopped (best_number x.run.best) plan [] ≡ at_stop t (reason_of x.why) stopped plan []
   stop_finished e = rw e
 
 -- ---- the words
