@@ -78,7 +78,7 @@ fn task_states(task: Task, nodes: u32) -> u64
     if nodes > 4096 {
         return 0;
     }
-    let bases = leaf_bases(task);
+    let bases = leaf_bases(&task);
     let leaves = task.leaves as usize;
     bases[leaves] as u64
 }

@@ -32,7 +32,7 @@ fn plan_task(task: Task, nodes: u32, budget: u32, plan: &mut [u8], table: &mut [
     if nodes > 4096 {
         return PlanAnswer::Refused(PlanRefusal::NodesWrong, none);
     }
-    let bases = leaf_bases(task);
+    let bases = leaf_bases(&task);
     let leaves = task.leaves as usize;
     let many = nodes as usize;
     if table.len() < (many + 1) * (40 + bases[leaves]) {
@@ -46,7 +46,7 @@ fn task_nodes(task: Task, words: usize) -> u32
     requires { Valid task }
     ensures { result ≡ fitting_nodes task words }
 {
-    let bases = leaf_bases(task);
+    let bases = leaf_bases(&task);
     let leaves = task.leaves as usize;
     let rows = words / (40 + bases[leaves]);
     if rows == 0 {

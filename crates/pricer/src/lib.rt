@@ -51,9 +51,9 @@ fn price_task(task: Task, path: &[u8], out: &mut [u64]) -> PriceAnswer
     requires { Valid task }
     ensures { ◌≡◌ {A = Outcome} (record { answer = result; words = out.new }) (task_prices task path.now out.old) }
 {
-    let kinds = action_kinds(task);
+    let kinds = action_kinds(&task);
     let actions = task.actions as usize;
-    let bases = leaf_bases(task);
+    let bases = leaf_bases(&task);
     let leaves = task.leaves as usize;
     let states = bases[leaves];
     let fits = path_fits(path, &kinds, actions);

@@ -70,15 +70,13 @@ fn bases_of(sizes: &[u8], factors: &[u8], variables: usize, leaves: usize) -> [u
 }
 
 // Where the states of each leaf begin, and behind the last leaf the count of all states. The entries behind that are left to the program.
-pub fn leaf_bases(task: Task) -> [usize; 9]
-    requires { Valid task }
-    ensures { Bases task result }
+pub fn leaf_bases(task: &Task) -> [usize; 9]
+    requires { Valid task.now }
+    ensures { Bases task.now result }
 {
-    let sizes = task.sizes;
-    let factors = task.factors;
     bases_of(
-        &sizes,
-        &factors,
+        &task.sizes,
+        &task.factors,
         task.variables as usize,
         task.leaves as usize,
     )
@@ -123,17 +121,14 @@ fn starts_of(
 }
 
 // The initial state of each leaf. The entries behind the last leaf's are left to the program.
-pub fn leaf_starts(task: Task) -> [usize; 8]
-    requires { Valid task }
-    ensures { Starts task result }
+pub fn leaf_starts(task: &Task) -> [usize; 8]
+    requires { Valid task.now }
+    ensures { Starts task.now result }
 {
-    let sizes = task.sizes;
-    let factors = task.factors;
-    let initial = task.initial;
     starts_of(
-        &sizes,
-        &factors,
-        &initial,
+        &task.sizes,
+        &task.factors,
+        &task.initial,
         task.variables as usize,
         task.leaves as usize,
     )
@@ -156,13 +151,11 @@ fn costs_of(handling: &[u16], distance: &[u16], actions: usize) -> [u16; 256]
 }
 
 // What each action costs. The entries behind the last action's are left to the program.
-pub fn action_costs(task: Task) -> [u16; 256]
-    requires { Valid task }
-    ensures { Costs task result }
+pub fn action_costs(task: &Task) -> [u16; 256]
+    requires { Valid task.now }
+    ensures { Costs task.now result }
 {
-    let handling = task.handling;
-    let distance = task.distance;
-    costs_of(&handling, &distance, task.actions as usize)
+    costs_of(&task.handling, &task.distance, task.actions as usize)
 }
 
 // ---- the leaf of each leaf action
@@ -217,19 +210,16 @@ fn kinds_of<'a>(
 }
 
 // The leaf of each leaf action, 0 for centre actions. The entries behind the last action's are left to the program.
-pub fn action_kinds(task: Task) -> [u8; 256]
-    requires { Valid task }
-    ensures { Kinds task result }
+pub fn action_kinds(task: &Task) -> [u8; 256]
+    requires { Valid task.now }
+    ensures { Kinds task.now result }
 {
-    let factors = task.factors;
-    let variables = task.variables as usize;
-    let leaves = task.leaves as usize;
     kinds_of(
-        &factors,
+        &task.factors,
         &task.conditions,
         &task.effects,
-        variables,
-        leaves,
+        task.variables as usize,
+        task.leaves as usize,
         task.actions as usize,
     )
 }
@@ -237,47 +227,46 @@ pub fn action_kinds(task: Task) -> [u8; 256]
 // ---- what each action makes of each leaf state
 
 // What each action makes of each leaf state: a row of as many entries as there are leaf states for each action.
-pub fn fill_moves(task: Task, bases: [usize; 9], moves: &mut [u16])
-    requires valid { Valid task }
-    requires bases { Bases task bases }
-    requires task_in_bounds { task.actions * all_states task ≤ length moves.old }
-    ensures moves { Moves task moves.new }
-    ensures same { Same 0 (task.actions * all_states task) moves.old moves.new }
+pub fn fill_moves(task: &Task, bases: [usize; 9], moves: &mut [u16])
+    requires valid { Valid task.now }
+    requires bases { Bases task.now bases }
+    requires task_in_bounds { task.now.actions * all_states task.now ≤ length moves.old }
+    ensures moves { Moves task.now moves.new }
+    ensures same { Same 0 (task.now.actions * all_states task.now) moves.old moves.new }
 {
-    let sizes = task.sizes;
-    let factors = task.factors;
-    let variables = task.variables as usize;
-    let leaves = task.leaves as usize;
-    let actions = task.actions as usize;
     fill_rows(
-        &sizes,
-        &factors,
+        &task.sizes,
+        &task.factors,
         &task.conditions,
         &task.effects,
         &bases,
-        variables,
-        leaves,
-        actions,
+        task.variables as usize,
+        task.leaves as usize,
+        task.actions as usize,
         moves,
     );
 }
 
 // Not 0 at each leaf state that meets the goal: what an action makes of it whose conditions are the goal's pairs, and that has no effects. Which number it
 // is there, and the entries behind the last leaf state's, are left to the program.
-pub fn leaf_goals(task: Task, bases: [usize; 9]) -> [u16; 1024]
-    requires valid { Valid task }
-    requires bases { Bases task bases }
-    ensures { Goals task result }
+pub fn leaf_goals(task: &Task, bases: [usize; 9]) -> [u16; 1024]
+    requires valid { Valid task.now }
+    requires bases { Bases task.now bases }
+    ensures { Goals task.now result }
 {
-    let sizes = task.sizes;
-    let factors = task.factors;
-    let goal = task.goal;
-    let variables = task.variables as usize;
-    let leaves = task.leaves as usize;
     let none = [FREE; 32];
     let mut goals = [0u16; 1024];
     fill_action(
-        &sizes, &factors, &goal, &none, &bases, variables, leaves, 0, 0, &mut goals,
+        &task.sizes,
+        &task.factors,
+        &task.goal,
+        &none,
+        &bases,
+        task.variables as usize,
+        task.leaves as usize,
+        0,
+        0,
+        &mut goals,
     );
     goals
 }

@@ -7,7 +7,7 @@ pub costs_of-requires : goal.costs_of-requires
 unfolding cost
 costs_of-requires c =
     let ok = c.requires in
-    let t = c.args.task in
+    let t = c.args.task.now in
     let handling : length t.handling ≡ 256 = search rules in
     let distance : length t.distance ≡ 256 = search rules in
     record { actions_in_bounds = omega (arith, ok.fields.few_actions); by_index = ok.fields.cost_bound }

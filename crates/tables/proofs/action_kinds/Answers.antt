@@ -6,7 +6,7 @@ use Rattle.tables.proofs.action_kinds.Goals as goal
 pub kinds_of-requires : goal.kinds_of-requires
 kinds_of-requires c =
     let ok = c.requires in
-    let t = c.args.task in
+    let t = c.args.task.now in
     let factors : length t.factors ≡ 32 = search rules in
     let conditions : length t.conditions ≡ 8192 = search rules in
     let effects : length t.effects ≡ 8192 = search rules in
@@ -14,7 +14,7 @@ kinds_of-requires c =
 
 pub returns : goal.returns
 returns c =
-    let t = c.args.task in
+    let t = c.args.task.now in
     record {
       long = c.kinds_of.ensures.0;
       leaf = λ i a l la. kind_is t c.requires a la i _ (c.kinds_of.ensures.1 a la);

@@ -8,23 +8,23 @@ use Rattle.tables.specs.Fit.{small_is}
 use Rattle.tables.proofs.fill_moves.Goals as goal
 use Rattle.tables.proofs.fill_moves.Goals.{Start}
 
-sizes_long : (s : Start) → length s.args.task.sizes ≡ 32
+sizes_long : (s : Start) → length s.args.task.now.sizes ≡ 32
 sizes_long s = search rules
 
-factors_long : (s : Start) → length s.args.task.factors ≡ 32
+factors_long : (s : Start) → length s.args.task.now.factors ≡ 32
 factors_long s = search rules
 
-conditions_long : (s : Start) → length s.args.task.conditions ≡ 8192
+conditions_long : (s : Start) → length s.args.task.now.conditions ≡ 8192
 conditions_long s = search rules
 
-effects_long : (s : Start) → length s.args.task.effects ≡ 8192
+effects_long : (s : Start) → length s.args.task.now.effects ≡ 8192
 effects_long s = search rules
 
 pub fill_rows-requires : goal.fill_rows-requires
 unfolding start_of base states all_states
 fill_rows-requires c =
     let ok = c.requires.valid in
-    let bases = c.requires.bases in record { variables_in_bounds = omega (arith, sizes_long (goal.at.fill_rows-requires c).Start, factors_long (goal.at.fill_rows-requires c).Start, bases.long, ok.fields.few_variables, ok.fields.few_leaves, ok.fields.few_actions); in_bounds = omega (arith, conditions_long (goal.at.fill_rows-requires c).Start, effects_long (goal.at.fill_rows-requires c).Start); leaves_in_bounds = c.requires.task_in_bounds; filled = λ i l. bases.is i (omega arith); by_index = small_is c.args.task ok }
+    let bases = c.requires.bases in record { variables_in_bounds = omega (arith, sizes_long (goal.at.fill_rows-requires c).Start, factors_long (goal.at.fill_rows-requires c).Start, bases.long, ok.fields.few_variables, ok.fields.few_leaves, ok.fields.few_actions); in_bounds = omega (arith, conditions_long (goal.at.fill_rows-requires c).Start, effects_long (goal.at.fill_rows-requires c).Start); leaves_in_bounds = c.requires.task_in_bounds; filled = λ i l. bases.is i (omega arith); by_index = small_is c.args.task.now ok }
 
 pub returns : goal.returns
 unfolding start_of base states all_states to meets_in number values_of to_with

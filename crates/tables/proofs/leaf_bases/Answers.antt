@@ -9,7 +9,7 @@ pub bases_of-requires : goal.bases_of-requires
 unfolding states
 bases_of-requires c =
     let ok = c.requires in
-    let t = c.args.task in
+    let t = c.args.task.now in
     let sizes : length t.sizes ≡ 32 = search rules in
     let factors : length t.factors ≡ 32 = search rules in
     record { variables_in_bounds = omega (arith, ok.fields.few_variables, ok.fields.few_leaves); by_index = ok.whole.few_states }

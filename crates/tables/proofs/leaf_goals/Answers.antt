@@ -8,20 +8,20 @@ use Rattle.tables.specs.Fit.{still_small, goals_are}
 use Rattle.tables.proofs.leaf_goals.Goals as goal
 use Rattle.tables.proofs.leaf_goals.Goals.{Start}
 
-sizes_long : (s : Start) → length s.args.task.sizes ≡ 32
+sizes_long : (s : Start) → length s.args.task.now.sizes ≡ 32
 sizes_long s = search rules
 
-factors_long : (s : Start) → length s.args.task.factors ≡ 32
+factors_long : (s : Start) → length s.args.task.now.factors ≡ 32
 factors_long s = search rules
 
-goal_long : (s : Start) → length s.args.task.goal ≡ 32
+goal_long : (s : Start) → length s.args.task.now.goal ≡ 32
 goal_long s = search rules
 
 pub fill_action-requires : goal.fill_action-requires
 unfolding start_of base states all_states
 fill_action-requires c =
     let ok = c.requires.valid in
-    let bases = c.requires.bases in record { variables_in_bounds = omega (arith, sizes_long (goal.at.fill_action-requires c).Start, factors_long (goal.at.fill_action-requires c).Start, bases.long, ok.fields.few_variables, ok.fields.few_leaves); variables_in_bounds_2 = omega (arith, goal_long (goal.at.fill_action-requires c).Start, ok.fields.few_variables); leaves_in_bounds = omega (arith, ok.whole.few_all_states); filled = λ i l. bases.is i (omega arith); by_index = still_small c.args.task ok }
+    let bases = c.requires.bases in record { variables_in_bounds = omega (arith, sizes_long (goal.at.fill_action-requires c).Start, factors_long (goal.at.fill_action-requires c).Start, bases.long, ok.fields.few_variables, ok.fields.few_leaves); variables_in_bounds_2 = omega (arith, goal_long (goal.at.fill_action-requires c).Start, ok.fields.few_variables); leaves_in_bounds = omega (arith, ok.whole.few_all_states); filled = λ i l. bases.is i (omega arith); by_index = still_small c.args.task.now ok }
 
 pub returns : goal.returns
-returns c = goals_are c.args.task _ (search rules) c.fill_action.ensures.row
+returns c = goals_are c.args.task.now _ (search rules) c.fill_action.ensures.row

@@ -7,7 +7,7 @@ pub starts_of-requires : goal.starts_of-requires
 unfolding states
 starts_of-requires c =
     let ok = c.requires in
-    let t = c.args.task in
+    let t = c.args.task.now in
     let sizes : length t.sizes ≡ 32 = search rules in
     let factors : length t.factors ≡ 32 = search rules in
     let initial : length t.initial ≡ 32 = search rules in
