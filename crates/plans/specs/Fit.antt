@@ -173,3 +173,11 @@ module _ (t : Task) (b : Board) (starts T : List ℕ) (count : ℕ) (g : Grounds
         let p : n.parent < count = omega (arith, parent_lower u h) in
         wayback.over_on_lem t b g.fits i n.action (prices_on b T i n.parent) z _ m (action_known u h) (prices_length n.parent p)
         ∙ rw (prices_on_lem (suc u) h, prices_on_lem n.parent p, node_on_lem (suc u) h)
+
+-- what can be read at a node by the tables of a task
+pub standing_in : (h : TaskTables) (T : List ℕ) (count : ℕ) → Valid h.task.now → Real h.task.now (held_in (all_states h.task.now) T count)
+    → count * (40 + all_states h.task.now) ≤ length T → (u : ℕ) → u < count → Standing (board_in h.board) h.starts.now T u
+standing_in h T count ok r long u l =
+    let b = board_in h.board in
+    let row : row_on b ≡ all_states h.task.now = row_on_lem h.task.now b h.fits in
+    standing_on h.task.now b h.starts.now T count (grounds_in h T count ok r) (omega (arith, h.board.sound.few_leaves, h.tabled.is_starts.long)) (rw row long) u l

@@ -32,7 +32,7 @@ use wayback::{PlanBuffer, first_depth, leaf_back, lowest_over};
 
 // ---- goal states
 
-// The lowest goal state of least price. Where there is no goal state, that is the mark, which every other state has there.
+// The lowest goal state of least price; a state that is no goal state counts as one with the mark.
 fn lowest_goal(prices: &[u64], goals: &[u16]) -> usize
     requires { length goals.now ≡ length prices.now }
     ensures { result ≡ lowest (length prices.now) (λ x.
@@ -42,11 +42,7 @@ fn lowest_goal(prices: &[u64], goals: &[u16]) -> usize
     goals
         .iter()
         .zip(prices)
-        .position(|(&goal, &price)| if goal == 0 {
-            least == MARK
-        } else {
-            price == least
-        })
+        .position(|(&goal, &price)| (if goal == 0 { MARK } else { price }) == least)
         .unwrap_or(prices.len())
 }
 
@@ -307,7 +303,7 @@ pub fn walk_back(
     requires real { Real tables.now.task.now (held_in (all_states tables.now.task.now) table.now count)
         × Priced tables.now.task.now (held_in (all_states tables.now.task.now) table.now count) node (λ i. get_or ends i 0) }
     requires node { (node < count) × (count ≤ 4096) × (count * (40 + all_states tables.now.task.now) ≤ length table.now) }
-    requires room { Roomy tables.now.task.now.leaves tables.now.task.now.actions tables.now.board.bases.now (length tight.old) × (total ≤ length plan.old) }
+    requires room { Roomy tables.now.board.leaves tables.now.board.actions tables.now.board.bases.now (length tight.old) × (total ≤ length plan.old) }
     requires edges { Edges (board_in tables.now.board) edges.now.list.now edges.now.ends.now }
     ensures walked { (result ≡ length (plan_back tables.now.task.now (held_in (all_states tables.now.task.now) table.now count) node node (λ i. get_or ends i 0)))
         × (plan.new ≡ laid total 0 (plan_back tables.now.task.now (held_in (all_states tables.now.task.now) table.now count) node node (λ i. get_or ends i 0)) plan.old)
@@ -343,7 +339,7 @@ fn write_with(
     requires real { Real tables.now.task.now (held_in (all_states tables.now.task.now) table.now count)
         × (is_goal tables.now.task.now (node_at tables.now.task.now (held_in (all_states tables.now.task.now) table.now count) node) ≡ true) }
     requires node { (node < count) × (count ≤ 4096) × (count * (40 + all_states tables.now.task.now) ≤ length table.now) }
-    requires room { Roomy tables.now.task.now.leaves tables.now.task.now.actions tables.now.board.bases.now (length tight.old) }
+    requires room { Roomy tables.now.board.leaves tables.now.board.actions tables.now.board.bases.now (length tight.old) }
     requires edges { Edges (board_in tables.now.board) edges.now.list.now edges.now.ends.now }
     ensures { (result ≡ length (plan_of tables.now.task.now (held_in (all_states tables.now.task.now) table.now count) node))
         × (plan.new ≡ written (plan_of tables.now.task.now (held_in (all_states tables.now.task.now) table.now count) node) plan.old) }

@@ -1,5 +1,6 @@
 -- The walk back in the words of what a program holds: a leaf's ways, and the buffer of a plan.
 use Rattle.std.specs.Prelude.{◌≡◌, List, ℕ, ◌+◌, length}
+use Rattle.std.proofs.Common.{◌∙◌}
 use Rattle.edges.specs.Edges.{edges_at}
 use Rattle.sweeps.specs.declared.held.LeafWays.{LeafWays}
 use Rattle.search.specs.Plan.{Back}
@@ -49,6 +50,9 @@ pub record KeptIn (before after : PlanBuffer) : Type 0 where
   pub same : after.plan.ghost_name ≡ before.plan.ghost_name
   pub total : after.total ≡ before.total
   pub long : length after.plan.now ≡ length before.plan.now
+
+pub kept_twice : {a b c : PlanBuffer} → KeptIn a b → KeptIn b c → KeptIn a c
+kept_twice k l = record { same = l.same ∙ k.same; total = l.total ∙ k.total; long = l.long ∙ k.long }
 
 -- a way back was walked to state y, and its actions written
 abbrev pub WalkedIn : Back → PlanBuffer → ℕ → PlanBuffer → Type 0

@@ -40,6 +40,11 @@ pub row_prices : (S : ℕ) (T : List ℕ) (u n : ℕ) → n ≡ S → take n (dr
 unfolding node_of
 row_prices S T u n e = rw e refl
 
+-- and its centre state is read from there
+pub spot_at : (S : ℕ) (T : List ℕ) (u : ℕ) {row : List ℕ} → row ≡ row_in S T u → spot_of row ≡ (node_in S T u).spot
+unfolding node_of
+spot_at S T u e = ap spot_of e
+
 -- ---- what a layer began with
 
 -- node 0: the mark at all states but the initial one
@@ -79,6 +84,15 @@ module _ (b : Board) (T : List ℕ) (i u : ℕ) (B acts P : List ℕ) (y : ℕ) 
       → Walked (table_back b.moves (row_on b) (base_on b i) b.costs acts (length acts) B P y) total p plan z q after
       → Walked (back_from b T i u B y) total p plan z q after
   walked_here total p plan z q after w = rw (these, prices) at w
+
+-- what the layer began with, as it is lent
+module _ (b : Board) (starts T : List ℕ) (i u : ℕ) (B : List ℕ) (y : ℕ) (begun : B ≡ begins_on b starts T i u) where
+  pub begun_walkable : WalkableOn b starts T i u y → WalkableFrom b T i u B y
+  begun_walkable w = rw begun w
+
+  pub begun_walked : (total p : ℕ) (plan : List ℕ) (z q : ℕ) (after : List ℕ)
+      → Walked (back_from b T i u B y) total p plan z q after → Walked (back_on b starts T i u y) total p plan z q after
+  begun_walked total p plan z q after w = rw begun at w
 
 -- ---- room to work in
 

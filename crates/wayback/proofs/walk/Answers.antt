@@ -4,6 +4,7 @@ use Rattle.wayback.specs.Steps.{entry_by, origin_by}
 use Rattle.wayback.specs.Sources.{Leads, source_taken}
 use Rattle.wayback.specs.Least.{Guided, place_row, place_entry}
 use Rattle.wayback.specs.Walked.{left_more, left_end}
+use Rattle.wayback.specs.Held.{kept_twice}
 use Rattle.wayback.proofs.walk.Goals as goal
 use Rattle.wayback.proofs.walk.Goals.{In-loop-k}
 
@@ -52,12 +53,7 @@ loop-k-preserved c =
       depth = rw (came t g) (led t g).depth;
       few = omega arith;
       room = omega (arith, c.put.ensures.place, l.invariant.room);
-      kept =
-          record {
-            same = c.put.ensures.kept.same ∙ l.invariant.kept.same;
-            total = c.put.ensures.kept.total ∙ l.invariant.kept.total;
-            long = c.put.ensures.kept.long ∙ l.invariant.kept.long;
-          };
+      kept = kept_twice l.invariant.kept c.put.ensures.kept;
       left = λ h.
           rw c.put.ensures.place
           (left_more _ _ _ _ _ o.total _ _ _ l.k l.y l.out.place _ _ l.out.plan.now c.put.new.self.plan.now (omega arith) (l.invariant.left h) (acted t h) (came t h)
