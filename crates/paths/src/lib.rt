@@ -1,28 +1,21 @@
 // Paths of centre actions: whether one fits a task, and the layers along it to the last.
 #![tactic(auto)]
 
-ghost use Rattle.std.specs.Prelude.{◌≡◌, ℕ, ◌<◌, ◌≤◌, length, get_or, take, replicate};
+ghost use Rattle.std.specs.Prelude.{◌≡◌, ℕ, ◌<◌, ◌≤◌, false, length, get_or, take, replicate, IfSome, IfNone};
 ghost use Rattle.task.specs.Factors.{all_states};
 ghost use Rattle.task.specs.Valid.{Valid};
 ghost use Rattle.leaf.specs.Price.{mark};
-ghost use Rattle.layer.specs.Board.{Sound};
-ghost use Rattle.layer.specs.Lent.{board_of};
-ghost use Rattle.tables.specs.Tables.{Bases, Kinds, Tabled};
+ghost use Rattle.layer.specs.Board.{applies_on};
+ghost use Rattle.layer.specs.Held.{board_in};
+ghost use Rattle.tables.specs.Tables.{Bases, Kinds};
 ghost use Rattle.price.specs.Path.{first_layer, walk};
 ghost use Rattle.paths.specs.Paths.{walked, fits_by, Stepped};
 
-use layer::{applies, first_layer, next_layer, pairs_of};
+use layer::{Board, applies, first_layer, next_layer, pairs_of};
 use leaf::MARK;
-use tables::{action_costs, fill_moves, leaf_starts};
+use tables::{TaskTables, action_costs, fill_moves, leaf_starts};
 use task::{Centre, Task};
 use words::copy_words;
-
-// Where a path ends: whether all its actions applied, and the last centre state.
-#[derive(Clone, Copy)]
-pub struct Walked {
-    pub ends: bool,
-    pub spot: Centre,
-}
 
 // Whether the path is short enough and each entry is a centre action.
 pub fn path_fits(path: &[u8], kinds: &[u8], actions: usize) -> bool
@@ -32,8 +25,8 @@ pub fn path_fits(path: &[u8], kinds: &[u8], actions: usize) -> bool
     if path.len() > 4095 {
         return false;
     }
-    for k in 0..path.len() {
-        let a = path[k] as usize;
+    for &entry in path {
+        let a = entry as usize;
         if a >= actions {
             return false;
         }
@@ -44,104 +37,46 @@ pub fn path_fits(path: &[u8], kinds: &[u8], actions: usize) -> bool
     true
 }
 
-// One centre action of the walk: whether it applies, and where it does the centre state behind it, with the prices behind it at the front of `layer`.
+// One centre action of the walk. Where it applies: the centre state behind it, with the prices behind it at the front of `layer`.
 fn advance(
-    leaves: usize,
-    actions: usize,
-    bases: &[usize],
-    moves: &[u16],
-    costs: &[u16],
-    kinds: &[u8],
-    factors: [u8; 32],
-    conditions: &[u8],
+    board: &Board<'_>,
     effects: &[u8],
     spot: Centre,
     action: usize,
     layer: &mut [u64],
-) -> Walked
-    requires { Sound (board_of leaves actions bases.now moves.now costs.now kinds.now factors conditions.now)
-        × (action < actions) × (length effects.now ≡ 8192) × (length layer.old ≡ 1024) }
-    ensures { Stepped
-        (board_of leaves actions bases.now moves.now costs.now kinds.now factors conditions.now)
-        effects.now spot action layer.old result layer.new }
+) -> Option<Centre>
+    requires action { action < board.now.actions }
+    requires long { (length effects.now ≡ 8192) × (length layer.old ≡ 1024) }
+    ensures none { IfNone result (applies_on (board_in board.now) spot layer.old action ≡ false) }
+    ensures some { IfSome result (λ behind. Stepped (board_in board.now) effects.now spot action layer.old behind layer.new) }
 {
-    if !applies(
-        leaves, actions, bases, moves, costs, kinds, factors, conditions, spot, layer, action,
-    ) {
-        return Walked { ends: false, spot };
+    if !applies(board, spot, layer, action) {
+        return None;
     }
     let mut next = [MARK; 1024];
-    let behind = spot.after(factors, pairs_of(effects, action));
-    next_layer(
-        leaves, actions, bases, moves, costs, kinds, factors, conditions, behind, action, layer,
-        &mut next,
-    );
-    let states = bases[leaves];
+    let behind = spot.after(board.factors, pairs_of(effects, action));
+    next_layer(board, behind, action, layer, &mut next);
+    let states = board.states();
     copy_words(&next, layer, states);
-    Walked {
-        ends: true,
-        spot: behind,
-    }
+    Some(behind)
 }
 
-// The layers along the path: where it ends, with the last layer's prices at the front of `layer`, where every state starts as unreachable.
-fn walk_path(
-    task: Task,
-    bases: &[usize],
-    moves: &[u16],
-    costs: &[u16],
-    kinds: &[u8],
-    starts: &[usize],
-    path: &[u8],
-    layer: &mut [u64],
-) -> Walked
-    requires valid { Valid task }
-    requires tabled { Tabled task bases.now moves.now costs.now kinds.now starts.now }
-    requires by_index { (k : ℕ) → k < length path.now → get_or path.now k 0 < task.actions }
+// The layers along the path. Where all its actions apply: the last centre state, with the last layer's prices at the front of `layer`. Every state of
+// `layer` is lent as unreachable.
+fn walk_path(tables: &TaskTables<'_>, path: &[u8], layer: &mut [u64]) -> Option<Centre>
+    requires valid { Valid tables.now.task.now }
+    requires by_index { (k : ℕ) → k < length path.now → get_or path.now k 0 < tables.now.task.now.actions }
     requires layer_value { layer.old ≡ replicate 1024 mark }
-    ensures { walked result (take (all_states task) layer.new) ≡ walk task (first_layer task) path.now }
+    ensures { walked result (take (all_states tables.now.task.now) layer.new) ≡ walk tables.now.task.now (first_layer tables.now.task.now) path.now }
 {
-    let leaves = task.leaves as usize;
-    let actions = task.actions as usize;
-    let factors = task.factors;
-    let initial = task.initial;
-    let conditions = task.conditions;
-    let effects = task.effects;
-    let mut spot = Centre::default().after(factors, initial);
-    first_layer(
-        leaves,
-        actions,
-        bases,
-        moves,
-        costs,
-        kinds,
-        factors,
-        &conditions,
-        spot,
-        starts,
-        layer,
-    );
-    for k in 0..path.len() {
-        let turn = advance(
-            leaves,
-            actions,
-            bases,
-            moves,
-            costs,
-            kinds,
-            factors,
-            &conditions,
-            &effects,
-            spot,
-            path[k] as usize,
-            layer,
-        );
-        if !turn.ends {
-            return turn;
-        }
-        spot = turn.spot;
+    let task = tables.task;
+    let board = &tables.board;
+    let mut spot = Centre::default().after(task.factors, task.initial);
+    first_layer(board, spot, tables.starts, layer);
+    for &action in path {
+        spot = advance(board, &task.effects, spot, action as usize, layer)?;
     }
-    Walked { ends: true, spot }
+    Some(spot)
 }
 
 // The walk, by tables that are made here; `layer` is lent with every state as unreachable.
@@ -151,7 +86,7 @@ pub fn walk_task(
     bases: [usize; 9],
     path: &[u8],
     layer: &mut [u64],
-) -> Walked
+) -> Option<Centre>
     requires valid { Valid task }
     requires kinds { Kinds task kinds × Bases task bases }
     requires by_index { (k : ℕ) → k < length path.now → get_or path.now k 0 < task.actions }
@@ -162,5 +97,6 @@ pub fn walk_task(
     fill_moves(&task, bases, &mut moves);
     let costs = action_costs(&task);
     let starts = leaf_starts(&task);
-    walk_path(task, &bases, &moves, &costs, &kinds, &starts, path, layer)
+    let tables = TaskTables::new(&task, &bases, &moves, &costs, &kinds, &starts);
+    walk_path(&tables, path, layer)
 }

@@ -5,68 +5,49 @@
 ghost use Rattle.std.specs.Prelude.{◌≡◌, [], ◌*◌, ◌≤◌, length};
 ghost use Rattle.task.specs.Factors.{all_states};
 ghost use Rattle.task.specs.Valid.{Valid};
-ghost use Rattle.layer.specs.Lent.{board_of};
+ghost use Rattle.layer.specs.Held.{board_in};
 ghost use Rattle.edges.specs.Edges.{Edges};
-ghost use Rattle.tables.specs.Tables.{Bases, Moves, Costs, Kinds, Tabled, Goals};
+ghost use Rattle.tables.specs.Tables.{Bases, Goals};
 ghost use Rattle.search.specs.Explore.{explored};
+ghost use Rattle.offers.specs.Held.{best_number};
 ghost use Rattle.explore.specs.Held.{reason_of};
 ghost use Rattle.solve.specs.Solve.{Outcome, at_best, at_stop, table_words, searched};
 ghost use Rattle.solve.specs.Solve.Stops.{run_in, Sound};
 
 use answers::{Counts, PlanAnswer, PlanRefusal, Solution};
-use edges::fill_edges;
+use blocks::SCAN_WORDS;
+use edges::{EdgeTable, fill_edges};
 use explore::{Stop, Why, explore};
 use offers::Run;
 use plans::write_plan;
-use tables::{action_costs, action_kinds, fill_moves, leaf_goals, leaf_starts};
+use tables::{TaskTables, action_costs, action_kinds, fill_moves, leaf_goals, leaf_starts};
 use task::Task;
 use words::zero_words;
 
 // The answer of a search that has finished: the plan of best's node, at the front of `plan`; or that it is too long; or that there is none.
 fn finish(
-    task: Task,
-    bases: &[usize],
-    moves: &[u16],
-    costs: &[u16],
-    kinds: &[u8],
-    starts: &[usize],
+    tables: &TaskTables<'_>,
     goals: &[u16],
     table: &[u64],
     run: Run,
     plan: &mut [u8],
-    edges: &[u8],
-    ends: &[usize],
+    edges: &EdgeTable<'_>,
 ) -> PlanAnswer
-    requires valid { Valid task }
-    requires tabled { Tabled task bases.now moves.now costs.now kinds.now starts.now × Goals task goals.now }
-    requires sound { Sound task table.now run × Edges (board_of task.leaves task.actions bases.now moves.now costs.now kinds.now task.factors task.conditions)
-        edges.now ends.now }
+    requires valid { Valid tables.now.task.now }
+    requires goals { Goals tables.now.task.now goals.now }
+    requires sound { Sound tables.now.task.now table.now run }
+    requires edges { Edges (board_in tables.now.board) edges.now.list.now edges.now.ends.now }
     ensures { ◌≡◌ {A = Outcome} (record { answer = result; plan = plan.new; words = [] })
-        (at_best task (run_in (all_states task) table.now run) run.best plan.old []) }
+        (at_best tables.now.task.now (run_in (all_states tables.now.task.now) table.now run) (best_number run.best) plan.old []) }
 {
     let counts = Counts {
         expanded: run.begun,
         kept: run.count,
     };
-    let best = run.best;
-    if best == 0 {
+    let Some(best) = run.best else {
         return PlanAnswer::Unsolvable(counts);
-    }
-    let length = write_plan(
-        task,
-        bases,
-        moves,
-        costs,
-        kinds,
-        starts,
-        goals,
-        table,
-        run.count,
-        best - 1,
-        plan,
-        edges,
-        ends,
-    );
+    };
+    let length = write_plan(tables, goals, table, run.count, best, plan, edges);
     if length > plan.len() {
         return PlanAnswer::Refused(PlanRefusal::PlanLong, counts);
     }
@@ -81,72 +62,30 @@ fn finish(
 
 // The answer of a search that has stopped.
 fn answer_of(
-    task: Task,
-    bases: &[usize],
-    moves: &[u16],
-    costs: &[u16],
-    kinds: &[u8],
-    starts: &[usize],
+    tables: &TaskTables<'_>,
     goals: &[u16],
     table: &[u64],
     stop: Stop,
     plan: &mut [u8],
-    edges: &[u8],
-    ends: &[usize],
+    edges: &EdgeTable<'_>,
 ) -> PlanAnswer
-    requires valid { Valid task }
-    requires tabled { Tabled task bases.now moves.now costs.now kinds.now starts.now × Goals task goals.now }
-    requires sound { Sound task table.now stop.run × Edges (board_of task.leaves task.actions bases.now moves.now costs.now kinds.now task.factors task.conditions)
-        edges.now ends.now }
+    requires valid { Valid tables.now.task.now }
+    requires goals { Goals tables.now.task.now goals.now }
+    requires sound { Sound tables.now.task.now table.now stop.run }
+    requires edges { Edges (board_in tables.now.board) edges.now.list.now edges.now.ends.now }
     ensures { ◌≡◌ {A = Outcome} (record { answer = result; plan = plan.new; words = [] })
-        (at_stop task (reason_of stop.why) (run_in (all_states task) table.now stop.run) plan.old []) }
+        (at_stop tables.now.task.now (reason_of stop.why) (run_in (all_states tables.now.task.now) table.now stop.run) plan.old []) }
 {
     let run = stop.run;
     let counts = Counts {
         expanded: run.begun,
         kept: run.count,
     };
-    let why = stop.why;
-    match why {
+    match stop.why {
         Why::TableFull => PlanAnswer::Refused(PlanRefusal::TableFull, counts),
         Why::BudgetSpent => PlanAnswer::Refused(PlanRefusal::BudgetSpent, counts),
-        Why::Finished => finish(
-            task, bases, moves, costs, kinds, starts, goals, table, run, plan, edges, ends,
-        ),
+        Why::Finished => finish(tables, goals, table, run, plan, edges),
     }
-}
-
-// The table of the edges of all leaf states, by the other tables of the task.
-fn task_edges(
-    task: Task,
-    bases: &[usize],
-    moves: &[u16],
-    costs: &[u16],
-    kinds: &[u8],
-    edges: &mut [u8],
-    ends: &mut [usize],
-)
-    requires valid { Valid task }
-    requires bases { Bases task bases.now × Moves task moves.now × Costs task costs.now × Kinds task kinds.now }
-    requires task_in_bounds { (task.actions * all_states task ≤ length moves.now) × (task.actions * all_states task ≤ length edges.old) × (1025 ≤ length ends.old) }
-    ensures { Edges (board_of task.leaves task.actions bases.now moves.now costs.now kinds.now
-        task.factors task.conditions) edges.new ends.new }
-{
-    let leaves = task.leaves as usize;
-    let actions = task.actions as usize;
-    let factors = task.factors;
-    fill_edges(
-        leaves,
-        actions,
-        bases,
-        moves,
-        costs,
-        kinds,
-        factors,
-        &task.conditions,
-        edges,
-        ends,
-    );
 }
 
 // The tables of the task, the search, and its answer; `moves` is lent for what each action makes of each leaf state, `edges` for the leaf actions
@@ -172,16 +111,16 @@ fn search_with(
     let kinds = action_kinds(&task);
     let starts = leaf_starts(&task);
     let goals = leaf_goals(&task, bases);
-    let mut ends: [usize; 1025] = [0; 1025];
-    task_edges(task, &bases, moves, &costs, &kinds, edges, &mut ends);
-    let mut scan = [0u64; 17696];
-    let stop = explore(
-        task, &bases, moves, &costs, &kinds, &starts, &goals, nodes, budget, edges, &ends, table,
-        &mut scan,
-    );
-    answer_of(
-        task, &bases, moves, &costs, &kinds, &starts, &goals, table, stop, plan, edges, &ends,
-    )
+    let tables = TaskTables::new(&task, &bases, moves, &costs, &kinds, &starts);
+    let mut ends = [0usize; 1025];
+    fill_edges(&tables.board, edges, &mut ends);
+    let leads = EdgeTable {
+        list: edges,
+        ends: &ends,
+    };
+    let mut scan = [0u64; SCAN_WORDS];
+    let stop = explore(&tables, &goals, nodes, budget, &leads, table, &mut scan);
+    answer_of(&tables, &goals, table, stop, plan, &leads)
 }
 
 // The search with room for the moves: less of it to fill where the task has few.
