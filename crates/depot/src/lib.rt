@@ -66,9 +66,9 @@ pub fn depot_prices(record: &[u8], path: &[u8], prices: &mut [u64]) -> u32
 }
 
 // S, the states of all leaves together, of a task that the reader accepted; 0 where the number of nodes is refused.
-fn task_states(task: Task, nodes: u32) -> u64
-    requires { Valid task }
-    ensures { result ≡ for_nodes (λ s. s) (all_states task) nodes }
+fn task_states(task: &Task, nodes: u32) -> u64
+    requires { Valid task.now }
+    ensures { result ≡ for_nodes (λ s. s) (all_states task.now) nodes }
 {
     if nodes == 0 {
         return 0;
@@ -76,7 +76,7 @@ fn task_states(task: Task, nodes: u32) -> u64
     if nodes > 4096 {
         return 0;
     }
-    let bases = leaf_bases(&task);
+    let bases = leaf_bases(task);
     let leaves = task.leaves as usize;
     bases[leaves] as u64
 }
@@ -86,7 +86,7 @@ fn states_for(record: &[u8], nodes: u32) -> u64
     ensures { result ≡ for_record (λ s. s) «record».now nodes }
 {
     match read_record(record) {
-        Ok(task) => task_states(task, nodes),
+        Ok(task) => task_states(&task, nodes),
         Err(_) => 0,
     }
 }

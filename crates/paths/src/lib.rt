@@ -81,22 +81,22 @@ fn walk_path(tables: &TaskTables<'_>, path: &[u8], layer: &mut [u64]) -> Option<
 
 // The walk, by tables that are made here; `layer` is lent with every state as unreachable.
 pub fn walk_task(
-    task: Task,
+    task: &Task,
     kinds: [u8; 256],
     bases: [usize; 9],
     path: &[u8],
     layer: &mut [u64],
 ) -> Option<Centre>
-    requires valid { Valid task }
-    requires kinds { Kinds task kinds × Bases task bases }
-    requires by_index { (k : ℕ) → k < length path.now → get_or path.now k 0 < task.actions }
+    requires valid { Valid task.now }
+    requires kinds { Kinds task.now kinds × Bases task.now bases }
+    requires by_index { (k : ℕ) → k < length path.now → get_or path.now k 0 < task.now.actions }
     requires layer_value { layer.old ≡ replicate 1024 mark }
-    ensures { walked result (take (all_states task) layer.new) ≡ walk task (first_layer task) path.now }
+    ensures { walked result (take (all_states task.now) layer.new) ≡ walk task.now (first_layer task.now) path.now }
 {
     let mut moves = [0u16; 261120];
     fill_moves(task, bases, &mut moves);
     let costs = action_costs(task);
     let starts = leaf_starts(task);
-    let tables = TaskTables::new(&task, &bases, &moves, &costs, &kinds, &starts);
+    let tables = TaskTables::new(task, &bases, &moves, &costs, &kinds, &starts);
     walk_path(&tables, path, layer)
 }

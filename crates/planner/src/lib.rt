@@ -16,10 +16,10 @@ use tables::leaf_bases;
 use task::Task;
 
 // The answer for a task that the reader accepted: 20, 21, then the search.
-fn plan_task(task: Task, nodes: u32, budget: u32, plan: &mut [u8], table: &mut [u64]) -> PlanAnswer
-    requires { Valid task }
+fn plan_task(task: &Task, nodes: u32, budget: u32, plan: &mut [u8], table: &mut [u64]) -> PlanAnswer
+    requires { Valid task.now }
     ensures { ◌≡◌ {A = Outcome} (record { answer = result; plan = plan.new; words = table.new })
-        (task_plan task nodes budget plan.old table.old) }
+        (task_plan task.now nodes budget plan.old table.old) }
 {
     let none = Counts {
         expanded: 0,
@@ -31,7 +31,7 @@ fn plan_task(task: Task, nodes: u32, budget: u32, plan: &mut [u8], table: &mut [
     if nodes > 4096 {
         return PlanAnswer::Refused(PlanRefusal::NodesWrong, none);
     }
-    let bases = leaf_bases(&task);
+    let bases = leaf_bases(task);
     let leaves = task.leaves as usize;
     let many = nodes as usize;
     if table.len() < (many + 1) * (40 + bases[leaves]) {
@@ -41,11 +41,11 @@ fn plan_task(task: Task, nodes: u32, budget: u32, plan: &mut [u8], table: &mut [
 }
 
 // As many nodes as fit into a table of so many words, 4,096 at most.
-fn task_nodes(task: Task, words: usize) -> u32
-    requires { Valid task }
-    ensures { result ≡ fitting_nodes task words }
+fn task_nodes(task: &Task, words: usize) -> u32
+    requires { Valid task.now }
+    ensures { result ≡ fitting_nodes task.now words }
 {
-    let bases = leaf_bases(&task);
+    let bases = leaf_bases(task);
     let leaves = task.leaves as usize;
     let rows = words / (40 + bases[leaves]);
     if rows == 0 {
@@ -76,7 +76,7 @@ pub fn plan(
     ensures zeroed { Zeroed (table_words (read_record «record».now).task nodes) table.old table.new (plan_told result) }
 {
     match read_record(record) {
-        Ok(task) => plan_task(task, nodes, budget, plan, table),
+        Ok(task) => plan_task(&task, nodes, budget, plan, table),
         Err(why) => PlanAnswer::Refused(
             PlanRefusal::from(why),
             Counts {
@@ -92,7 +92,7 @@ pub fn fitting_nodes(record: &[u8], words: usize) -> u32
     ensures { result ≡ record_nodes «record».now words }
 {
     match read_record(record) {
-        Ok(task) => task_nodes(task, words),
+        Ok(task) => task_nodes(&task, words),
         Err(_) => 0,
     }
 }

@@ -23,16 +23,16 @@ use words::copy_words;
 
 // The prices of a task that the reader accepted, on a path that fits and a slice that is long enough.
 fn price_path(
-    task: Task,
+    task: &Task,
     kinds: [u8; 256],
     bases: [usize; 9],
     path: &[u8],
     out: &mut [u64],
 ) -> Result<usize, PriceRefusal>
-    requires valid { Valid task }
-    requires kinds { Kinds task kinds × Bases task bases }
-    requires by_index { ((k : ℕ) → k < length path.now → get_or path.now k 0 < task.actions) × (all_states task ≤ length out.old) }
-    ensures { ◌≡◌ {A = Outcome} (record { answer = result; words = out.new }) (at_end task out.old (walk task (first_layer task) path.now)) }
+    requires valid { Valid task.now }
+    requires kinds { Kinds task.now kinds × Bases task.now bases }
+    requires by_index { ((k : ℕ) → k < length path.now → get_or path.now k 0 < task.now.actions) × (all_states task.now ≤ length out.old) }
+    ensures { ◌≡◌ {A = Outcome} (record { answer = result; words = out.new }) (at_end task.now out.old (walk task.now (first_layer task.now) path.now)) }
 {
     let mut layer = [MARK; 1024];
     walk_task(task, kinds, bases, path, &mut layer).ok_or(PriceRefusal::NotApplicable)?;
@@ -43,13 +43,13 @@ fn price_path(
 }
 
 // The prices of a task that the reader accepted: 12, 21, 13.
-fn price_task(task: Task, path: &[u8], out: &mut [u64]) -> Result<usize, PriceRefusal>
-    requires { Valid task }
-    ensures { ◌≡◌ {A = Outcome} (record { answer = result; words = out.new }) (task_prices task path.now out.old) }
+fn price_task(task: &Task, path: &[u8], out: &mut [u64]) -> Result<usize, PriceRefusal>
+    requires { Valid task.now }
+    ensures { ◌≡◌ {A = Outcome} (record { answer = result; words = out.new }) (task_prices task.now path.now out.old) }
 {
-    let kinds = action_kinds(&task);
+    let kinds = action_kinds(task);
     let actions = task.actions as usize;
-    let bases = leaf_bases(&task);
+    let bases = leaf_bases(task);
     let leaves = task.leaves as usize;
     let states = bases[leaves];
     let fits = path_fits(path, &kinds, actions);
@@ -73,5 +73,5 @@ pub fn prices(record: &[u8], path: &[u8], out: &mut [u64]) -> Result<usize, Pric
     ensures count { (price_told result).number ≡ 0 → (price_told result).count ≡ all_states (read_record «record».now).task }
 {
     let task = read_record(record)?;
-    price_task(task, path, out)
+    price_task(&task, path, out)
 }

@@ -29,7 +29,7 @@ returns-in_err-going-clause-grown c =
     let p = err_from_is_err_and c.from_residual.result c.from_residual.ensures.1 in
     rw (p.1, p.2)
     (passed_full _ _ _ _ _ _ _ _ _ _ n.spot n.paid n.prices.now c.requires.has c.requires.inside l.table l.scan l.going
-    _ (useful.listed.inside l.a-index c.loop-a-test.true) reached c.turn.new.table c.turn.new.scan (Err c.in_err-going.field-0) c.in_err-going.ensures.moved refl).0
+    _ (useful.listed.inside l.a-index c.loop-a-test.true) reached c.turn.new.table c.turn.new.scan (Err c.in_err-going.field-0.0) c.in_err-going.ensures.moved refl).0
 
 pub returns-in_err-going-clause-expanded : goal.returns-in_err-going-clause-expanded
 returns-in_err-going-clause-expanded c =
@@ -42,7 +42,7 @@ returns-in_err-going-clause-expanded c =
     let p = err_from_is_err_and c.from_residual.result c.from_residual.ensures.1 in
     rw (p.1, p.2)
     (passed_full _ _ _ _ _ _ _ _ _ _ n.spot n.paid n.prices.now c.requires.has c.requires.inside l.table l.scan l.going
-    _ (useful.listed.inside l.a-index c.loop-a-test.true) reached c.turn.new.table c.turn.new.scan (Err c.in_err-going.field-0) c.in_err-going.ensures.moved refl).1
+    _ (useful.listed.inside l.a-index c.loop-a-test.true) reached c.turn.new.table c.turn.new.scan (Err c.in_err-going.field-0.0) c.in_err-going.ensures.moved refl).1
 
 pub loop-a-preserved : goal.loop-a-preserved
 loop-a-preserved c =
@@ -52,10 +52,11 @@ loop-a-preserved c =
     let reached =
     passed_next _ _ _ _ _ _ _ _ _ _ n.spot n.paid n.prices.now c.requires.has c.requires.inside l.table l.scan l.going
     c.args.mets.now useful l.a-index c.loop-a-test.true l.invariant.0 in
+    let long : length c.turn.new.scan ≡ 17696 = search rules in
     let passed =
     passed_more _ _ _ _ _ _ _ _ _ _ n.spot n.paid n.prices.now c.requires.has c.requires.inside l.table l.scan l.going
-    _ (useful.listed.inside l.a-index c.loop-a-test.true) reached c.turn.new.table c.turn.new.scan (Ok c.in_ok-going.field-0) c.in_ok-going.ensures.moved
-    refl c.turn.auto.table c.turn.auto.scan in
+    _ (useful.listed.inside l.a-index c.loop-a-test.true) reached c.turn.new.table c.turn.new.scan (Ok c.in_ok-going.going) c.in_ok-going.ensures.moved
+    refl c.turn.auto.table long in
     (rw (past_more (λ i. get_or c.args.mets.now i 0) l.a-index) passed, c.in_ok-going.ensures.known)
 
 pub returns-clause-expanded : goal.returns-clause-expanded

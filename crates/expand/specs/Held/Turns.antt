@@ -336,7 +336,6 @@ module _ (b : Board) (effects goals goalPairs : List ℕ) (nodes u opens : ℕ) 
     pub inside : a ≤ b.actions
     pub room : Room (row_on b) nodes T O r
     pub table_kept : length T ≡ length T₀
-    pub scan_kept : length O ≡ length O₀
     pub more : r₀.count ≤ r.count
     pub begun_is : r.begun ≡ r₀.begun
     pub along : Along T O r a
@@ -348,7 +347,6 @@ module _ (b : Board) (effects goals goalPairs : List ℕ) (nodes u opens : ℕ) 
         inside = omega arith;
         room = room;
         table_kept = refl;
-        scan_kept = refl;
         more = omega arith;
         begun_is = refl;
         along = λ t suits v held is_key sprung.
@@ -411,7 +409,7 @@ module _ (b : Board) (effects goals goalPairs : List ℕ) (nodes u opens : ℕ) 
       )
 
     -- a turn more
-    pub passed_more : is_err w ≡ false → length T' ≡ length T → length O' ≡ length O → Passed T' O' (run_of w) (a + 1)
+    pub passed_more : is_err w ≡ false → length T' ≡ length T → length O' ≡ 17696 → Passed T' O' (run_of w) (a + 1)
     passed_more e p q =
         record {
           inside = omega arith;
@@ -420,12 +418,11 @@ module _ (b : Board) (effects goals goalPairs : List ℕ) (nodes u opens : ℕ) 
                 few_states = l.room.few_states;
                 few_nodes = l.room.few_nodes;
                 table_long = omega (arith, l.room.table_long);
-                scan_long = q ∙ l.room.scan_long;
+                scan_long = q;
                 count_few = m.went.room;
                 chained = m.went.chained l.room.chained;
               };
           table_kept = p ∙ l.table_kept;
-          scan_kept = q ∙ l.scan_kept;
           more = omega (arith, l.more, m.went.more);
           begun_is = m.went.begun_is ∙ l.begun_is;
           along = λ t suits v held is_key sprung. behind t suits v held is_key sprung e;
@@ -443,7 +440,7 @@ module _ (b : Board) (effects goals goalPairs : List ℕ) (nodes u opens : ℕ) 
   module _ (spot : Centre) (paid : ℕ) (old : List ℕ) (has : Has (node_in (row_on b) T₀ u) spot paid (take (row_on b) old)) (within : u < r₀.count)
       (T O : List ℕ) (r : Run) where
     passed_unmet : (a : ℕ) → a < b.actions → met_on b spot a ≡ false → Passed T O r a → Passed T O r (a + 1)
-    passed_unmet a known e l = passed_more spot paid old has within T O r a known l T O (Ok r) (moved (ℕ_discrete (get_or b.kinds a 0) 0)) refl refl refl
+    passed_unmet a known e l = passed_more spot paid old has within T O r a known l T O (Ok r) (moved (ℕ_discrete (get_or b.kinds a 0) 0)) refl refl l.room.scan_long
       where
         few : nodes ≤ 4096
         few = l.room.few_nodes
@@ -462,7 +459,6 @@ module _ (b : Board) (effects goals goalPairs : List ℕ) (nodes u opens : ℕ) 
           inside = omega arith;
           room = l.room;
           table_kept = l.table_kept;
-          scan_kept = l.scan_kept;
           more = l.more;
           begun_is = l.begun_is;
           along = λ t suits v held is_key sprung.

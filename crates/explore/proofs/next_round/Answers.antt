@@ -41,7 +41,7 @@ returns-in_err-expand-clause-rounded c =
     let p = err_from_is_err_and c.from_residual.result c.from_residual.ensures.1 in
     λ t f h. rw (p.1, p.2)
     (ahead_full t f.valid a.search.now.nodes room.few_nodes a.budget (all_states t) a.table.now a.scan.now a.run h u picked long left P keyed
-    (Err c.in_err-expand.field-0) c.expand.new.table c.expand.new.scan (c.in_err-expand.ensures.expanded t f) refl)
+    (Err c.in_err-expand.field-0.0) c.expand.new.table c.expand.new.scan (c.in_err-expand.ensures.expanded t f) refl)
 
 pub returns-clause-rounded : goal.returns-clause-rounded
 returns-clause-rounded c =

@@ -16,23 +16,23 @@ few : (c : After-leaf_bases-bases) → c.args.nodes ≤ 4096
 few c = omega arith
 
 -- the words that the nodes need
-words : (c : After-leaf_bases-bases) → (c.args.nodes + 1) * (40 + get_or c.leaf_bases-bases.result c.args.task.leaves 0) ≡ table_words c.args.task c.args.nodes
-words c = let c = c in words_is c.args.task c.leaf_bases-bases.result c.leaf_bases-bases.ensures c.args.nodes
+words : (c : After-leaf_bases-bases) → (c.args.nodes + 1) * (40 + get_or c.leaf_bases-bases.result c.args.task.now.leaves 0) ≡ table_words c.args.task.now c.args.nodes
+words c = let c = c in words_is c.args.task.now c.leaf_bases-bases.result c.leaf_bases-bases.ensures c.args.nodes
 
-small : (c : After-leaf_bases-bases) → table_words c.args.task c.args.nodes ≤ 4359208
-small c = let c = c in words_few c.args.task c.requires c.args.nodes (few c)
+small : (c : After-leaf_bases-bases) → table_words c.args.task.now c.args.nodes ≤ 4359208
+small c = let c = c in words_few c.args.task.now c.requires c.args.nodes (few c)
 
 -- S by the tables
-row : (c : After-leaf_bases-bases) → get_or c.leaf_bases-bases.result c.args.task.leaves 0 ≡ all_states c.args.task
-row c = row_of c.args.task c.leaf_bases-bases.result c.leaf_bases-bases.ensures
+row : (c : After-leaf_bases-bases) → get_or c.leaf_bases-bases.result c.args.task.now.leaves 0 ≡ all_states c.args.task.now
+row c = row_of c.args.task.now c.leaf_bases-bases.result c.leaf_bases-bases.ensures
 
 pub returns-then-nodes-eq0 : goal.returns-then-nodes-eq0
 returns-then-nodes-eq0 c =
-    task_none c.args.task c.args.nodes c.args.budget c.args.plan.now c.args.table.now c.if-nodes-eq0.true
+    task_none c.args.task.now c.args.nodes c.args.budget c.args.plan.now c.args.table.now c.if-nodes-eq0.true
 
 pub returns-then-nodes-gt4096 : goal.returns-then-nodes-gt4096
 returns-then-nodes-gt4096 c =
-    task_many c.args.task c.args.nodes c.args.budget c.args.plan.now c.args.table.now (omega (arith, c.if-nodes-gt4096.true))
+    task_many c.args.task.now c.args.nodes c.args.budget c.args.plan.now c.args.table.now (omega (arith, c.if-nodes-gt4096.true))
 
 pub overflow_add-bases : goal.overflow_add-bases
 overflow_add-bases c = omega (arith, row (goal.at.overflow_add-bases c).After-leaf_bases-bases)
@@ -42,7 +42,7 @@ overflow_mul-many c = omega (arith, words (goal.at.overflow_mul-many c).After-le
 
 pub returns-then-table-many : goal.returns-then-table-many
 returns-then-table-many c =
-    task_short c.args.task c.args.nodes c.args.budget c.args.plan.now c.args.table.now (some (goal.at.returns-then-table-many c).After-leaf_bases-bases) (few (goal.at.returns-then-table-many c).After-leaf_bases-bases) (omega (arith, words (goal.at.returns-then-table-many c).After-leaf_bases-bases, c.if-table-many.true))
+    task_short c.args.task.now c.args.nodes c.args.budget c.args.plan.now c.args.table.now (some (goal.at.returns-then-table-many c).After-leaf_bases-bases) (few (goal.at.returns-then-table-many c).After-leaf_bases-bases) (omega (arith, words (goal.at.returns-then-table-many c).After-leaf_bases-bases, c.if-table-many.true))
 
 pub search_task-requires : goal.search_task-requires
 search_task-requires c =
@@ -50,4 +50,4 @@ search_task-requires c =
 
 pub returns : goal.returns
 returns c =
-    task_searched c.args.task c.args.nodes c.args.budget c.args.plan.now c.args.table.now (some (goal.at.returns c).After-leaf_bases-bases) (few (goal.at.returns c).After-leaf_bases-bases) (omega (arith, words (goal.at.returns c).After-leaf_bases-bases, c.if-table-many.false)) c.search_task.ensures
+    task_searched c.args.task.now c.args.nodes c.args.budget c.args.plan.now c.args.table.now (some (goal.at.returns c).After-leaf_bases-bases) (few (goal.at.returns c).After-leaf_bases-bases) (omega (arith, words (goal.at.returns c).After-leaf_bases-bases, c.if-table-many.false)) c.search_task.ensures

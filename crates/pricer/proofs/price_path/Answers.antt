@@ -9,13 +9,13 @@ use Rattle.pricer.proofs.price_path.Goals as goal
 
 pub copy_words-requires : goal.copy_words-requires
 copy_words-requires c =
-    let row = row_of c.args.task c.args.bases c.requires.kinds.1 in
+    let row = row_of c.args.task.now c.args.bases c.requires.kinds.1 in
     let kept : length c.walk_task.new.layer ≡ 1024 = c.walk_task.auto.layer in
     (omega (arith, row, kept, c.requires.valid.whole.few_all_states), omega (arith, row, c.requires.by_index.1))
 
 pub returns : goal.returns
 returns c =
-    let t = c.args.task in
+    let t = c.args.task.now in
     let last : c.walk_task.result ≡ Some c.in_ok-ok_or.field-0 = grind arith in
     end_prices t c.args.out.now c.in_ok-ok_or.field-0 c.walk_task.new.layer _ _ _
     (ap (λ (w : Option Centre). walked w (take (all_states t) c.walk_task.new.layer)) (sym last) ∙ c.walk_task.ensures)
