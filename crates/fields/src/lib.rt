@@ -5,6 +5,9 @@ ghost use Rattle.std.specs.Prelude.{◌≡◌, ◌&&◌, ◌+◌, ◌*◌, ◌<�
 ghost use Rattle.fields.specs.Fields.{width, field_of, next_field, ends_at, fill_of, number_of_field};
 ghost use Rattle.fields.specs.Answers.{number_of, told};
 
+// The width of every field in bits, by its kind.
+const WIDTHS: [usize; 11] = [5, 3, 8, 4, 4, 4, 6, 12, 10, 5, 4];
+
 // The kinds of fields, in the order in which a record first has them.
 #[derive(Clone, Copy, PartialEq, Eq)]
 pub enum Field {
@@ -26,19 +29,7 @@ impl Field {
     pub fn width(self) -> usize
         ensures { result ≡ width (number_of_field self) }
     {
-        match self {
-            Field::Variables => 5,
-            Field::Leaves => 3,
-            Field::Actions => 8,
-            Field::Size => 4,
-            Field::Factor => 4,
-            Field::Initial => 4,
-            Field::Pairs => 6,
-            Field::Handling => 12,
-            Field::Distance => 10,
-            Field::Variable => 5,
-            Field::Value => 4,
-        }
+        WIDTHS[self as usize]
     }
 }
 
