@@ -15,6 +15,7 @@ use parts::{Actions, Costs, Pair};
 pub fn read_pair(r: &mut BitReader<'_>, sizes: &[u8], low: usize) -> Result<Pair, Refusal>
     requires { r.old.at < 2 ^ 31 }
     ensures told { pair_of (next_field r.old.bytes.now) sizes.now (length sizes.now) low r.old.at ≡ told result r.new.at }
+    ensures moves { IfOk result (λ _. r.new.at ≡ r.old.at + 9) }
     ensures near { r.new.at ≤ r.old.at + 9 }
     ensures same_record { r.new.bytes ≡ r.old.bytes }
     ensures known { IfOk result (λ pair. pair.variable < length sizes.now) }
@@ -111,6 +112,7 @@ pub fn read_effects(
 pub fn read_costs(r: &mut BitReader<'_>) -> Result<Costs, Refusal>
     requires { r.old.at < 2 ^ 29 }
     ensures told { costs_of (next_field r.old.bytes.now) r.old.at ≡ told result r.new.at }
+    ensures moves { IfOk result (λ _. r.new.at ≡ r.old.at + 22) }
     ensures near { r.new.at ≤ r.old.at + 22 }
     ensures same_record { r.new.bytes ≡ r.old.bytes }
 {

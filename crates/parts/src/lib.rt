@@ -90,6 +90,7 @@ pub fn read_head(r: &mut BitReader<'_>) -> Result<Head, Refusal>
     requires { r.old.at < 2 ^ 31 }
     ensures told { head_of (next_field r.old.bytes.now) r.old.at ≡ told result r.new.at }
     ensures in_bounds { IfOk result HeadIn }
+    ensures moves { IfOk result (λ _. r.new.at ≡ r.old.at + 16) }
     ensures near { r.new.at ≤ r.old.at + 16 }
     ensures same_record { r.new.bytes ≡ r.old.bytes }
 {
@@ -108,6 +109,7 @@ pub fn read_head(r: &mut BitReader<'_>) -> Result<Head, Refusal>
 pub fn read_variable(r: &mut BitReader<'_>, leaves: u8) -> Result<Variable, Refusal>
     requires { r.old.at < 2 ^ 31 }
     ensures told { variable_of (next_field r.old.bytes.now) leaves r.old.at ≡ told result r.new.at }
+    ensures moves { IfOk result (λ _. r.new.at ≡ r.old.at + 12) }
     ensures near { r.new.at ≤ r.old.at + 12 }
     ensures same_record { r.new.bytes ≡ r.old.bytes }
 {
