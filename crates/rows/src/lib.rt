@@ -12,15 +12,13 @@ use words::copy_words;
 
 // ---- signatures
 
-// The signature of every `step`-th of the prices, `count` of them, at most 64: a bit for each, the first the lowest.
+// The signature of every `step`-th of the prices, `count` of them, at most 64: a bit for each, the first the lowest. Nothing branches.
 fn sign_by_step(prices: &[u64], step: usize, count: usize) -> u64
     requires { (0 < step) × (count ≤ 64) × (count * step ≤ length prices.now) }
     ensures { result ≡ sign_to step prices.now count }
 {
     let mut sign: u64 = 0;
-    let mut k = count;
-    while k > 0 {
-        k -= 1;
+    for k in (0..count).rev() {
         sign = sign * 2 + (prices[k * step] < MARK) as u64;
     }
     sign
@@ -78,14 +76,16 @@ pub fn pack(spot: Centre, from: usize) -> u64
     ensures { result ≡ pack_of spot from }
 {
     let values = spot.values;
-    values[from] as u64
-        + values[from + 1] as u64 * 256
-        + values[from + 2] as u64 * 65536
-        + values[from + 3] as u64 * 16777216
-        + values[from + 4] as u64 * 4294967296
-        + values[from + 5] as u64 * 1099511627776
-        + values[from + 6] as u64 * 281474976710656
-        + values[from + 7] as u64 * 72057594037927936
+    u64::from_le_bytes([
+        values[from],
+        values[from + 1],
+        values[from + 2],
+        values[from + 3],
+        values[from + 4],
+        values[from + 5],
+        values[from + 6],
+        values[from + 7],
+    ])
 }
 
 // The four packs of a centre state into a row.
