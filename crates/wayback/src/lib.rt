@@ -76,10 +76,8 @@ fn index_of(acts: &[u8]) -> [u8; 256]
     ensures { (length result ≡ 256) × Indexed acts.now (length acts.now) result }
 {
     let mut index = [0u8; 256];
-    let mut j = acts.len();
-    while j > 0 {
-        index[acts[j - 1] as usize] = j as u8;
-        j -= 1;
+    for j in (0..acts.len()).rev() {
+        index[acts[j] as usize] = j as u8 + 1;
     }
     index
 }
@@ -248,9 +246,7 @@ fn walk(
         → WalkedIn (back_by g.edges acts.now g.count (length depths.now) depths.now (get_or depths.now state mark) state) out.old result out.new }
 {
     let mut y = state;
-    let mut k = depths[state];
-    while k > 0 {
-        k -= 1;
+    for _left in (0..depths[state]).rev() {
         let e = sources[y] as usize;
         y = e % 256;
         out.put(acts[e / 256]);

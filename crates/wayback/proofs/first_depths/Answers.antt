@@ -18,9 +18,6 @@ loop-x-preserved c =
       rw (l.invariant.3, c.first_depth.ensures) (list_more l.x (start c.args.begins.now c.args.prices.now) c.args.depths.now (omega arith)),
     )
 
-pub shape_of-depths : goal.shape_of-depths
-shape_of-depths c = c.loop-x.invariant.2
-
 pub returns : goal.returns
 returns c =
     let all : c.loop-x.x ≡ length c.args.depths.now = omega arith in

@@ -11,6 +11,3 @@ start begins prices x = cond (ltb (get_or prices x mark) mark && eqb (get_or beg
 abbrev pub invariant-loop-x : goal.invariant-loop-x
 invariant-loop-x l =
     (l.x-end ≡ length l.prices) × (l.x ≤ l.x-end) × (length l.depths ≡ length l.initial.depths) × (l.depths ≡ list l.x (start l.begins l.prices) ++ drop l.x l.initial.depths)
-
-abbrev pub decreases-loop-x : goal.decreases-loop-x
-decreases-loop-x l = l.x-end - l.x

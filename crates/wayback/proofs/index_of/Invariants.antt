@@ -5,6 +5,3 @@ use Rattle.wayback.proofs.index_of.Given as goal
 
 abbrev pub invariant-loop-j : goal.invariant-loop-j
 invariant-loop-j l = (l.j ≤ length l.acts) × (length l.index ≡ 256) × IndexedFrom l.acts l.j (length l.acts) l.index
-
-abbrev pub decreases-loop-j : goal.decreases-loop-j
-decreases-loop-j l = l.j
