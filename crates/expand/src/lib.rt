@@ -153,10 +153,8 @@ fn list_turns(
 {
     let board = &tables.board;
     let many = list_mets(
-        board.actions,
+        board,
         tables.firsts,
-        board.factors,
-        board.conditions,
         opened.node.spot,
         class_of(opened.node.spot),
         known,

@@ -190,8 +190,8 @@ pub fn explore(
     ensures lengths { length table.new ≡ length table.old }
 {
     let board = tables.board;
-    let stills = still_leaves(board.leaves, board.actions, board.bases, board.moves);
-    let still = still_actions(board.leaves, board.actions, &stills);
+    let stills = still_leaves(&board);
+    let still = still_actions(&board, &stills);
     let firsts = first_conditions(&board);
     let hops = list_hops(&board, &tables.task.effects, &firsts, &still);
     let ways = list_ways(board.actions, &hops);

@@ -152,15 +152,7 @@ fn settle_begin(
         × (result ≡ false → begin.new ≡ begin.old) }
 {
     let board = &tables.board;
-    let slot = slot_for(
-        board.actions,
-        tables.firsts,
-        board.factors,
-        board.conditions,
-        spot,
-        class,
-        known,
-    );
+    let slot = slot_for(board, tables.firsts, spot, class, known);
     let end = slot + 256;
     settle_edges(board, &known[slot..end], &tables.edges, spot, begin)
 }
