@@ -4,7 +4,7 @@ ghost use Rattle.std.specs.Prelude.{◌≡◌, length};
 ghost use Rattle.layer.specs.First.{Firsts};
 ghost use Rattle.layer.specs.Held.{board_in};
 ghost use Rattle.edges.specs.Edges.{Edges};
-ghost use Rattle.stills.specs.Still.{Still, Stills};
+ghost use Rattle.stills.specs.Still.{StillOn, StillsOn};
 ghost use Rattle.hops.specs.Hops.{Hops, Ways};
 
 use dominance::Candidate;
@@ -27,8 +27,8 @@ pub struct SearchTables<'a> {
     pub goal: [u8; 32],
     pub nodes: usize,
     pub ghost edged: { Edges (board_in board) edges.list.now edges.ends.now },
-    pub ghost stays: { Still board.leaves board.actions board.bases.now board.moves.now still.now },
-    pub ghost stays_by_leaf: { Stills board.leaves board.actions board.bases.now board.moves.now stills.now },
+    pub ghost stays: { StillOn (board_in board) still.now },
+    pub ghost stays_by_leaf: { StillsOn (board_in board) stills.now },
     pub ghost asked: { Firsts (board_in board) firsts.now },
     pub ghost hopped: { Hops board.actions (board_in board) effects.now hops.now },
     pub ghost wayed: { Ways board.actions hops.now ways.now },

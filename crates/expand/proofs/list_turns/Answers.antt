@@ -2,7 +2,6 @@
 use Rattle.std.proofs.Common.{◌≡◌, ◌∙◌, Bool, ℕ, ◌+◌, ◌*◌, ◌≤◌, ◌<◌, arith, length, get_or, take, rules}
 use Rattle.layer.specs.Board.{Board, row_on, met_on}
 use Rattle.layer.specs.Held.{board_in}
-use Rattle.mets.specs.Known.{firsts_asks, known_asks, asks_known}
 use Rattle.rows.specs.Row.{node_in}
 use Rattle.rows.specs.Sign.Laws.{class_lt}
 use Rattle.detours.specs.Detours.{detours, hop_behind}
@@ -28,18 +27,15 @@ hop s word e d =
     hop_told (row_on (board s)) a.tables.now.board.actions a.table.now a.tables.now.hops.now o.number o.node.prices.now word
     s.requires.mets_len.2 (rw s.requires.states at o.node.long) (rw s.requires.states at e) d
 
-pub list_mets-many-requires : goal.list_mets-many-requires
-list_mets-many-requires c =
-    let b = board (goal.at.list_mets-many-requires c).Start in
-    let t = c.args.tables.now in
-    (t.board.sound.few_actions, t.board.sound.conditions_long, firsts_asks b _ t.asked, omega (arith, c.class_of.ensures, class_lt c.args.opened.now.node.spot), c.requires.mets_len.0, known_asks b _ c.requires.known)
+pub list_mets-many-requires-clause-class : goal.list_mets-many-requires-clause-class
+list_mets-many-requires-clause-class c = omega (arith, c.class_of.ensures, class_lt c.args.opened.now.node.spot)
 
 pub returns-then-word-eq0 : goal.returns-then-word-eq0
 returns-then-word-eq0 c =
     let b = board (goal.at.returns-then-word-eq0 c).Start in
     let o = c.args.opened.now in
     let m = c.list_mets-many.ensures in
-    (asks_known b _ m.listed.0, m.listed.1, useful_all b c.args.tables.now.effects.now o.node.spot c.args.table.now o.number o.node.prices.now c.list_mets-many.result _ m.listed.2)
+    (m.known, m.few, useful_all b c.args.tables.now.effects.now o.node.spot c.args.table.now o.number o.node.prices.now c.list_mets-many.result _ m.listed)
 
 pub cost_of-cost-requires : goal.cost_of-cost-requires
 cost_of-cost-requires c =
@@ -54,7 +50,7 @@ drop_detours-requires c =
     let made = hop s c.hop_behind-word.result c.hop_behind-word.ensures c.if-word-eq0.false in
     let few : c.hop_behind-word.result ≤ 8192 = rw made.2 at (t.hopped.few (node_in (row_on (board s)) c.args.table.now c.args.opened.now.number).action) in
     let m = c.list_mets-many.ensures in
-    (t.hopped.long, t.wayed.long, t.board.sound.costs_long, m.lengths ∙ c.requires.mets_len.0, m.listed.1, few, c.if-word-eq0.false, t.hopped.few)
+    (t.hopped.long, t.wayed.long, t.board.sound.costs_long, m.lengths ∙ c.requires.mets_len.0, m.few, few, c.if-word-eq0.false, t.hopped.few)
 
 pub returns : goal.returns
 returns c =
@@ -69,11 +65,11 @@ returns c =
     let d = rw (c.cost_of-cost.ensures, c.requires.states, ← action_word (row_on b) o.number T) at c.drop_detours.ensures in
     let D : ℕ → Bool = detours t.hops.now t.ways.now t.board.costs.now word (get_or t.board.costs.now (node_in (row_on b) T o.number).action 0) in
     let xs = m.new.list in
-    let long : m.result ≤ length xs = omega (arith, m.ensures.listed.1, m.ensures.lengths, c.requires.mets_len.0) in
-    let kept = kept_listed D xs (met_on b o.node.spot) t.board.actions m.result long m.ensures.listed.2 in
+    let long : m.result ≤ length xs = omega (arith, m.ensures.few, m.ensures.lengths, c.requires.mets_len.0) in
+    let kept = kept_listed D xs (met_on b o.node.spot) t.board.actions m.result long m.ensures.listed in
     let listed = rw (← d.0, ← d.1) at kept in (
-      asks_known b _ m.ensures.listed.0,
-      omega (arith, d.0, kept_few D xs m.result, m.ensures.listed.1),
+      m.ensures.known,
+      omega (arith, d.0, kept_few D xs m.result, m.ensures.few),
       useful_dropped b t.effects.now o.node.spot T o.number o.node.prices.now t.hops.now t.ways.now t.hopped t.wayed
           word c.if-word-eq0.false made.0 made.1 made.2 made.3 c.drop_detours.result _ listed,
     )
