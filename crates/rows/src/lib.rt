@@ -57,15 +57,15 @@ pub fn sign_of(prices: &[u64]) -> u64
 
 // ---- rows
 
-// The centre state in a row: each of its packs has eight values.
+// The centre state in a row: each of its packs has eight values, the first its lowest byte.
 pub fn read_spot(row: &[u64]) -> Centre
     requires { 39 ≤ length row.now }
     ensures { result ≡ spot_of row.now }
 {
     let mut values = [0u8; 32];
-    for v in 0..32 {
-        let word = row[35 + v / 8];
-        values[v] = ((word >> (v % 8 * 8) as u32) % 256) as u8;
+    for k in 0..4 {
+        let word = row[35 + k];
+        values[k * 8..k * 8 + 8].copy_from_slice(&word.to_le_bytes());
     }
     Centre { values }
 }
