@@ -17,5 +17,5 @@ returns c =
     let here : (x : ℕ) → x < length old → get_or row x 0 ≡ get_or a.moves.now (a.at + x) 0 =
     λ x h. get_or-take (a.at + length old - a.at) (drop a.at a.moves.now) x 0 (omega arith) ∙ get_or-drop a.at a.moves.now x 0 in
     let found = position_from_yields_List test c.position.new.self _ c.position.result c.position.ensures.ran
-        (YieldsList-from_zip {xs = row} {ys = old} (YieldsList-from_slice row cc) (YieldsList-from_slice old cc)) (λ x b q k. search (rules, tests)) in
+    (YieldsList-from_zip {xs = row} {ys = old} (YieldsList-from_slice row cc) (YieldsList-from_slice old cc)) (λ x b q k. search (rules, tests)) in
     c.unwrap_or.ensures ∙ lowest_found _ test row old long (λ x h. rw (here x h, at_any old x mark 0 h, add-one) refl) c.position.result found
