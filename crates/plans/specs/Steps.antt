@@ -6,7 +6,6 @@ use native.Mathlib.Omega.{arith}
 use Rattle.std.proofs.Math.ListN.{length}
 use Rattle.std.proofs.lemmas.List.{length-reverse}
 use Rattle.task.specs.declared.Task.{Task}
-use Rattle.task.specs.Factors.{states}
 use Rattle.leaf.specs.Price.{mark}
 use Rattle.leaf.specs.Settle.Steps.{price_in_lem}
 use Rattle.layer.specs.Layer.{leaf_part}

@@ -1,5 +1,5 @@
 -- More laws of the lowest number at which a test passes. Assumes nothing.
-use Rattle.std.specs.Prelude.{◌≡◌, refl, Bool, true, not, cond, List, Option, Some, None, unwrap_or, ℕ, zero, suc, ◌≤◌, ◌<◌, ltb, length, get_or}
+use Rattle.std.specs.Prelude.{◌≡◌, refl, Bool, true, not, cond, List, Option, Some, None, unwrap_or, ℕ, zero, suc, ◌<◌, ltb, length, get_or}
 use Rattle.std.proofs.Common.{sym, ap, ◌∙◌, true≢false, arith, lt-ltb, le-ltb}
 use Rattle.std.proofs.Math.Decide.{dec_lt}
 use Rattle.std.specs.List.{zip, position_or_len}

@@ -1,7 +1,7 @@
-use Rattle.std.proofs.Common.{sym, subst, ◌∙◌, ℕ, ◌-◌, ◌<◌, ◌≤◌, arith, length, get_or, length-set}
+use Rattle.std.proofs.Common.{sym, subst, ◌∙◌, ℕ, ◌-◌, arith, get_or, length-set}
 use Rattle.layer.specs.Held.{board_in}
 use Rattle.wayback.specs.Held.{kept_twice}
-use Rattle.plans.specs.Walk.{back_on, WalkableOn}
+use Rattle.plans.specs.Walk.{WalkableOn}
 use Rattle.plans.specs.Walk.Turns.{layer_less, layer_end}
 use Rattle.plans.specs.Fit.{back_few}
 use Rattle.plans.proofs.layer_back.Goals as goal

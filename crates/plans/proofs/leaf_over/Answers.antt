@@ -1,5 +1,5 @@
 -- `plans::leaf_over` meets its contract: it goes by the prices in the parent's row and the state's price in the node's. Assumes nothing.
-use Rattle.std.proofs.Common.{◌∙◌, refl, arith, length}
+use Rattle.std.proofs.Common.{◌∙◌, refl, arith}
 use Rattle.layer.specs.Held.{board_in}
 use Rattle.plans.specs.Walk.Laws.{over_here}
 use Rattle.plans.proofs.leaf_over.Goals as goal

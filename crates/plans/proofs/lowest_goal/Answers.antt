@@ -1,5 +1,5 @@
 -- `plans::lowest_goal` meets its contract. What counts at each state is tested in order. Assumes nothing.
-use Rattle.std.proofs.Common.{◌≡◌, ◌∙◌, refl, ℕ, ◌<◌, Bool, cond, eqb, length, get_or, rules, tests}
+use Rattle.std.proofs.Common.{◌∙◌, refl, ℕ, Bool, cond, eqb, rules, tests}
 use Rattle.std.proofs.lemmas.Iterator.{YieldsList-from_slice, YieldsList-from_zip}
 use Rattle.std.proofs.lemmas.Iterator.Search.{position_from_yields_List}
 use Rattle.leaf.specs.Price.{mark}

@@ -1,5 +1,4 @@
 -- `plans::prices_of` meets its contract: the prices are a part of the node's row. Assumes nothing.
-use Rattle.std.proofs.Common.{◌∙◌}
 use Rattle.layer.specs.Held.{board_in}
 use Rattle.plans.specs.Walk.Laws.{prices_at}
 use Rattle.plans.proofs.prices_of.Goals as goal

@@ -1,14 +1,12 @@
-use Rattle.std.proofs.Common.{◌≡◌, refl, sym, subst, ◌∙◌, ℕ, ◌+◌, ◌*◌, ◌≤◌, ◌<◌, suc-mul, arith, length, get_or, rules}
+use Rattle.std.proofs.Common.{◌≡◌, refl, sym, subst, ◌∙◌, ℕ, ◌+◌, ◌*◌, ◌≤◌, ◌<◌, suc-mul, arith, get_or, rules}
 use Rattle.task.specs.Factors.{all_states}
 use Rattle.layer.specs.Board.{row_on}
 use Rattle.layer.specs.Board.Laws.{row_on_lem}
 use Rattle.layer.specs.Held.{board_in}
-use Rattle.search.specs.Plan.Backwards.{plan_back}
-use Rattle.search.specs.Plan.Laid.{laid}
 use Rattle.search.specs.Plan.Stages.{Priced}
 use Rattle.wayback.specs.Held.{kept_twice}
 use Rattle.plans.specs.Walk.{held_in}
-use Rattle.plans.specs.Fit.{search_on, grounds_in, standing_in}
+use Rattle.plans.specs.Fit.{grounds_in, standing_in}
 use Rattle.plans.specs.Steps.{layer_few, walks, lands, along_none, along_more, along_few, along_end}
 use Rattle.plans.proofs.walk_back.Goals as goal
 use Rattle.plans.proofs.walk_back.Goals.{After-parent_of-u}

@@ -1,8 +1,7 @@
 -- `plans::walk_back` meets its contract. The invariant: what is left, from where the walk is, ends as the whole from the start. Assumes nothing.
-use Rattle.std.proofs.Common.{◌≡◌, ◌+◌, ◌*◌, ◌≤◌, ◌<◌, length, get_or}
+use Rattle.std.proofs.Common.{◌≡◌, ◌+◌, ◌*◌, ◌≤◌, ◌<◌, length}
 use Rattle.layer.specs.Board.{row_on}
 use Rattle.layer.specs.Held.{board_in}
-use Rattle.search.specs.Plan.Stages.{Priced}
 use Rattle.wayback.specs.Held.{KeptIn}
 use Rattle.plans.specs.Fit.{search_on}
 use Rattle.plans.specs.Steps.{Along}

@@ -1,5 +1,4 @@
 -- `plans::write_plan` meets its contract: what it lends to work in has room for the edges of each leaf. Assumes nothing.
-use Rattle.std.proofs.Common.{arith}
 use Rattle.layer.specs.Held.{board_in}
 use Rattle.plans.specs.Walk.Laws.{roomy_small, roomy_large}
 use Rattle.plans.proofs.write_plan.Goals as goal

@@ -1,6 +1,6 @@
 -- Laws of rows and goal states by tables, as the code reads them. Assumes nothing.
 use Rattle.std.specs.Prelude.{◌≡◌, refl, cond, ◌&&◌, List, ℕ, zero, suc, ◌+◌, ◌-◌, ◌*◌, ◌≤◌, ◌<◌, ltb, eqb, length, get_or, set, take, drop, replicate}
-use Rattle.std.proofs.Common.{sym, ◌∙◌, not-suc-le-zero, mul-le-mul, mul-le-mul_left, arith, length-drop, length-take, length-take-le, drop-drop, get_or-take, get_or-drop}
+use Rattle.std.proofs.Common.{sym, ◌∙◌, not-suc-le-zero, mul-le-mul, mul-le-mul_left, arith, length-drop, length-take, drop-drop}
 use Rattle.std.proofs.Math.Path.{ap}
 use Rattle.leaf.specs.Price.{mark}
 use Rattle.leaf.specs.Settle.Turns.{at_any}

@@ -1,4 +1,4 @@
-use Rattle.std.proofs.Common.{◌≡◌, refl, ◌∙◌, append-nil, ◌-◌, arith, length, length-set}
+use Rattle.std.proofs.Common.{◌≡◌, refl, ◌∙◌, append-nil, arith, length, length-set}
 use lib.Seq.{drop-length}
 use Rattle.loops.specs.Count.{list}
 use Rattle.loops.specs.Count.Laws.{list_more}

@@ -1,5 +1,5 @@
 -- `wayback::first_depths` meets its contract. The invariant: the depths so far are those where depths begin. Assumes nothing.
-use Rattle.std.proofs.Common.{◌≡◌, cond, ◌&&◌, List, ◌++◌, ℕ, ◌-◌, ◌≤◌, ltb, eqb, length, get_or, drop}
+use Rattle.std.proofs.Common.{◌≡◌, cond, ◌&&◌, List, ◌++◌, ℕ, ◌≤◌, ltb, eqb, length, get_or, drop}
 use Rattle.loops.specs.Count.{list}
 use Rattle.leaf.specs.Price.{mark}
 use Rattle.wayback.proofs.first_depths.Given as goal

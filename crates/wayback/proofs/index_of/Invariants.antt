@@ -1,5 +1,5 @@
 -- `wayback::index_of` meets its contract. The invariant: the actions from the j-th on have their index. Assumes nothing.
-use Rattle.std.proofs.Common.{◌≡◌, ◌-◌, ◌≤◌, length}
+use Rattle.std.proofs.Common.{◌≡◌, ◌≤◌, length}
 use Rattle.wayback.specs.Woven.{IndexedFrom}
 use Rattle.wayback.proofs.index_of.Given as goal
 

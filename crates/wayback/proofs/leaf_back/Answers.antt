@@ -2,7 +2,6 @@
 -- one meant. Assumes nothing.
 use Rattle.std.proofs.Common.{refl, ℕ, ◌≤◌, ◌<◌, arith, length, length-take, rules}
 use lib.ListN.{length-replicate}
-use Rattle.leaf.specs.Settle.Steps.{replicate_at}
 use Rattle.layer.specs.Board.{base_on, row_on}
 use Rattle.layer.specs.Held.{board_in}
 use Rattle.wayback.specs.Woven.{Backed}

@@ -1,5 +1,5 @@
 -- `wayback::lowest_over` meets its contract. The action's move and the price, state by state, are tested in order. Assumes nothing.
-use Rattle.std.proofs.Common.{◌≡◌, ◌∙◌, ap, ap₂, ℕ, Bool, ◌&&◌, eqb, ◌+◌, ◌-◌, ◌<◌, List, take, drop, length, get_or, arith, rules, tests, length-take, length-drop, get_or-take, get_or-drop, refl, add-one}
+use Rattle.std.proofs.Common.{◌≡◌, ◌∙◌, ℕ, Bool, ◌&&◌, eqb, ◌+◌, ◌-◌, ◌<◌, List, take, drop, length, get_or, arith, rules, tests, length-take, length-drop, get_or-take, get_or-drop, refl, add-one}
 use Rattle.std.proofs.lemmas.Iterator.{YieldsList-from_slice, YieldsList-from_zip}
 use Rattle.std.proofs.lemmas.Iterator.Search.{position_from_yields_List}
 use Rattle.leaf.specs.Price.{mark}

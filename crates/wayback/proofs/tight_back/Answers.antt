@@ -1,5 +1,5 @@
 -- `wayback::tight_back` meets its contract. The depths that are made have what the walk needs, and the walk goes by them. Assumes nothing.
-use Rattle.std.proofs.Common.{◌≡◌, List, ℕ, arith}
+use Rattle.std.proofs.Common.{◌≡◌, arith}
 use Rattle.wayback.specs.Steps.{depths_by}
 use Rattle.wayback.specs.Woven.Laws.{woven_ways, woven_meant, woven_leading}
 use Rattle.wayback.specs.Ready.{backed_length, backed_few, backed_guided, backed_way}

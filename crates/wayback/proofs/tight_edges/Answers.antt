@@ -1,4 +1,4 @@
-use Rattle.std.proofs.Common.{◌≡◌, refl, ap, ◌∙◌, ℕ, ◌+◌, ◌-◌, ◌≤◌, ◌<◌, arith, length, get_or, get_or-set_same, length-set}
+use Rattle.std.proofs.Common.{◌≡◌, refl, ap, ◌∙◌, ◌+◌, ◌-◌, ◌≤◌, ◌<◌, arith, length, get_or, get_or-set_same, length-set}
 use Rattle.edges.specs.Edges.{edges_at}
 use Rattle.wayback.specs.Woven.Laws.{listed_more, part_size}
 use Rattle.wayback.proofs.tight_edges.Goals as goal

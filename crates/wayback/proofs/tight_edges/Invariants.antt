@@ -1,6 +1,6 @@
 -- `wayback::tight_edges` meets its contract. The invariant: the tight edges of the states so far are listed, no more than edges were read. Assumes
 -- nothing.
-use Rattle.std.proofs.Common.{◌≡◌, ◌+◌, ◌-◌, ◌≤◌, length, get_or}
+use Rattle.std.proofs.Common.{◌≡◌, ◌+◌, ◌≤◌, length, get_or}
 use Rattle.wayback.specs.Held.{ListedIn}
 use Rattle.wayback.proofs.tight_edges.Given as goal
 

@@ -1,4 +1,4 @@
-use Rattle.std.proofs.Common.{◌≡◌, ◌∙◌, ℕ, suc, ◌+◌, ◌-◌, ◌*◌, ◌/◌, ◌%◌, ◌<◌, arith, length, get_or}
+use Rattle.std.proofs.Common.{◌≡◌, ℕ, suc, ◌+◌, ◌-◌, ◌*◌, ◌/◌, ◌%◌, ◌<◌, arith, length, get_or}
 use Rattle.leaf.specs.Price.{mark}
 use Rattle.wayback.specs.Steps.{entry_by, origin_by}
 use Rattle.wayback.specs.Sources.{Leads, source_taken}

@@ -1,5 +1,5 @@
 -- The edges of a leaf by the tables of a Board: they can be read, and the enabled actions' moves are among them. Assumes nothing.
-use Rattle.std.specs.Prelude.{◌≡◌, List, ℕ, zero, suc, ◌+◌, ◌-◌, ◌*◌, ◌≤◌, ◌<◌, length, get_or}
+use Rattle.std.specs.Prelude.{◌≡◌, List, ℕ, zero, suc, ◌+◌, ◌*◌, ◌≤◌, ◌<◌, length, get_or}
 use Rattle.std.proofs.Common.{ap, add-zero, suc-mul, mul_comm, arith}
 use Rattle.task.specs.declared.Centre.{Centre}
 use Rattle.layer.specs.Board.{Board, Sound, base_on, row_on, states_on, enabled_on}
