@@ -1,6 +1,6 @@
 -- The cases that are marked P, computed by the definitions from the records' bytes, and beside them a task with two leaves: one table, one
 -- theorem. What is expected is the paper's; of the task with two leaves it is the model's (model/two_leaves.py). Assumes nothing.
-use Rattle.std.specs.Prelude.{◌≡◌, refl, List, [], ◌∷◌, ℕ, replicate, take}
+use Rattle.std.specs.Prelude.{◌≡◌, refl, Ok, List, [], ◌∷◌, ℕ, replicate, take}
 use Rattle.loops.specs.Count.{all, any, sum, list}
 use Rattle.loops.specs.Parsed.{turns}
 use Rattle.drive.specs.Drive.{drive_time, travel_time, root_from}
@@ -11,18 +11,16 @@ use Rattle.task.specs.Factors.{touches, within, holds_in, leaf_pairs, star_pairs
 use Rattle.task.specs.Centre.{centre_of, centre_after, centre_meets}
 use Rattle.fields.specs.Fields.{bit_of, field_of, next_field}
 use Rattle.parts.specs.Grammar.{head_of, variable_of, pair_of, pairs_from, counted_pairs, effect_pairs, costs_of, action_of, lists_of, task_of}
-use Rattle.whole.specs.declared.Verdict.TheVariants.{Accepted}
+use Rattle.whole.specs.Verdict.{Accepted}
 use Rattle.whole.specs.Whole.{factors_used, states_few, all_star, whole_of}
 use Rattle.record.specs.Example.{fetch_record, without_take, empty_goal, wax_record}
-use Rattle.record.specs.declared.TaskRead.{TaskRead}
-use Rattle.record.specs.Record.{filled_of, read_record}
+use Rattle.record.specs.Record.{TaskRead, filled_of, read_record}
 use Rattle.leaf.specs.Price.{mark}
 use Rattle.leaf.specs.Settle.{lower, key as priceKey, key_at, key_of, pick, relax, settle, settled}
 use Rattle.leaf.specs.Pass.{pass}
 use Rattle.layer.specs.Layer.{enabled_to, settle_leaf, start_leaf, pass_leaf, passes, base, leaf_part, joined, first_prices, next_prices, applies_to}
 use Rattle.price.specs.Path.{next_layer, walk}
 use Rattle.price.specs.Ways.{weave}
-use Rattle.answers.specs.declared.PriceAnswer.TheVariants.{Prices}
 use Rattle.pricer.specs.Pricer.{Outcome as Priced, path_fits, task_prices, prices_of}
 use Rattle.search.specs.Node.{first_node, next_node, least_of, key, goal_prices, is_goal, goal_cost, dominates}
 use Rattle.search.specs.Explore.{below_best, best_with, keep, start, waits, choose, offer, turn, expand, begin, explore, explored}
@@ -88,9 +86,9 @@ pub p_table :
           record { answer = Refused PlanLong (counts 4 4); front = 238 ∷ 238 ∷ 238 ∷ [] } ∷
           record { answer = Solved (record { length = 6; cost = 1554 }) (counts 4 4); front = 0 ∷ 5 ∷ 1 ∷ 4 ∷ 3 ∷ 2 ∷ 238 ∷ [] } ∷ [];
       prices =
-          record { answer = Prices 3; words = 0 ∷ 500 ∷ 800 ∷ [] } ∷ record { answer = Prices 3; words = 0 ∷ mark ∷ mark ∷ [] } ∷
-          record { answer = Prices 8; words = mark ∷ 0 ∷ 500 ∷ mark ∷ mark ∷ mark ∷ 0 ∷ mark ∷ 7 ∷ [] } ∷
-          record { answer = Prices 8; words = 800 ∷ mark ∷ 500 ∷ 840 ∷ mark ∷ 540 ∷ 30 ∷ 0 ∷ 7 ∷ [] } ∷ [];
+          record { answer = Ok 3; words = 0 ∷ 500 ∷ 800 ∷ [] } ∷ record { answer = Ok 3; words = 0 ∷ mark ∷ mark ∷ [] } ∷
+          record { answer = Ok 8; words = mark ∷ 0 ∷ 500 ∷ mark ∷ mark ∷ mark ∷ 0 ∷ mark ∷ 7 ∷ [] } ∷
+          record { answer = Ok 8; words = 800 ∷ mark ∷ 500 ∷ 840 ∷ mark ∷ 540 ∷ 30 ∷ 0 ∷ 7 ∷ [] } ∷ [];
       times = 54 ∷ 425 ∷ 737 ∷ [];
     })
 unfolding fetch record_plan task_plan searched with_plan table_words prices_of task_prices path_fits walk next_layer plan_of goal_state path_to stages over back_in begins back source depths tight_to tight lowest weave explored explore expand begin turn offer choose waits start keep best_with below_best dominates goal_cost is_goal goal_prices key least_of next_node first_node first_prices next_prices applies_to joined leaf_part base passes pass_leaf start_leaf settle_leaf enabled_to pass settled settle relax pick key_of key_at priceKey lower read_record filled_of whole_of factors_used states_few all_star task_of lists_of action_of costs_of effect_pairs counted_pairs pairs_from pair_of variable_of head_of next_field field_of bit_of turns centre_meets centre_after centre_of to meets_in values_of all_states states number leaf_action centre_action digit_to states_to number_to star_pairs leaf_pairs holds_in within touches cost drive_time travel_time root_from all any sum list

@@ -6,8 +6,7 @@ use Rattle.std.proofs.lemmas.List.{length-replicate}
 use Rattle.fields.specs.Answers.Laws.{record_number}
 use Rattle.task.specs.declared.Task.{Task}
 use Rattle.task.specs.Factors.{all_states}
-use Rattle.whole.specs.declared.Verdict.{Verdict}
-use Rattle.whole.specs.declared.Verdict.TheVariants.{Accepted as Read, Refused as NotRead}
+use Rattle.whole.specs.Verdict.{Verdict, Accepted as Read, Refused as NotRead}
 use Rattle.record.specs.Record.{read_record}
 use Rattle.answers.specs.declared.Told.{Told}
 use Rattle.answers.specs.declared.PlanAnswer.{PlanAnswer}

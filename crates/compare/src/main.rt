@@ -11,16 +11,16 @@ ghost use Rattle.std.specs.Prelude.{◌≡◌, ◌+◌, ◌<◌, ◌≤◌, leng
 ghost use Rattle.task.specs.Valid.{Valid};
 
 use answers::{PlanAnswer, Solution};
+use input::{read_full, read_length};
 use planner::plan;
 use record::read_record;
 use std::io;
 use std::io::Read;
 use steps::{holds, put};
 use task::Task;
-use whole::Verdict;
 
 // The cost where there is no plan. No plan costs so much.
-const NONE: u64 = 18446744073709551615;
+const NONE: u64 = u64::MAX;
 
 // How many whole states the plain planner can number.
 const MOST: usize = 1024;
@@ -97,10 +97,7 @@ fn task_costs(t: Task) -> [u64; 256]
 
 // A cost with another one added, or none where that has no room.
 fn plus(sum: u64, more: u64) -> u64 {
-    if sum > NONE - more {
-        return NONE;
-    }
-    sum + more
+    sum.saturating_add(more)
 }
 
 // ---- states
@@ -591,30 +588,13 @@ fn run_task(rt: &impl Print, t: Task, rec: &[u8]) -> io::Result<Outcome>
 // Reads the task that the record writes down, plans it, and prints its line.
 fn run_record(rt: &impl Print, number: u64, rec: &[u8]) -> io::Result<Outcome> {
     print!(rt; "{number}")?;
-    let r = read_record(rec);
-    let v = r.verdict;
-    let t = r.task;
-    match v {
-        Verdict::Accepted => run_task(rt, t, rec),
-        Verdict::Refused(_) => {
+    match read_record(rec) {
+        Ok(task) => run_task(rt, task, rec),
+        Err(_) => {
             println!(rt; " refused by the reader")?;
             Ok(Outcome::Left)
         }
     }
-}
-
-// Reads until `buf` is full, the input ends or a read fails, and returns how many bytes it put at the start of `buf`.
-fn read_full(input: &mut impl Read, buf: &mut [u8]) -> usize
-    ensures { result ≤ length buf.new }
-{
-    let mut done = 0;
-    while done < buf.len() {
-        match input.read(&mut buf[done..]) {
-            Ok(0) | Err(_) => break,
-            Ok(n) => done += n,
-        }
-    }
-    done
 }
 
 // Fills `rec` from the input and goes on with it.
@@ -630,22 +610,13 @@ fn fill_record(
     run_record(rt, number, rec)
 }
 
-// The number that two bytes write, the more significant one first.
-fn joined(high: u8, low: u8) -> usize
-    ensures { result ≤ 65535 }
-{
-    high as usize * 256 + low as usize
-}
-
 // Reads the length of a record and goes on with the record.
 fn run_case(rt: &impl Print, input: &mut impl Read, number: u64) -> io::Result<Outcome> {
-    let mut two = [0u8; 2];
-    if read_full(input, &mut two) < 2 {
+    let Some(length) = read_length(input) else {
         return Ok(Outcome::End);
-    }
-    let length = joined(two[0], two[1]);
+    };
     let mut rec = [0u8; 65535];
-    fill_record(rt, input, number, &mut rec[0..length])
+    fill_record(rt, input, number, &mut rec[..length])
 }
 
 fn main(rt: HostRuntime) -> io::Result<()> {

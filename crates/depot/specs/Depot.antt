@@ -3,8 +3,7 @@ pub mod Demands
 pub mod Laws
 use Rattle.std.specs.Prelude.{true, false, ◌&&◌, List, ◌∷◌, ℕ, ◌+◌, ◌*◌, leb, length, drop}
 use Rattle.task.specs.Factors.{all_states}
-use Rattle.whole.specs.declared.Verdict.{Verdict}
-use Rattle.whole.specs.declared.Verdict.TheVariants.{Accepted, Refused as NotAccepted}
+use Rattle.whole.specs.Verdict.{Verdict, Accepted, Refused as NotAccepted}
 use Rattle.record.specs.Record.{read_record}
 use Rattle.answers.specs.declared.Told.{Told}
 

@@ -13,11 +13,10 @@ ghost use Rattle.planner.specs.Planner.{record_plan, call_on, given_with};
 ghost use Rattle.depot.specs.Depot.{answered, for_nodes, for_record, size_for, words_for, bytes_for};
 ghost use Rattle.depot.specs.Depot.Demands.{Said, JustEnough, Enough};
 
-use answers::{Told, plan_told, price_told};
+use answers::{PricesTold, Told};
 use record::read_record;
 use tables::leaf_bases;
 use task::Task;
-use whole::Verdict;
 
 // The values at the front of `answer`, where it has four words.
 fn write_answer(told: Told, answer: &mut [u64])
@@ -50,10 +49,9 @@ pub fn depot_plan(
     ensures demands { Said (call_on «record».now nodes plan.old table.old)
         (given_with «record».now nodes budget table.old) result answer.old answer.new plan.new table.new }
 {
-    let t = plan_told(planner::plan(record, nodes, budget, plan, table));
-    let number = t.number;
-    write_answer(t, answer);
-    number
+    let outcome = Told::from(planner::plan(record, nodes, budget, plan, table));
+    write_answer(outcome, answer);
+    outcome.number
 }
 
 // Prices after a path of centre actions: 0, or the refusal's number.
@@ -63,7 +61,7 @@ pub fn depot_prices(record: &[u8], path: &[u8], prices: &mut [u64]) -> u32
     ensures demands { PathMeets (pathOn «record».now path.now prices.old) mark
         (price_in (read_record «record».now).task prices.new) prices.new result }
 {
-    let told = price_told(pricer::prices(record, path, prices));
+    let told = PricesTold::from(pricer::prices(record, path, prices));
     told.number
 }
 
@@ -87,12 +85,9 @@ fn task_states(task: Task, nodes: u32) -> u64
 fn states_for(record: &[u8], nodes: u32) -> u64
     ensures { result ≡ for_record (λ s. s) «record».now nodes }
 {
-    let r = read_record(record);
-    let v = r.verdict;
-    let t = r.task;
-    match v {
-        Verdict::Refused(why) => 0,
-        Verdict::Accepted => task_states(t, nodes),
+    match read_record(record) {
+        Ok(task) => task_states(task, nodes),
+        Err(_) => 0,
     }
 }
 

@@ -7,20 +7,19 @@
 // The record stands on standard input; where the command names files, each of them holds one.
 #![tactic(auto)]
 
-ghost use Rattle.std.specs.Prelude.{◌≡◌, ◌+◌, ◌≤◌, length};
 ghost use Rattle.task.specs.Valid.{Valid};
 
-use answers::{PlanAnswer, PlanRefusal, Solution, plan_refusal_number};
+use answers::{PlanAnswer, Solution};
+use input::read_full;
 use planner::{fitting_nodes, plan};
 use record::read_record;
 use std::alloc::Alloc;
 use std::env::FillError;
 use std::io::Read;
 use std::rt::{Env, Files};
-use std::{fs, io, str};
+use std::{fmt, fs, io, str};
 use steps::{holds, put};
 use task::{FREE, Task};
-use whole::Verdict;
 
 // How many words the planner's table has.
 const WORDS: usize = 131072;
@@ -35,289 +34,165 @@ struct Tally {
     made: u64,
 }
 
-// A count with one more, as far as there is room.
-fn one_more(count: u64) -> u64 {
-    if count == 18446744073709551615 {
-        return count;
+impl Tally {
+    fn new() -> Tally {
+        Tally {
+            planned: 0,
+            made: 0,
+        }
     }
-    count + 1
+
+    // With one planned move more, as far as there is room.
+    fn with_move(self, made: bool) -> Tally {
+        Tally {
+            planned: self.planned.saturating_add(1),
+            made: self.made.saturating_add(u64::from(made)),
+        }
+    }
+
+    // With the moves of another leaf, as far as there is room.
+    fn with(self, other: Tally) -> Tally {
+        Tally {
+            planned: self.planned.checked_add(other.planned).unwrap_or(self.planned),
+            made: self.made.checked_add(other.made).unwrap_or(self.made),
+        }
+    }
 }
 
-// Two counts together, as far as there is room.
-fn together(count: u64, more: u64) -> u64 {
-    if count > 18446744073709551615 - more {
-        return count;
+impl fmt::Display for Tally {
+    fn fmt<W: fmt::Write>(&self, f: &mut fmt::Formatter<W>) -> fmt::Result {
+        write!(f, "planned {} made {}", self.planned, self.made)
     }
-    count + more
 }
 
 // ---- one leaf
 
 // Whether the effects of the action name a variable of the leaf.
-fn names(factors: &[u8], effects: &[u8], action: u8, n: usize, leaf: u8) -> bool
-    requires { (n ≤ 32) × (n ≤ length factors.now) × (length effects.now ≡ 8192) }
+fn names(task: &Task, action: u8, leaf: u8) -> bool
+    requires { Valid task.now }
 {
-    let at = action as usize * 32;
-    for v in 0..n {
-        if factors[v] == leaf {
-            if effects[at + v] != FREE {
-                return true;
-            }
-        }
-    }
-    false
+    let n = task.variables as usize;
+    let row = action as usize * 32;
+    let effects = &task.effects[row..row + n];
+    task.factors[..n]
+        .iter()
+        .zip(effects.iter())
+        .any(|(&factor, &effect)| factor == leaf && effect != FREE)
 }
 
-// A value behind a comma, or without one if it is the first.
-fn print_value(rt: &impl Print, value: u8, first: bool) -> io::Result<()> {
-    if !first {
-        print!(rt; ",")?;
-    }
-    print!(rt; "{value}")
-}
-
-// The values of the leaf's variables.
-fn print_values(
-    rt: &impl Print,
-    factors: &[u8],
-    values: &[u8],
-    n: usize,
-    leaf: u8,
-) -> io::Result<()>
-    requires { (n ≤ length factors.now) × (n ≤ length values.now) }
+// The values of the leaf's variables, with commas between them.
+fn print_values(rt: &impl Print, task: &Task, leaf: u8, values: &[u8; 32]) -> io::Result<()>
+    requires { Valid task.now }
 {
+    let n = task.variables as usize;
     let mut first = true;
-    for v in 0..n {
-        if factors[v] == leaf {
-            print_value(rt, values[v], first)?;
+    for (factor, value) in task.factors[..n].iter().zip(values.iter()) {
+        if *factor == leaf {
+            let comma = if first { "" } else { "," };
+            print!(rt; "{comma}{value}")?;
             first = false;
         }
     }
     Ok(())
 }
 
-// An action's number, as wide as the first column.
-fn print_action(rt: &impl Print, action: u8) -> io::Result<()> {
-    print!(rt; "  {action:<3}      ")
-}
-
-// The line of a move that is planned for the leaf, and the tally with it: made, with the leaf's values before and behind it, or not made.
+// The line of a move that is planned for the leaf: made, with the leaf's values before and behind it, or not made.
 fn print_move(
     rt: &impl Print,
-    factors: &[u8],
-    planned: bool,
-    action: u8,
-    before: &[u8],
-    behind: &[u8],
-    n: usize,
+    task: &Task,
     leaf: u8,
-    made: bool,
-    tally: Tally,
-) -> io::Result<Tally>
-    requires { (n ≤ length factors.now) × (n ≤ length before.now) × (n ≤ length behind.now) }
+    action: u8,
+    before: &[u8; 32],
+    behind: Option<[u8; 32]>,
+) -> io::Result<()>
+    requires { Valid task.now }
 {
-    if !planned {
-        return Ok(tally);
-    }
-    let many = one_more(tally.planned);
-    print_action(rt, action)?;
-    if !made {
-        println!(rt; "not made")?;
-        return Ok(Tally {
-            planned: many,
-            made: tally.made,
-        });
-    }
-    print_values(rt, factors, before, n, leaf)?;
+    print!(rt; "  {action:<3}      ")?;
+    let Some(values) = behind else {
+        return println!(rt; "not made");
+    };
+    print_values(rt, task, leaf, before)?;
     print!(rt; " to ")?;
-    print_values(rt, factors, behind, n, leaf)?;
-    println!(rt)?;
-    Ok(Tally {
-        planned: many,
-        made: one_more(tally.made),
-    })
+    print_values(rt, task, leaf, &values)?;
+    println!(rt)
 }
 
-// Whether the simulation goes on with the action: it has so far, and the action applies to the values, which are then those behind it.
-fn stepped(
-    going: bool,
-    conditions: &[u8],
-    effects: &[u8],
-    actions: usize,
-    n: usize,
-    action: u8,
-    values: &mut [u8],
-) -> bool
-    requires { (n ≤ 32) × (length conditions.now ≡ 8192) × (length effects.now ≡ 8192) × (n ≤ length values.old) }
+// The values behind an action of the task, or `None` where it does not apply to these.
+fn step(task: &Task, action: u8, values: [u8; 32]) -> Option<[u8; 32]>
+    requires { Valid task.now }
 {
-    let a = action as usize;
-    if !going {
-        return false;
+    let n = task.variables as usize;
+    let row = action as usize * 32;
+    if action >= task.actions || !holds(&task.conditions, row, &values, n) {
+        return None;
     }
-    if a >= actions {
-        return false;
-    }
-    if !holds(conditions, a * 32, values, n) {
-        return false;
-    }
-    put(effects, a * 32, values, n);
-    true
+    let mut behind = values;
+    put(&task.effects, row, &mut behind, n);
+    Some(behind)
 }
 
 // The plan carried out from the initial values: a line for each move of the leaf. An action that does not apply ends the simulation.
-fn carry_leaf(
-    rt: &impl Print,
-    factors: &[u8],
-    conditions: &[u8],
-    effects: &[u8],
-    initial: [u8; 32],
-    n: usize,
-    actions: usize,
-    plan: &[u8],
-    leaf: u8,
-) -> io::Result<Tally>
-    requires { (n ≤ 32) × (length factors.now ≡ 32) × (length conditions.now ≡ 8192) × (length effects.now ≡ 8192) }
+fn carry_leaf(rt: &impl Print, task: &Task, plan: &[u8], leaf: u8) -> io::Result<Tally>
+    requires { Valid task.now }
 {
-    let mut tally = Tally {
-        planned: 0,
-        made: 0,
-    };
-    let mut values = initial;
+    let mut tally = Tally::new();
+    let mut values = task.initial;
     let mut going = true;
-    for k in 0..plan.len() {
+    for action in plan {
         let before = values;
-        let action = plan[k];
-        let planned = names(factors, effects, action, n, leaf);
-        going = stepped(going, conditions, effects, actions, n, action, &mut values);
-        tally = print_move(
-            rt, factors, planned, action, &before, &values, n, leaf, going, tally,
-        )?;
+        let behind = if going { step(task, *action, before) } else { None };
+        going = behind.is_some();
+        values = behind.unwrap_or(before);
+        if names(task, *action, leaf) {
+            print_move(rt, task, leaf, *action, &before, behind)?;
+            tally = tally.with_move(going);
+        }
     }
     Ok(tally)
 }
 
 // ---- all leaves
 
-fn print_tally(rt: &impl Print, tally: Tally) -> io::Result<()> {
-    print!(rt; "planned {} made {}", tally.planned, tally.made)
-}
-
 // The columns of each leaf. The moves of all leaves together.
-fn print_leaves(
-    rt: &impl Print,
-    factors: &[u8],
-    conditions: &[u8],
-    effects: &[u8],
-    initial: [u8; 32],
-    n: usize,
-    actions: usize,
-    leaves: u8,
-    plan: &[u8],
-) -> io::Result<Tally>
-    requires { (n ≤ 32) × (length factors.now ≡ 32) × (length conditions.now ≡ 8192) × (length effects.now ≡ 8192) }
+fn print_leaves(rt: &impl Print, task: &Task, plan: &[u8]) -> io::Result<Tally>
+    requires { Valid task.now }
 {
-    let mut sum = Tally {
-        planned: 0,
-        made: 0,
-    };
-    for i in 0..leaves {
-        let number = i as u64 + 1;
-        print!(rt; "leaf {number}\n  planned  made\n")?;
-        let tally = carry_leaf(
-            rt,
-            factors,
-            conditions,
-            effects,
-            initial,
-            n,
-            actions,
-            plan,
-            i + 1,
-        )?;
-        print!(rt; "  ")?;
-        print_tally(rt, tally)?;
-        println!(rt)?;
-        sum = Tally {
-            planned: together(sum.planned, tally.planned),
-            made: together(sum.made, tally.made),
-        };
+    let mut sum = Tally::new();
+    for i in 0..task.leaves {
+        let leaf = i + 1;
+        println!(rt; "leaf {leaf}\n  planned  made")?;
+        let tally = carry_leaf(rt, task, plan, leaf)?;
+        println!(rt; "  {tally}")?;
+        sum = sum.with(tally);
     }
     Ok(sum)
 }
 
-// Whether each action of the plan applies in turn, and the goal holds of the values at the end.
-fn arrives(
-    conditions: &[u8],
-    effects: &[u8],
-    goal: &[u8],
-    initial: [u8; 32],
-    n: usize,
-    actions: usize,
-    plan: &[u8],
-) -> bool
-    requires { (n ≤ 32) × (length conditions.now ≡ 8192) × (length effects.now ≡ 8192) × (length goal.now ≡ 32) }
+// Whether the plan, each of its actions in turn, reaches the task's goal from the initial values.
+fn arrives(task: &Task, plan: &[u8]) -> bool
+    requires { Valid task.now }
 {
-    let mut values = initial;
-    for k in 0..plan.len() {
-        if !stepped(true, conditions, effects, actions, n, plan[k], &mut values) {
+    let mut values = task.initial;
+    for action in plan {
+        let Some(behind) = step(task, *action, values) else {
             return false;
-        }
+        };
+        values = behind;
     }
-    holds(goal, 0, &values, n)
-}
-
-// The columns of a task's leaves.
-fn task_leaves(rt: &impl Print, t: Task, plan: &[u8]) -> io::Result<Tally>
-    requires { Valid t }
-{
-    let factors = t.factors;
-    let conditions = t.conditions;
-    let effects = t.effects;
-    let initial = t.initial;
-    print_leaves(
-        rt,
-        &factors,
-        &conditions,
-        &effects,
-        initial,
-        t.variables as usize,
-        t.actions as usize,
-        t.leaves,
-        plan,
-    )
-}
-
-// Whether the plan, carried out, reaches the task's goal.
-fn task_arrives(t: Task, plan: &[u8]) -> bool
-    requires { Valid t }
-{
-    let conditions = t.conditions;
-    let effects = t.effects;
-    let goal = t.goal;
-    let initial = t.initial;
-    arrives(
-        &conditions,
-        &effects,
-        &goal,
-        initial,
-        t.variables as usize,
-        t.actions as usize,
-        plan,
-    )
+    holds(&task.goal, 0, &values, task.variables as usize)
 }
 
 // The columns of a task's leaves, and the last line.
-fn print_moves(rt: &impl Print, t: Task, plan: &[u8]) -> io::Result<()>
-    requires { Valid t }
+fn print_moves(rt: &impl Print, task: &Task, plan: &[u8]) -> io::Result<()>
+    requires { Valid task.now }
 {
-    let sum = task_leaves(rt, t, plan)?;
-    print!(rt; "all leaves ")?;
-    print_tally(rt, sum)?;
-    if task_arrives(t, plan) {
-        println!(rt; " goal met")
+    let sum = print_leaves(rt, task, plan)?;
+    let met = if arrives(task, plan) {
+        "met"
     } else {
-        println!(rt; " goal not met")
-    }
+        "not met"
+    };
+    println!(rt; "all leaves {sum} goal {met}")
 }
 
 // ---- a record
@@ -326,26 +201,20 @@ fn print_refused(rt: &impl Print, number: u8) -> io::Result<()> {
     println!(rt; "refused {number}")
 }
 
-// The plan's length and cost.
-fn print_plan(rt: &impl Print, s: Solution) -> io::Result<()> {
-    println!(rt; "plan {} cost {}", s.length, s.cost)
-}
-
 // The plan's length and cost, and its moves.
-fn print_solved(rt: &impl Print, t: Task, s: Solution, bytes: &[u8]) -> io::Result<()>
-    requires { Valid t }
+fn print_solved(rt: &impl Print, task: &Task, solution: Solution, bytes: &[u8]) -> io::Result<()>
+    requires { Valid task.now }
 {
-    let end = s.length;
-    if end > bytes.len() {
+    let Some(plan) = bytes.get(..solution.length) else {
         return Ok(());
-    }
-    print_plan(rt, s)?;
-    print_moves(rt, t, &bytes[..end])
+    };
+    println!(rt; "plan {} cost {}", solution.length, solution.cost)?;
+    print_moves(rt, task, plan)
 }
 
 // Plans the task and prints its moves, or why there are none.
-fn run_task(rt: &impl Print, t: Task, rec: &[u8]) -> io::Result<()>
-    requires { Valid t }
+fn run_task(rt: &impl Print, task: &Task, rec: &[u8]) -> io::Result<()>
+    requires { Valid task.now }
 {
     let mut bytes = [0u8; 8192];
     let mut table = [0u64; 131072];
@@ -357,35 +226,18 @@ fn run_task(rt: &impl Print, t: Task, rec: &[u8]) -> io::Result<()>
         &mut table,
     );
     match answer {
-        PlanAnswer::Solved(s, _) => print_solved(rt, t, s, &bytes),
+        PlanAnswer::Solved(solution, _) => print_solved(rt, task, solution, &bytes),
         PlanAnswer::Unsolvable(_) => println!(rt; "unsolvable"),
-        PlanAnswer::Refused(why, _) => print_refused(rt, plan_refusal_number(why)),
+        PlanAnswer::Refused(why, _) => print_refused(rt, u8::from(why)),
     }
 }
 
 // Reads the task that the record writes down and goes on with it.
 fn run_record(rt: &impl Print, rec: &[u8]) -> io::Result<()> {
-    let r = read_record(rec);
-    let v = r.verdict;
-    let t = r.task;
-    match v {
-        Verdict::Accepted => run_task(rt, t, rec),
-        Verdict::Refused(why) => print_refused(rt, fields::number(why)),
+    match read_record(rec) {
+        Ok(task) => run_task(rt, &task, rec),
+        Err(why) => print_refused(rt, u8::from(why)),
     }
-}
-
-// Reads until `buf` is full, the input ends or a read fails, and returns how many bytes it put at the start of `buf`.
-fn read_full(input: &mut impl Read, buf: &mut [u8]) -> usize
-    ensures { result ≤ length buf.new }
-{
-    let mut done = 0;
-    while done < buf.len() {
-        match input.read(&mut buf[done..]) {
-            Ok(0) | Err(_) => break,
-            Ok(n) => done += n,
-        }
-    }
-    done
 }
 
 // The longest record has 19,531 bytes: whatever is longer is refused whatever follows, so one byte more is read and no more.

@@ -17,13 +17,6 @@ use tables::{action_costs, fill_moves, leaf_starts};
 use task::{Centre, Task};
 use words::copy_words;
 
-// Where a path ends: whether all its actions applied, and the last centre state.
-#[derive(Clone, Copy)]
-pub struct Walked {
-    pub ends: bool,
-    pub spot: Centre,
-}
-
 // Whether the path is short enough and each entry is a centre action.
 pub fn path_fits(path: &[u8], kinds: &[u8], actions: usize) -> bool
     requires { (actions ≤ 255) × (length kinds.now ≡ 256) }
@@ -44,7 +37,7 @@ pub fn path_fits(path: &[u8], kinds: &[u8], actions: usize) -> bool
     true
 }
 
-// One centre action of the walk: whether it applies, and where it does the centre state behind it, with the prices behind it at the front of `layer`.
+// One centre action of the walk: the centre state behind it, with the prices behind it at the front of `layer`, or `None` where it does not apply.
 fn advance(
     leaves: usize,
     actions: usize,
@@ -58,7 +51,7 @@ fn advance(
     spot: Centre,
     action: usize,
     layer: &mut [u64],
-) -> Walked
+) -> Option<Centre>
     requires { Sound (board_of leaves actions bases.now moves.now costs.now kinds.now factors conditions.now)
         × (action < actions) × (length effects.now ≡ 8192) × (length layer.old ≡ 1024) }
     ensures { Stepped
@@ -68,7 +61,7 @@ fn advance(
     if !applies(
         leaves, actions, bases, moves, costs, kinds, factors, conditions, spot, layer, action,
     ) {
-        return Walked { ends: false, spot };
+        return None;
     }
     let mut next = [MARK; 1024];
     let behind = spot.after(factors, pairs_of(effects, action));
@@ -78,13 +71,11 @@ fn advance(
     );
     let states = bases[leaves];
     copy_words(&next, layer, states);
-    Walked {
-        ends: true,
-        spot: behind,
-    }
+    Some(behind)
 }
 
-// The layers along the path: where it ends, with the last layer's prices at the front of `layer`, where every state starts as unreachable.
+// The layers along the path: the last centre state, with the last layer's prices at the front of `layer`, where every state starts as unreachable; or
+// `None` where an action does not apply.
 fn walk_path(
     task: Task,
     bases: &[usize],
@@ -94,7 +85,7 @@ fn walk_path(
     starts: &[usize],
     path: &[u8],
     layer: &mut [u64],
-) -> Walked
+) -> Option<Centre>
     requires valid { Valid task }
     requires tabled { Tabled task bases.now moves.now costs.now kinds.now starts.now }
     requires by_index { (k : ℕ) → k < length path.now → get_or path.now k 0 < task.actions }
@@ -122,7 +113,7 @@ fn walk_path(
         layer,
     );
     for k in 0..path.len() {
-        let turn = advance(
+        spot = advance(
             leaves,
             actions,
             bases,
@@ -135,13 +126,9 @@ fn walk_path(
             spot,
             path[k] as usize,
             layer,
-        );
-        if !turn.ends {
-            return turn;
-        }
-        spot = turn.spot;
+        )?;
     }
-    Walked { ends: true, spot }
+    Some(spot)
 }
 
 // The walk, by tables that are made here; `layer` is lent with every state as unreachable.
@@ -151,7 +138,7 @@ pub fn walk_task(
     bases: [usize; 9],
     path: &[u8],
     layer: &mut [u64],
-) -> Walked
+) -> Option<Centre>
     requires valid { Valid task }
     requires kinds { Kinds task kinds × Bases task bases }
     requires by_index { (k : ℕ) → k < length path.now → get_or path.now k 0 < task.actions }

@@ -1,7 +1,8 @@
 // Plans the task whose record stands on standard input, and prints the answer.
 #![tactic(auto)]
 
-use report::{print_answer, read_full};
+use input::read_full;
+use report::print_answer;
 use std::io;
 
 // The longest record has 19,531 bytes: whatever is longer is refused whatever follows, so one byte more is read and no more.

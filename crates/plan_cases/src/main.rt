@@ -3,18 +3,10 @@
 // A record stands there behind its length, which has two bytes, the more significant one first. The end of the input ends the run.
 #![tactic(auto)]
 
-ghost use Rattle.std.specs.Prelude.{◌≤◌};
-
-use report::{print_answer, read_full};
+use input::{read_full, read_length};
+use report::print_answer;
 use std::io;
 use std::io::Read;
-
-// The number that two bytes write, the more significant one first.
-fn joined(high: u8, low: u8) -> usize
-    ensures { result ≤ 65535 }
-{
-    high as usize * 256 + low as usize
-}
 
 // Fills `rec` from the input, prints its answer, and says whether the input had so many bytes.
 fn run_record(rt: &impl Print, input: &mut impl Read, rec: &mut [u8]) -> io::Result<bool> {
@@ -27,13 +19,11 @@ fn run_record(rt: &impl Print, input: &mut impl Read, rec: &mut [u8]) -> io::Res
 
 // Reads the length of a record, prints the record's answer, and says whether there was one.
 fn run_case(rt: &impl Print, input: &mut impl Read) -> io::Result<bool> {
-    let mut two = [0u8; 2];
-    if read_full(input, &mut two) < 2 {
+    let Some(length) = read_length(input) else {
         return Ok(false);
-    }
-    let length = joined(two[0], two[1]);
+    };
     let mut rec = [0u8; 65535];
-    run_record(rt, input, &mut rec[0..length])
+    run_record(rt, input, &mut rec[..length])
 }
 
 fn main(rt: HostRuntime) -> io::Result<()> {

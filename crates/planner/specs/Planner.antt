@@ -6,8 +6,7 @@ pub mod Answers
 use Rattle.std.specs.Prelude.{true, false, ◌&&◌, List, ℕ, ◌+◌, ◌-◌, ◌/◌, min, leb, length}
 use Rattle.task.specs.declared.Task.{Task}
 use Rattle.task.specs.Factors.{all_states}
-use Rattle.whole.specs.declared.Verdict.{Verdict}
-use Rattle.whole.specs.declared.Verdict.TheVariants.{Accepted, Refused as NotAccepted}
+use Rattle.whole.specs.Verdict.{Verdict, Accepted, Refused as NotAccepted}
 use Rattle.record.specs.Record.{verdict_number, read_record}
 use Rattle.answers.specs.declared.Counts.{Counts}
 use Rattle.answers.specs.declared.PlanRefusal.TheVariants.{InRecord, NodesWrong, TableShort}

@@ -14,7 +14,6 @@ use record::read_record;
 use solve::search_task;
 use tables::leaf_bases;
 use task::Task;
-use whole::Verdict;
 
 // The answer for a task that the reader accepted: 20, 21, then the search.
 fn plan_task(task: Task, nodes: u32, budget: u32, plan: &mut [u8], table: &mut [u64]) -> PlanAnswer
@@ -76,18 +75,15 @@ pub fn plan(
     ensures untouched { Untouched plan.old plan.new (plan_told result) }
     ensures zeroed { Zeroed (table_words (read_record «record».now).task nodes) table.old table.new (plan_told result) }
 {
-    let r = read_record(record);
-    let v = r.verdict;
-    let t = r.task;
-    match v {
-        Verdict::Refused(why) => PlanAnswer::Refused(
-            PlanRefusal::InRecord(why),
+    match read_record(record) {
+        Ok(task) => plan_task(task, nodes, budget, plan, table),
+        Err(why) => PlanAnswer::Refused(
+            PlanRefusal::from(why),
             Counts {
                 expanded: 0,
                 kept: 0,
             },
         ),
-        Verdict::Accepted => plan_task(t, nodes, budget, plan, table),
     }
 }
 
@@ -95,11 +91,8 @@ pub fn plan(
 pub fn fitting_nodes(record: &[u8], words: usize) -> u32
     ensures { result ≡ record_nodes «record».now words }
 {
-    let r = read_record(record);
-    let v = r.verdict;
-    let t = r.task;
-    match v {
-        Verdict::Refused(why) => 0,
-        Verdict::Accepted => task_nodes(t, words),
+    match read_record(record) {
+        Ok(task) => task_nodes(task, words),
+        Err(_) => 0,
     }
 }

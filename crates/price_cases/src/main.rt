@@ -10,7 +10,8 @@
 
 ghost use Rattle.std.specs.Prelude.{◌≡◌, ◌<◌, ◌≤◌, length};
 
-use answers::{PriceAnswer, PriceRefusal, price_refusal_number};
+use answers::PriceRefusal;
+use input::{read_full, read_length};
 use pricer::prices;
 use std::io;
 use std::io::Read;
@@ -28,7 +29,7 @@ const MOST: usize = 1100;
 const ALL: usize = 1116;
 
 // The price of an unreachable state.
-const UNREACHABLE: u64 = 18446744073709551615;
+const UNREACHABLE: u64 = u64::MAX;
 
 // A checksum with one price more. The old sum counts 257 times, so that it matters where a price stands.
 fn with_price(sum: u64, x: u64) -> u64
@@ -131,7 +132,7 @@ fn print_answered(rt: &impl Print, words: &[u64; 1116], count: usize) -> io::Res
 // The rest of a refused call's line.
 fn print_refused(rt: &impl Print, words: &[u64; 1116], why: PriceRefusal) -> io::Result<()> {
     print!(rt; " refused")?;
-    print_number(rt, price_refusal_number(why) as u64)?;
+    print_number(rt, u64::from(u8::from(why)))?;
     print_kept(rt, same(words, 0, ALL))
 }
 
@@ -145,30 +146,9 @@ fn run_call(rt: &impl Print, number: u64, rec: &[u8], path: &[u8], lent: usize) 
     let answer = prices(rec, path, &mut words[8..end]);
     print!(rt; "{number}")?;
     match answer {
-        PriceAnswer::Prices(count) => print_answered(rt, &words, count),
-        PriceAnswer::Refused(why) => print_refused(rt, &words, why),
+        Ok(count) => print_answered(rt, &words, count),
+        Err(why) => print_refused(rt, &words, why),
     }
-}
-
-// The number that two bytes write, the more significant one first.
-fn joined(high: u8, low: u8) -> usize
-    ensures { result ≤ 65535 }
-{
-    high as usize * 256 + low as usize
-}
-
-// Reads until `buf` is full, the input ends or a read fails, and returns how many bytes it put at the start of `buf`.
-fn read_full(input: &mut impl Read, buf: &mut [u8]) -> usize
-    ensures { result ≤ length buf.new }
-{
-    let mut done = 0;
-    while done < buf.len() {
-        match input.read(&mut buf[done..]) {
-            Ok(0) | Err(_) => break,
-            Ok(n) => done += n,
-        }
-    }
-    done
 }
 
 // Fills `path` from the input, reads the number of words to lend, runs the call, and answers whether the input had all of it.
@@ -182,11 +162,9 @@ fn run_path(
     if read_full(input, path) < path.len() {
         return Ok(false);
     }
-    let mut two = [0u8; 2];
-    if read_full(input, &mut two) < 2 {
+    let Some(lent) = read_length(input) else {
         return Ok(false);
-    }
-    let lent = joined(two[0], two[1]);
+    };
     if lent > MOST {
         return Ok(false);
     }
@@ -204,24 +182,20 @@ fn run_record(
     if read_full(input, rec) < rec.len() {
         return Ok(false);
     }
-    let mut two = [0u8; 2];
-    if read_full(input, &mut two) < 2 {
+    let Some(length) = read_length(input) else {
         return Ok(false);
-    }
-    let length = joined(two[0], two[1]);
+    };
     let mut path = [0u8; 65535];
-    run_path(rt, input, number, rec, &mut path[0..length])
+    run_path(rt, input, number, rec, &mut path[..length])
 }
 
 // Reads the length of a record, goes on with the record, and answers whether there was a whole call.
 fn run_case(rt: &impl Print, input: &mut impl Read, number: u64) -> io::Result<bool> {
-    let mut two = [0u8; 2];
-    if read_full(input, &mut two) < 2 {
+    let Some(length) = read_length(input) else {
         return Ok(false);
-    }
-    let length = joined(two[0], two[1]);
+    };
     let mut rec = [0u8; 65535];
-    run_record(rt, input, number, &mut rec[0..length])
+    run_record(rt, input, number, &mut rec[..length])
 }
 
 fn main(rt: HostRuntime) -> io::Result<()> {

@@ -13,13 +13,12 @@ ghost use Rattle.price.specs.Demand.{PathDecided, Priced, PricesUntouched};
 ghost use Rattle.answers.specs.Told.{price_told};
 ghost use Rattle.pricer.specs.Pricer.{Outcome, at_end, task_prices, prices_of, call_on, price_in};
 
-use answers::{PriceAnswer, PriceRefusal};
+use answers::PriceRefusal;
 use leaf::MARK;
 use paths::{path_fits, walk_task};
 use record::read_record;
 use tables::{action_kinds, leaf_bases};
 use task::Task;
-use whole::Verdict;
 use words::copy_words;
 
 // The prices of a task that the reader accepted, on a path that fits and a slice that is long enough.
@@ -29,25 +28,22 @@ fn price_path(
     bases: [usize; 9],
     path: &[u8],
     out: &mut [u64],
-) -> PriceAnswer
+) -> Result<usize, PriceRefusal>
     requires valid { Valid task }
     requires kinds { Kinds task kinds × Bases task bases }
     requires by_index { ((k : ℕ) → k < length path.now → get_or path.now k 0 < task.actions) × (all_states task ≤ length out.old) }
     ensures { ◌≡◌ {A = Outcome} (record { answer = result; words = out.new }) (at_end task out.old (walk task (first_layer task) path.now)) }
 {
     let mut layer = [MARK; 1024];
-    let w = walk_task(task, kinds, bases, path, &mut layer);
-    if !w.ends {
-        return PriceAnswer::Refused(PriceRefusal::NotApplicable);
-    }
+    walk_task(task, kinds, bases, path, &mut layer).ok_or(PriceRefusal::NotApplicable)?;
     let leaves = task.leaves as usize;
     let states = bases[leaves];
     copy_words(&layer, out, states);
-    PriceAnswer::Prices(states)
+    Ok(states)
 }
 
 // The prices of a task that the reader accepted: 12, 21, 13.
-fn price_task(task: Task, path: &[u8], out: &mut [u64]) -> PriceAnswer
+fn price_task(task: Task, path: &[u8], out: &mut [u64]) -> Result<usize, PriceRefusal>
     requires { Valid task }
     ensures { ◌≡◌ {A = Outcome} (record { answer = result; words = out.new }) (task_prices task path.now out.old) }
 {
@@ -58,16 +54,16 @@ fn price_task(task: Task, path: &[u8], out: &mut [u64]) -> PriceAnswer
     let states = bases[leaves];
     let fits = path_fits(path, &kinds, actions);
     if !fits {
-        return PriceAnswer::Refused(PriceRefusal::PathWrong);
+        return Err(PriceRefusal::PathWrong);
     }
     if out.len() < states {
-        return PriceAnswer::Refused(PriceRefusal::SliceShort);
+        return Err(PriceRefusal::SliceShort);
     }
     price_path(task, kinds, bases, path, out)
 }
 
 // The prices after a path of centre actions, one byte each: S words of `out`, leaf 1 first; or one refusal, and `out` as it was.
-pub fn prices(record: &[u8], path: &[u8], out: &mut [u64]) -> PriceAnswer
+pub fn prices(record: &[u8], path: &[u8], out: &mut [u64]) -> Result<usize, PriceRefusal>
     ensures answer { ◌≡◌ {A = Outcome} (record { answer = result; words = out.new })
         (prices_of «record».now path.now out.old) }
     ensures decided { PathDecided (call_on «record».now path.now out.old) (price_told result).number }
@@ -76,11 +72,6 @@ pub fn prices(record: &[u8], path: &[u8], out: &mut [u64]) -> PriceAnswer
     ensures untouched { PricesUntouched (call_on «record».now path.now out.old) out.new (price_told result).number }
     ensures count { (price_told result).number ≡ 0 → (price_told result).count ≡ all_states (read_record «record».now).task }
 {
-    let r = read_record(record);
-    let v = r.verdict;
-    let t = r.task;
-    match v {
-        Verdict::Refused(why) => PriceAnswer::Refused(PriceRefusal::InRecord(why)),
-        Verdict::Accepted => price_task(t, path, out),
-    }
+    let task = read_record(record)?;
+    price_task(task, path, out)
 }

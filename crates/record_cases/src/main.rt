@@ -5,14 +5,13 @@
 // arrays, in their order in the task; the line of a refused one has the refusal's number.
 #![tactic(auto)]
 
-ghost use Rattle.std.specs.Prelude.{◌<◌, ◌≤◌, length};
+ghost use Rattle.std.specs.Prelude.{◌<◌};
 
-use fields::Refusal;
+use input::{read_full, read_length};
 use record::read_record;
 use std::io;
 use std::io::Read;
 use task::Task;
-use whole::Verdict;
 
 // Checksums are remainders by this prime.
 const PRIME: u64 = 1000003;
@@ -25,25 +24,11 @@ fn with_entry(sum: u64, x: u16) -> u64
     (sum * 257 + x as u64) % PRIME
 }
 
-// A byte as a number of 16 bits.
-fn wide(x: u8) -> u16 {
-    x as u16
-}
-
-// The checksum of an array of bytes.
-fn sum_of_bytes(a: &[u8]) -> u64 {
+// The checksum of an array, whose entries are numbers of at most 16 bits.
+fn checksum<T: Copy + Into<u16>>(entries: &[T]) -> u64 {
     let mut sum: u64 = 0;
-    for i in 0..a.len() {
-        sum = with_entry(sum, wide(a[i]));
-    }
-    sum
-}
-
-// The checksum of an array of numbers of 16 bits.
-fn sum_of_words(a: &[u16]) -> u64 {
-    let mut sum: u64 = 0;
-    for i in 0..a.len() {
-        sum = with_entry(sum, a[i]);
+    for x in entries {
+        sum = with_entry(sum, (*x).into());
     }
     sum
 }
@@ -53,76 +38,27 @@ fn print_number(rt: &impl Print, n: u64) -> io::Result<()> {
     print!(rt; " {n}")
 }
 
-// The checksum of what the task has for each variable.
-fn print_values(rt: &impl Print, values: [u8; 32]) -> io::Result<()> {
-    print_number(rt, sum_of_bytes(&values))
-}
-
-// The checksum of what the task has for each action.
-fn print_costs(rt: &impl Print, costs: [u16; 256]) -> io::Result<()> {
-    print_number(rt, sum_of_words(&costs))
-}
-
-// The checksum of what the task has for each action and variable.
-fn print_pairs(rt: &impl Print, pairs: [u8; 8192]) -> io::Result<()> {
-    print_number(rt, sum_of_bytes(&pairs))
-}
-
-fn print_accepted(rt: &impl Print, t: Task) -> io::Result<()> {
-    print!(rt; " accepted")?;
-    print_number(rt, t.variables as u64)?;
-    print_number(rt, t.leaves as u64)?;
-    print_number(rt, t.actions as u64)?;
-    print!(rt; " sums")?;
-    print_values(rt, t.sizes)?;
-    print_values(rt, t.factors)?;
-    print_values(rt, t.initial)?;
-    print_values(rt, t.goal)?;
-    print_costs(rt, t.handling)?;
-    print_costs(rt, t.distance)?;
-    print_pairs(rt, t.conditions)?;
-    print_pairs(rt, t.effects)
-}
-
-fn print_refused(rt: &impl Print, why: Refusal) -> io::Result<()> {
-    print!(rt; " refused")?;
-    print_number(rt, fields::number(why) as u64)
+// The rest of the line of an accepted record.
+fn print_accepted(rt: &impl Print, t: &Task) -> io::Result<()> {
+    print!(rt; " accepted {} {} {} sums", t.variables, t.leaves, t.actions)?;
+    print_number(rt, checksum(&t.sizes))?;
+    print_number(rt, checksum(&t.factors))?;
+    print_number(rt, checksum(&t.initial))?;
+    print_number(rt, checksum(&t.goal))?;
+    print_number(rt, checksum(&t.handling))?;
+    print_number(rt, checksum(&t.distance))?;
+    print_number(rt, checksum(&t.conditions))?;
+    print_number(rt, checksum(&t.effects))
 }
 
 // The line of one byte string.
 fn print_answer(rt: &impl Print, number: u64, rec: &[u8]) -> io::Result<()> {
     print!(rt; "{number}")?;
-    let r = read_record(rec);
-    let v = r.verdict;
-    match v {
-        Verdict::Accepted => {
-            let t = r.task;
-            print_accepted(rt, t)?;
-        }
-        Verdict::Refused(why) => print_refused(rt, why)?,
+    match read_record(rec) {
+        Ok(task) => print_accepted(rt, &task)?,
+        Err(why) => print!(rt; " refused {}", u8::from(why))?,
     }
     println!(rt)
-}
-
-// The number that two bytes write, the more significant one first.
-fn joined(high: u8, low: u8) -> usize
-    ensures { result ≤ 65535 }
-{
-    high as usize * 256 + low as usize
-}
-
-// Reads until `buf` is full, the input ends or a read fails, and returns how many bytes it put at the start of `buf`.
-fn read_full(input: &mut impl Read, buf: &mut [u8]) -> usize
-    ensures { result ≤ length buf.new }
-{
-    let mut done = 0;
-    while done < buf.len() {
-        match input.read(&mut buf[done..]) {
-            Ok(0) | Err(_) => break,
-            Ok(n) => done += n,
-        }
-    }
-    done
 }
 
 // Fills `rec` from the input, prints its line, and answers whether the input had so many bytes.
@@ -141,13 +77,11 @@ fn run_record(
 
 // Reads the length of a byte string, runs the reader over it, and answers whether there was one.
 fn run_case(rt: &impl Print, input: &mut impl Read, number: u64) -> io::Result<bool> {
-    let mut two = [0u8; 2];
-    if read_full(input, &mut two) < 2 {
+    let Some(length) = read_length(input) else {
         return Ok(false);
-    }
-    let length = joined(two[0], two[1]);
+    };
     let mut rec = [0u8; 65535];
-    run_record(rt, input, number, &mut rec[0..length])
+    run_record(rt, input, number, &mut rec[..length])
 }
 
 fn main(rt: HostRuntime) -> io::Result<()> {

@@ -4,44 +4,19 @@
 // Prints the plan's length, its cost and the counts, then an action to a line; or one line that says why there is no plan.
 #![tactic(auto)]
 
-ghost use Rattle.std.specs.Prelude.{◌≤◌, length};
-
-use answers::{Counts, PlanAnswer, PlanRefusal, Solution, plan_refusal_number};
+use answers::{Counts, PlanAnswer, PlanRefusal, Solution};
 use planner::{fitting_nodes, plan};
 use std::io;
-use std::io::Read;
-
-// Reads until `buf` is full, the input ends or a read fails, and returns how many bytes it put at the start of `buf`.
-pub fn read_full(input: &mut impl Read, buf: &mut [u8]) -> usize
-    ensures { result ≤ length buf.new }
-{
-    let mut done = 0;
-    while done < buf.len() {
-        match input.read(&mut buf[done..]) {
-            Ok(0) | Err(_) => break,
-            Ok(n) => done += n,
-        }
-    }
-    done
-}
 
 // The counts, and the end of the line.
 fn print_counts(rt: &impl Print, counts: Counts) -> io::Result<()> {
     println!(rt; " expanded {} kept {}", counts.expanded, counts.kept)
 }
 
-// An action on a line of its own, where it belongs to the plan.
-fn print_action(rt: &impl Print, action: u8, shown: bool) -> io::Result<()> {
-    if shown {
-        println!(rt; "{action}")?;
-    }
-    Ok(())
-}
-
-// The first `length` bytes, as far as there are.
+// The plan's actions, each on a line of its own.
 fn print_actions(rt: &impl Print, plan: &[u8], length: usize) -> io::Result<()> {
-    for k in 0..plan.len() {
-        print_action(rt, plan[k], k < length)?;
+    for action in plan.iter().take(length) {
+        println!(rt; "{action}")?;
     }
     Ok(())
 }
@@ -58,7 +33,7 @@ fn print_unsolvable(rt: &impl Print, counts: Counts) -> io::Result<()> {
 }
 
 fn print_refused(rt: &impl Print, why: PlanRefusal, counts: Counts) -> io::Result<()> {
-    let number = plan_refusal_number(why);
+    let number = u8::from(why);
     print!(rt; "refused {number}")?;
     print_counts(rt, counts)
 }

@@ -12,7 +12,7 @@ pub returns : goal.returns
 returns c =
     let s = c.args in
     let q = c.plan.ensures.answer in
-    let t = c.plan_told-t.ensures in
+    let t = c.from-outcome.ensures in
     let number = ap (λ (x : Told). x.number) t ∙ ap (λ (o : Outcome). (plan_told o.answer).number) q in
     let bytes = ap (λ (o : Outcome). o.plan) q in
     let words = ap (λ (o : Outcome). o.words) q in

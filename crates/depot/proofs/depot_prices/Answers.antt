@@ -10,6 +10,6 @@ pub returns : goal.returns
 returns c =
     let s = c.args in
     let q = c.prices.ensures.answer in
-    let number = ap (λ (x : PricesTold). x.number) c.price_told-told.ensures ∙ ap (λ (o : Outcome). (price_told o.answer).number) q in
+    let number = ap (λ (x : PricesTold). x.number) c.from-told.ensures ∙ ap (λ (o : Outcome). (price_told o.answer).number) q in
     let words = ap (λ (o : Outcome). o.words) q in
     record { number = number; words = words; demands = rw (number, words) (record_meets s.«record».now s.path.now s.prices.now) }

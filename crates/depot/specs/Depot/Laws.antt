@@ -11,8 +11,7 @@ use Rattle.task.specs.Valid.{Valid}
 use Rattle.task.specs.Star.{number_lt}
 use Rattle.fields.specs.Answers.Laws.{record_number}
 use Rattle.fields.specs.declared.Refusal.{Refusal}
-use Rattle.whole.specs.declared.Verdict.{Verdict}
-use Rattle.whole.specs.declared.Verdict.TheVariants.{Accepted, Refused as NotAccepted}
+use Rattle.whole.specs.Verdict.{Verdict, Accepted, Refused as NotAccepted}
 use Rattle.record.specs.Record.{verdict_number, read_record}
 use Rattle.record.specs.Record.Laws.{accepted_valid}
 use Rattle.answers.specs.declared.Told.{Told}

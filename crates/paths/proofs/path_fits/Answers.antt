@@ -1,4 +1,4 @@
-use Rattle.std.proofs.Common.{◌-◌, refl, true, arith, get_or, lt-ltb, eq-eqb}
+use Rattle.std.proofs.Common.{refl, arith, get_or, lt-ltb, eq-eqb}
 use Rattle.loops.specs.Count.{all}
 use Rattle.loops.specs.Count.Laws.{and_in, all_more}
 use Rattle.paths.specs.Paths.{entry_by}

@@ -1,6 +1,5 @@
-use Rattle.std.proofs.Common.{◌-◌, ◌≡◌, refl, ap, sym, ◌∙◌, false, arith, length, get_or, drop, rules}
+use Rattle.std.proofs.Common.{◌≡◌, refl, ap, sym, ◌∙◌, arith, length, get_or, drop, rules}
 use lib.ListN.{length-replicate}
-use borrow.Author.Tests.{not-true, not-false}
 use Rattle.task.specs.Meaning.{factor, initial}
 use Rattle.task.specs.Centre.{centre_after}
 use Rattle.task.specs.Star.{initial_centre}
@@ -52,32 +51,31 @@ slice_bounds-advance-end-in-loop-k c =
 pub overflow_cast-path : goal.overflow_cast-path
 overflow_cast-path c = omega (arith, c.type_inv.path c.loop-k.k)
 
-pub advance-turn-requires : goal.advance-turn-requires
-advance-turn-requires c =
+pub advance-requires : goal.advance-requires
+advance-requires c =
     let board : Board = let a = c.args in board_of a.task.leaves a.task.actions a.bases.now a.moves.now a.costs.now a.kinds.now a.task.factors a.task.conditions in
     let lists : let t = c.args.task in (length t.factors ≡ 32) × (length t.conditions ≡ 8192) × (length t.effects ≡ 8192) = (search rules, search rules, search rules) in
     let fit : Fits c.args.task board × Sound board = let a = c.args in let h = c.requires.tabled in tables_fit a.task c.requires.valid a.bases.now a.moves.now a.costs.now a.kinds.now h.is_bases h.is_moves h.is_costs h.is_kinds h.long_moves lists.0 lists.1 in
     (fit.1, c.requires.by_index c.loop-k.k (omega arith), lists.2, c.loop-k.invariant.2)
 
-pub shape_of-layer-then-not-turn : goal.shape_of-layer-then-not-turn
-shape_of-layer-then-not-turn c =
+pub shape_of-layer-in_err-spot : goal.shape_of-layer-in_err-spot
+shape_of-layer-in_err-spot c =
     let long : length c.args.layer.now ≡ 1024 = ap length c.requires.layer_value ∙ length-replicate 1024 mark in
-    let kept : length c.advance-turn.new.layer ≡ length c.loop-k.layer = c.advance-turn.auto.layer in
+    let kept : length c.advance.new.layer ≡ length c.loop-k.layer = c.advance.auto.layer in
     kept ∙ c.loop-k.invariant.2 ∙ sym long
 
-pub returns-then-not-turn : goal.returns-then-not-turn
-returns-then-not-turn c =
+pub returns-in_err-spot : goal.returns-in_err-spot
+returns-in_err-spot c =
     let board : Board = let a = c.args in board_of a.task.leaves a.task.actions a.bases.now a.moves.now a.costs.now a.kinds.now a.task.factors a.task.conditions in
     let lists : let t = c.args.task in (length t.factors ≡ 32) × (length t.conditions ≡ 8192) × (length t.effects ≡ 8192) = (search rules, search rules, search rules) in
     let fit : Fits c.args.task board × Sound board = let a = c.args in let h = c.requires.tabled in tables_fit a.task c.requires.valid a.bases.now a.moves.now a.costs.now a.kinds.now h.is_bases h.is_moves h.is_costs h.is_kinds h.long_moves lists.0 lists.1 in
     let begins : let t = c.args.task in front t c.after-spot.result c.first_layer.new.new ≡ first_layer t = let t = c.args.task in walk_first t board fit.0 c.args.starts.now c.after-spot.result (drop (get_or c.args.bases.now t.leaves 0) c.args.layer.now) c.first_layer.new.new c.requires.tabled.is_starts.is (c.after-spot.ensures ∙ ap (centre_after (factor t) (initial t)) c.blank.ensures ∙ initial_centre t c.requires.valid) c.first_layer.ensures in
     let t = c.args.task in
     let w = fit in
-    let e : c.advance-turn.result.ends ≡ false = not-true _ c.if-not-turn.true in
-    rw e
+    rw c.from_residual.ensures
     (along_stuck board t.effects c.args.path.now c.after-spot.result c.first_layer.new.new c.loop-k.spot c.loop-k.layer c.loop-k.k
-    c.advance-turn.result c.advance-turn.new.layer (omega (arith, c.loop-k-test.true, c.loop-k.invariant.1)) (c.requires.by_index c.loop-k.k (omega (arith, c.loop-k-test.true, c.loop-k.invariant.1)))
-    c.advance-turn.ensures c.loop-k.invariant.3 e t w.0 refl
+    c.advance.new.layer (omega (arith, c.loop-k-test.true, c.loop-k.invariant.1)) (c.requires.by_index c.loop-k.k (omega (arith, c.loop-k-test.true, c.loop-k.invariant.1)))
+    c.loop-k.invariant.3 c.in_err-spot.ensures t w.0 refl
     ∙ ap (λ m. walk t m c.args.path.now) begins)
 
 pub overflow_step-k : goal.overflow_step-k
@@ -87,13 +85,13 @@ pub loop-k-preserved : goal.loop-k-preserved
 loop-k-preserved c =
     let board : Board = let a = c.args in board_of a.task.leaves a.task.actions a.bases.now a.moves.now a.costs.now a.kinds.now a.task.factors a.task.conditions in
     let t = c.args.task in
-    let kept : length c.advance-turn.new.layer ≡ length c.loop-k.layer = c.advance-turn.auto.layer in (
+    let kept : length c.advance.new.layer ≡ length c.loop-k.layer = c.advance.auto.layer in (
       omega (arith, c.loop-k-test.true, c.loop-k.invariant.1),
       c.loop-k.invariant.1,
       kept ∙ c.loop-k.invariant.2,
       along_more board t.effects c.args.path.now c.after-spot.result c.first_layer.new.new c.loop-k.spot c.loop-k.layer c.loop-k.k
-          c.advance-turn.result c.advance-turn.new.layer (omega (arith, c.loop-k-test.true, c.loop-k.invariant.1)) (c.requires.by_index c.loop-k.k (omega (arith, c.loop-k-test.true, c.loop-k.invariant.1)))
-          c.advance-turn.ensures c.loop-k.invariant.3 (not-false _ c.if-not-turn.false),
+          c.advance.new.layer (omega (arith, c.loop-k-test.true, c.loop-k.invariant.1)) (c.requires.by_index c.loop-k.k (omega (arith, c.loop-k-test.true, c.loop-k.invariant.1)))
+          c.loop-k.invariant.3 _ c.in_ok-spot.ensures,
     )
 
 pub shape_of-layer : goal.shape_of-layer

@@ -1,6 +1,5 @@
 -- `paths::walk_path` meets its contract: what is left of the path goes from the layer where the whole goes from the first. Assumes nothing.
 use Rattle.std.proofs.Common.{◌≤◌, ◌-◌, ◌≡◌, length}
-use Rattle.task.specs.Meaning.{initial}
 use Rattle.layer.specs.Lent.{board_of}
 use Rattle.paths.specs.Paths.Laws.{AlongBy}
 use Rattle.paths.proofs.walk_path.Given as goal

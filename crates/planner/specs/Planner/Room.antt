@@ -9,8 +9,7 @@ use Rattle.loops.specs.Count.Laws.{and_out}
 use Rattle.task.specs.declared.Task.{Task}
 use Rattle.task.specs.Factors.{all_states}
 use Rattle.task.specs.Valid.{Valid}
-use Rattle.whole.specs.declared.Verdict.{Verdict}
-use Rattle.whole.specs.declared.Verdict.TheVariants.{Accepted, Refused as NotAccepted}
+use Rattle.whole.specs.Verdict.{Verdict, Accepted, Refused as NotAccepted}
 use Rattle.record.specs.Record.{read_record}
 use Rattle.record.specs.Record.Laws.{accepted_valid}
 use Rattle.search.specs.Explore.{Search, Reason, finished, tableFull, budgetSpent, explored}

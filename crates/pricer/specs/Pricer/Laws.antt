@@ -1,5 +1,5 @@
 -- Laws of the pricer: the test of the path, the answers step by step, and what they say of sequences. Assumes nothing.
-use Rattle.std.specs.Prelude.{◌≡◌, ◌&&◌, List, ◌++◌, length, get_or, take, drop}
+use Rattle.std.specs.Prelude.{◌≡◌, ◌&&◌, Option, Some, None, Result, Ok, Err, List, ◌++◌, length, get_or, take, drop}
 use Rattle.std.proofs.Math.Path.{refl, sym, ap}
 use Rattle.std.proofs.Common.{◌∙◌, inl, inr, true≢false, arith, get_or-take, drop_at}
 use Rattle.std.proofs.Math.Bool.{Bool, true, false}
@@ -11,6 +11,7 @@ use borrow.Author.Tests.{ltb-true, lt-ltb, lt-leb, le-leb, leb-true, leb-false}
 use Rattle.loops.specs.Count.{all, sum}
 use Rattle.loops.specs.Count.Laws.{and_in, and_out, all_out, all_fails, all_ext, sum_ext}
 use Rattle.task.specs.declared.Task.{Task}
+use Rattle.task.specs.declared.Centre.{Centre}
 use Rattle.task.specs.Meaning.{initial}
 use Rattle.task.specs.Factors.{centre_action, states, all_states, leaf_cost}
 use Rattle.task.specs.Valid.{Valid}
@@ -18,9 +19,8 @@ use Rattle.task.specs.Star.{number_lt}
 use Rattle.fields.specs.Answers.Laws.{record_number}
 use Rattle.fields.specs.declared.Refusal.{Refusal}
 use Rattle.fields.specs.Answers.{number_of}
-use Rattle.whole.specs.declared.Verdict.{Verdict}
-use Rattle.whole.specs.declared.Verdict.TheVariants.{Accepted, Refused as NotAccepted}
-use Rattle.record.specs.Record.{verdict_number, read_record}
+use Rattle.whole.specs.Verdict.{Verdict, Accepted, Refused}
+use Rattle.record.specs.Record.{verdict_number, read_told, read_record}
 use Rattle.record.specs.Record.Laws.{accepted_valid}
 use Rattle.leaf.specs.Price.{mark}
 use Rattle.layer.specs.Layer.{base, leaf_part}
@@ -31,10 +31,7 @@ use Rattle.price.specs.Prices.{Centred}
 use Rattle.price.specs.Sequences.{final_inside}
 use Rattle.price.specs.Demand.{EndsAt, Choice, NoSequence, SomeSequence, Priced, PathCall, PathOutside, PathFits, PathAccepted, PathDecided, PricesUntouched, PathMeets}
 use Rattle.price.specs.Demand2.{walk_stuck, walk_priced, walk_full, walk_some}
-use Rattle.paths.specs.declared.Walked.{Walked}
 use Rattle.paths.specs.Paths.{entry_by, fits_by, walked}
-use Rattle.answers.specs.declared.PriceAnswer.{PriceAnswer}
-use Rattle.answers.specs.declared.PriceAnswer.TheVariants.{Prices, Refused}
 use Rattle.answers.specs.declared.PriceRefusal.{PriceRefusal}
 use Rattle.answers.specs.declared.PriceRefusal.TheVariants.{InRecord as PriceInRecord, PathWrong, SliceShort, NotApplicable}
 use Rattle.answers.specs.Told.{price_refusal_number, price_told}
@@ -105,15 +102,15 @@ module _ (t : Task) (path out : List ℕ) where
   unfolding task_prices
   task_end e h q = rw (e, le-leb (all_states t) (length out) h) q
 
-module _ (t : Task) (out : List ℕ) (w : Walked) where
+module _ (t : Task) (out : List ℕ) where
   -- 13
-  pub end_stuck : (P : List ℕ) (n : End) → walked w P ≡ n → w.ends ≡ false → refuse NotApplicable out ≡ at_end t out n
-  end_stuck P n f e = rw (← f, e)
+  pub end_stuck : (P : List ℕ) (n : End) → walked None P ≡ n → refuse NotApplicable out ≡ at_end t out n
+  end_stuck P n f = rw (← f)
 
   -- prices
-  pub end_prices : (L ws : List ℕ) (n : End) (s : ℕ) → walked w (take (all_states t) L) ≡ n → w.ends ≡ true → s ≡ all_states t → ws ≡ take s L ++ drop s out
-      → ◌≡◌ {A = Outcome} (record { answer = Prices s; words = ws }) (at_end t out n)
-  end_prices L ws n s f e q h = rw (← f, e, h, q)
+  pub end_prices : (spot : Centre) (L ws : List ℕ) (n : End) (s : ℕ) → walked (Some spot) (take (all_states t) L) ≡ n → s ≡ all_states t
+      → ws ≡ take s L ++ drop s out → ◌≡◌ {A = Outcome} (record { answer = Ok s; words = ws }) (at_end t out n)
+  end_prices spot L ws n s f q h = rw (← f, h, q)
 
 -- ---- what the words say
 
@@ -260,10 +257,10 @@ module _ (t : Task) (ok : Valid t) (path out : List ℕ) where
       go false f b g = refused_meets c PathWrong (λ x. absurd (omega arith)) (wrong_decided c refl (fits_out t path f))
 
 -- how many prices are written
-abbrev Counted : Task → PriceAnswer → Type 0
+abbrev Counted : Task → Result ℕ PriceRefusal → Type 0
 Counted t a = (price_told a).number ≡ 0 → (price_told a).count ≡ all_states t
 
-refused_count : (t : Task) (why : PriceRefusal) → (price_refusal_number why ≡ 0 → ⊥) → Counted t (Refused why)
+refused_count : (t : Task) (why : PriceRefusal) → (price_refusal_number why ≡ 0 → ⊥) → Counted t (Err why)
 refused_count t why n e = absurd (n e)
 
 task_count : (t : Task) (path out : List ℕ) → Counted t (task_prices t path out).answer
@@ -287,7 +284,7 @@ module _ (rec path out : List ℕ) where
 
       go : (v : Verdict) → (read_record rec).verdict ≡ v → Met (record { verdict = verdict_number v; task = t; path = path; out = out }) (on_verdict v t path out)
       go Accepted e = task_meets t (accepted_valid rec e) path out
-      go (NotAccepted why) e =
+      go (Refused why) e =
           refused_meets _ (PriceInRecord why) (λ x. absurd (omega (arith, (record_number why).0))) (record_decided _ why refl)
 
   record_count : Counted (read_record rec).task (prices_of rec path out).answer
@@ -296,20 +293,20 @@ module _ (rec path out : List ℕ) where
     where
       go : (v : Verdict) → Counted (read_record rec).task (on_verdict v (read_record rec).task path out).answer
       go Accepted = task_count (read_record rec).task path out
-      go (NotAccepted why) = refused_count (read_record rec).task (PriceInRecord why) (λ x. absurd (omega (arith, (record_number why).0)))
+      go (Refused why) = refused_count (read_record rec).task (PriceInRecord why) (λ x. absurd (omega (arith, (record_number why).0)))
 
   -- a refused record
-  pub record_refused : {why : Refusal} → (read_record rec).verdict ≡ NotAccepted why → refuse (PriceInRecord why) out ≡ prices_of rec path out
+  pub record_refused : {why : Refusal} → read_told (Err why) ≡ read_record rec → refuse (PriceInRecord why) out ≡ prices_of rec path out
   unfolding prices_of
-  record_refused e = rw e
+  record_refused e = rw (← e)
 
   -- an accepted one
-  pub record_accepted : {o : Outcome} → (read_record rec).verdict ≡ Accepted → o ≡ task_prices (read_record rec).task path out → o ≡ prices_of rec path out
+  pub record_accepted : {t : Task} {o : Outcome} → read_told (Ok t) ≡ read_record rec → o ≡ task_prices t path out → o ≡ prices_of rec path out
   unfolding prices_of
-  record_accepted e q = rw e q
+  record_accepted e q = rw (← e) q
 
   -- what the answer says
-  pub outcome_says : (r : PriceAnswer) (ws : List ℕ) → ◌≡◌ {A = Outcome} (record { answer = r; words = ws }) (prices_of rec path out)
+  pub outcome_says : (r : Result ℕ PriceRefusal) (ws : List ℕ) → ◌≡◌ {A = Outcome} (record { answer = r; words = ws }) (prices_of rec path out)
       → let t = (read_record rec).task in
       ◌≡◌ {A = Outcome} (record { answer = r; words = ws }) (prices_of rec path out)
       × (PathDecided (call_on rec path out) (price_told r).number

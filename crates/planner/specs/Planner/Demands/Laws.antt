@@ -11,8 +11,7 @@ use Rattle.task.specs.Valid.{Valid}
 use Rattle.fields.specs.Answers.Laws.{record_number}
 use Rattle.fields.specs.declared.Refusal.{Refusal}
 use Rattle.fields.specs.Answers.{number_of}
-use Rattle.whole.specs.declared.Verdict.{Verdict}
-use Rattle.whole.specs.declared.Verdict.TheVariants.{Accepted as Read, Refused as NotRead}
+use Rattle.whole.specs.Verdict.{Verdict, Accepted as Read, Refused as NotRead}
 use Rattle.record.specs.Record.{verdict_number, read_record}
 use Rattle.record.specs.Record.Laws.{accepted_valid}
 use Rattle.search.specs.Node.{goal_cost}

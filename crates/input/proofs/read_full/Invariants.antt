@@ -1,6 +1,6 @@
--- `compare::read_full` is safe and ends. What is read stays within the buffer, and the measure is what is left of it. Assumes nothing.
+-- `input::read_full` is safe and ends. What is read stays within the buffer, and the measure is what is left of it. Assumes nothing.
 use Rattle.std.proofs.Common.{length, ◌-◌, ◌≤◌}
-use Rattle.compare.proofs.read_full.Given as goal
+use Rattle.input.proofs.read_full.Given as goal
 
 abbrev pub invariant-loop-done : goal.invariant-loop-done
 invariant-loop-done g l = l.done ≤ length l.buf
