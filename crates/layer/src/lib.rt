@@ -44,10 +44,9 @@ pub fn pairs_of(conditions: &[u8], action: usize) -> [u8; 32]
     requires { action * 32 + 32 ≤ length conditions.now }
     ensures { result ≡ list 32 (λ v. get_or conditions.now (action * 32 + v) 0) }
 {
+    let at = action * 32;
     let mut pairs = [0u8; 32];
-    for v in 0..32 {
-        pairs[v] = conditions[action * 32 + v];
-    }
+    pairs.copy_from_slice(&conditions[at..at + 32]);
     pairs
 }
 
@@ -89,11 +88,9 @@ fn first_condition(factors: [u8; 32], conditions: &[u8], action: usize) -> u8
     requires { action * 32 + 32 ≤ length conditions.now }
     ensures { First factors conditions.now action result }
 {
-    for v in 0..32 {
-        if factors[v] == 0 {
-            if conditions[action * 32 + v] != FREE {
-                return v as u8;
-            }
+    for (v, factor) in factors.iter().enumerate() {
+        if *factor == 0 && conditions[action * 32 + v] != FREE {
+            return v as u8;
         }
     }
     32
@@ -104,8 +101,8 @@ pub fn first_conditions(board: &Board<'_>) -> [u8; 256]
     ensures { Firsts (board_in board.now) result }
 {
     let mut firsts = [32u8; 256];
-    for a in 0..board.actions {
-        firsts[a] = first_condition(board.factors, board.conditions, a);
+    for (a, first) in firsts[..board.actions].iter_mut().enumerate() {
+        *first = first_condition(board.factors, board.conditions, a);
     }
     firsts
 }
