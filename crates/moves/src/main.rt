@@ -53,7 +53,10 @@ impl Tally {
     // With the moves of another leaf, as far as there is room.
     fn with(self, other: Tally) -> Tally {
         Tally {
-            planned: self.planned.checked_add(other.planned).unwrap_or(self.planned),
+            planned: self
+                .planned
+                .checked_add(other.planned)
+                .unwrap_or(self.planned),
             made: self.made.checked_add(other.made).unwrap_or(self.made),
         }
     }
@@ -140,7 +143,11 @@ fn carry_leaf(rt: &impl Print, task: &Task, plan: &[u8], leaf: u8) -> io::Result
     let mut going = true;
     for action in plan {
         let before = values;
-        let behind = if going { step(task, *action, before) } else { None };
+        let behind = if going {
+            step(task, *action, before)
+        } else {
+            None
+        };
         going = behind.is_some();
         values = behind.unwrap_or(before);
         if names(task, *action, leaf) {
