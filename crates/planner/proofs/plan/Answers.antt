@@ -1,5 +1,5 @@
 -- `planner::plan` meets its contract: what the reader accepts is planned, and what the answer says of sequences follows. Assumes nothing.
-use Rattle.std.proofs.Common.{sym, ap, ◌∙◌}
+use Rattle.std.proofs.Common.{ap, ◌∙◌}
 use Rattle.answers.specs.declared.PlanRefusal.{PlanRefusal}
 use Rattle.answers.specs.declared.PlanAnswer.TheVariants.{Refused}
 use Rattle.solve.specs.Solve.{unwritten}
