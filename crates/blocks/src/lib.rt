@@ -9,16 +9,19 @@ ghost use Rattle.blocks.specs.Block.{block_size, least_in, NoneIs, Found, FirstI
 use keys::least;
 use leaf::{MARK, fill};
 
-// ---- blocks
+// ---- the scan words
 
-// How many scan words there are, and where the words of the blocks and the upper words stand among them.
+// How many scan words there are.
 pub const SCAN_WORDS: usize = 17696;
 
+// Where the words of the blocks begin among them, behind them the upper words, and where these end.
 const BLOCK_WORDS: usize = 7184;
 
 const UPPER_WORDS: usize = 7440;
 
 const UPPER_END: usize = 7456;
+
+// ---- blocks
 
 // The words of all blocks to the mark, and the upper words, which stand behind them.
 pub fn fresh(scan: &mut [u64; SCAN_WORDS])

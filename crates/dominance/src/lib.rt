@@ -172,7 +172,8 @@ pub fn test_row(row: &[u64], candidate: &Candidate<'_>, hint: &mut usize) -> boo
     requires { (length row.now ≡ 40 + candidate.now.states) × Packed row.now }
     ensures { result ≡ dominates (node_of candidate.now.states row.now) (node_held candidate.now) }
 {
-    if row[32] > candidate.paid {
+    let dearer = row[32] > candidate.paid;
+    if dearer {
         return false;
     }
     if let Some(place) = place_above(row, candidate, *hint) {

@@ -8,18 +8,23 @@ ghost use Rattle.rows.specs.Sign.{class_of, sign_of};
 ghost use Rattle.dominance.specs.Held.{node_held};
 ghost use Rattle.nodes.specs.Chain.{groups_in, slot_of, lacking, all_lack, has_room, group_for, with_group, opened_to, entry_of, with_entry, joined_to, linked_to, Chained, Dominator, Tried};
 
-use blocks::{SCAN_WORDS, set_key};
+pub use blocks::SCAN_WORDS;
+use blocks::set_key;
 use dominance::{Candidate, test_row};
 
-// Where the words of the groups, the heads of the classes, the number of groups, the signatures and the nodes of the entries stand among the scan words.
+// Where parts of the scan words begin: the words of the groups.
 const GROUPS: usize = 4096;
 
+// The heads of the classes.
 const HEADS: usize = 6144;
 
+// The number of groups.
 const GROUP_COUNT: usize = 7168;
 
+// The signatures of the groups' entries.
 const SIGNS: usize = 7456;
 
+// The nodes of the entries, four in a word.
 const ENTRIES: usize = 15648;
 
 // ---- chains

@@ -12,15 +12,13 @@ use words::copy_words;
 
 // ---- signatures
 
-// The signature of every `step`-th of the prices, `count` of them, at most 64: a bit for each, the first the lowest.
+// The signature of every `step`-th of the prices, `count` of them, at most 64: a bit for each, the first the lowest. Nothing branches.
 fn sign_by_step(prices: &[u64], step: usize, count: usize) -> u64
     requires { (0 < step) × (count ≤ 64) × (count * step ≤ length prices.now) }
     ensures { result ≡ sign_to step prices.now count }
 {
     let mut sign: u64 = 0;
-    let mut k = count;
-    while k > 0 {
-        k -= 1;
+    for k in (0..count).rev() {
         sign = sign * 2 + (prices[k * step] < MARK) as u64;
     }
     sign
@@ -59,15 +57,15 @@ pub fn sign_of(prices: &[u64]) -> u64
 
 // ---- rows
 
-// The centre state in a row: each of its packs has eight values.
+// The centre state in a row: each of its packs has eight values, the first its lowest byte.
 pub fn read_spot(row: &[u64]) -> Centre
     requires { 39 ≤ length row.now }
     ensures { result ≡ spot_of row.now }
 {
     let mut values = [0u8; 32];
-    for v in 0..32 {
-        let word = row[35 + v / 8];
-        values[v] = ((word >> (v % 8 * 8) as u32) % 256) as u8;
+    for k in 0..4 {
+        let word = row[35 + k];
+        values[k * 8..k * 8 + 8].copy_from_slice(&word.to_le_bytes());
     }
     Centre { values }
 }
@@ -78,14 +76,16 @@ pub fn pack(spot: Centre, from: usize) -> u64
     ensures { result ≡ pack_of spot from }
 {
     let values = spot.values;
-    values[from] as u64
-        + values[from + 1] as u64 * 256
-        + values[from + 2] as u64 * 65536
-        + values[from + 3] as u64 * 16777216
-        + values[from + 4] as u64 * 4294967296
-        + values[from + 5] as u64 * 1099511627776
-        + values[from + 6] as u64 * 281474976710656
-        + values[from + 7] as u64 * 72057594037927936
+    u64::from_le_bytes([
+        values[from],
+        values[from + 1],
+        values[from + 2],
+        values[from + 3],
+        values[from + 4],
+        values[from + 5],
+        values[from + 6],
+        values[from + 7],
+    ])
 }
 
 // The four packs of a centre state into a row.

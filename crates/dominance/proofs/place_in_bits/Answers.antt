@@ -1,4 +1,4 @@
-use Rattle.std.proofs.Common.{◌≡◌, ◌-◌, ◌<◌, arith, bit_and}
+use Rattle.std.proofs.Common.{◌-◌, ◌<◌, arith}
 use lib.Bits.{and_le_r}
 use lib.Count.{count_trailing_zeros}
 use Rattle.rows.specs.Sign.Bits.{left_state, left_less}

@@ -1,5 +1,5 @@
 -- `dominance::same_spot` meets its contract: four packs are compared, and they are the same only where all values are. Assumes nothing.
-use Rattle.std.proofs.Common.{◌≡◌, sym, ◌∙◌, true≢false, Bool, true, false, ◌&&◌, List, ℕ, ◌<◌, ◌≤◌, arith, eqb, eq-eqb, ne_eqb, get_or, rules, w8, Fits}
+use Rattle.std.proofs.Common.{◌≡◌, sym, ◌∙◌, true≢false, Bool, false, ◌&&◌, List, ℕ, ◌<◌, ◌≤◌, arith, eqb, eq-eqb, ne_eqb, get_or, rules, w8, Fits}
 use Rattle.std.proofs.lemmas.Bool.Decides.{nat_tests}
 use Rattle.std.proofs.Math.Decide.{ℕ_discrete}
 use Rattle.loops.specs.Count.{all}

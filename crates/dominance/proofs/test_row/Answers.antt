@@ -3,10 +3,10 @@ use Rattle.std.proofs.Common.{sym, ◌∙◌}
 use Rattle.rows.specs.Row.Laws.{test_paid, test_price, test_spot}
 use Rattle.dominance.proofs.test_row.Goals as goal
 
-pub returns-then-row-candidate : goal.returns-then-row-candidate
-returns-then-row-candidate c =
+pub returns-then-dearer : goal.returns-then-dearer
+returns-then-dearer c =
     let a = c.args.candidate.now in
-    sym (test_paid a.states a.paid c.args.row.now a.prices.now a.spot c.requires.0 a.long c.if-row-candidate.true)
+    sym (test_paid a.states a.paid c.args.row.now a.prices.now a.spot c.requires.0 a.long c.if-dearer.true)
 
 pub returns-in-Some : goal.returns-in-Some
 returns-in-Some c =
@@ -17,4 +17,4 @@ pub returns : goal.returns
 returns c =
     let a = c.args.candidate.now in
     c.same_spot.ensures
-    ∙ sym (test_spot a.states a.paid c.args.row.now a.prices.now a.spot c.requires.0 a.long c.if-row-candidate.false c.in_default.ensures)
+    ∙ sym (test_spot a.states a.paid c.args.row.now a.prices.now a.spot c.requires.0 a.long c.if-dearer.false c.in_default.ensures)

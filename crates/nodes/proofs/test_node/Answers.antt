@@ -1,5 +1,5 @@
 -- `nodes::test_node` meets its contract: a node whose signature lacks a bit does not dominate. Assumes nothing.
-use Rattle.std.proofs.Common.{sym, ◌∙◌, take, length-take-le}
+use Rattle.std.proofs.Common.{sym, ◌∙◌, length-take-le}
 use Rattle.loops.specs.Count.Laws.{told}
 use Rattle.rows.specs.Row.{node_in}
 use Rattle.rows.specs.Row.Laws.{prices_length}

@@ -8,4 +8,4 @@ unfolding pack_to
 returns c =
     let a = c.args in
     let e : get_or a.spot.values (a.from + 0) 0 ≡ get_or a.spot.values a.from 0 = ap (λ (i : ℕ). get_or a.spot.values i 0) (omega arith) in
-    omega arith
+    omega (arith, c.from_le_bytes.ensures)

@@ -1,11 +1,7 @@
 -- `rows::read_spot` meets its contract. The invariant: the values so far are the bytes of the row's packs. Assumes nothing.
-use Rattle.std.proofs.Common.{◌≡◌, ◌++◌, ◌-◌, ◌≤◌, drop, replicate}
-use Rattle.loops.specs.Count.{list}
+use Rattle.std.proofs.Common.{◌≡◌, ℕ, ◌*◌, ◌<◌, length, get_or}
 use Rattle.rows.specs.Row.{byte_in}
 use Rattle.rows.proofs.read_spot.Given as goal
 
-abbrev pub invariant-loop-v : goal.invariant-loop-v
-invariant-loop-v l = (l.v ≤ 32) × (l.values ≡ list l.v (byte_in l.row) ++ drop l.v (replicate 32 0))
-
-abbrev pub decreases-loop-v : goal.decreases-loop-v
-decreases-loop-v l = 32 - l.v
+abbrev pub invariant-loop-k : goal.invariant-loop-k
+invariant-loop-k l = (length l.values ≡ 32) × ((v : ℕ) → v < l.k * 8 → get_or l.values v 0 ≡ byte_in l.row v)

@@ -19,18 +19,6 @@ pub loop-k-init : goal.loop-k-init
 unfolding sign_to
 loop-k-init c = (stride_many (length c.args.prices.now) c.requires, refl, omega arith, refl)
 
-pub overflow_mul-k : goal.overflow_mul-k
-overflow_mul-k c = omega (arith, c.well_formed, inside (goal.at.overflow_mul-k c).In-loop-k)
-
-pub offset_bounds-prices-k : goal.offset_bounds-prices-k
-offset_bounds-prices-k c = omega (arith, c.well_formed, inside (goal.at.offset_bounds-prices-k c).In-loop-k)
-
-pub bounds-prices-k : goal.bounds-prices-k
-bounds-prices-k c = (inside (goal.at.bounds-prices-k c).In-loop-k).0
-
-pub overflow_step-k : goal.overflow_step-k
-overflow_step-k c = omega (arith, c.well_formed, inside (goal.at.overflow_step-k c).In-loop-k)
-
 pub loop-k-preserved : goal.loop-k-preserved
 loop-k-preserved c =
     let l = c.loop-k in

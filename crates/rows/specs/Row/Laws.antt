@@ -1,5 +1,5 @@
 -- Laws of rows: what stands in a row that was written, and rows of a table. Assumes nothing.
-use Rattle.std.specs.Prelude.{◌≡◌, refl, ◌⊎◌, Bool, true, false, ◌&&◌, List, [], ◌∷◌, ◌++◌, ℕ, zero, suc, ◌+◌, ◌-◌, ◌*◌, ◌/◌, ◌%◌, ◌^◌, ◌≤◌, ◌<◌, leb, eqb, length, get_or, set, take, drop}
+use Rattle.std.specs.Prelude.{◌≡◌, refl, ◌⊎◌, Bool, false, ◌&&◌, List, [], ◌∷◌, ◌++◌, ℕ, zero, suc, ◌+◌, ◌-◌, ◌*◌, ◌/◌, ◌%◌, ◌^◌, ◌≤◌, ◌<◌, leb, eqb, length, get_or, set, take, drop}
 use Rattle.std.proofs.Math.Path.{sym, ap}
 use Rattle.std.proofs.Common.{ap₂, ◌∙◌, inl, inr, append_assoc, not-suc-le-zero, suc-mul, mul-le-mul_right, arith, le-leb, length-append, length-drop, length-set, take-append-drop, length-take-le, get_or-take, get_or-drop, get_or-set_same, get_or-set_other, take_at, drop_at}
 use Rattle.std.proofs.Math.Bool.{and-true, and-false}
