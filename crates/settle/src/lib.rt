@@ -122,12 +122,13 @@ fn first_sweep<A: LeafActions>(prices: &mut [u64], dirty: &mut [u8], actions: &A
         prices.old dirty.old result prices.new dirty.new }
 {
     let mut fell = false;
-    let fours = prices.len() / 4;
-    for k in 0..fours {
-        fell |= set_out_four(prices, dirty, actions, 4 * k);
+    let mut x = 0;
+    while prices.len() - x >= 4 {
+        fell |= set_out_four(prices, dirty, actions, x);
+        x += 4;
     }
     let last = prices.len();
-    fell | set_out_part(prices, dirty, actions, 4 * fours, last)
+    fell | set_out_part(prices, dirty, actions, x, last)
 }
 
 // Every dirty state once, by rising number. Whether a price fell of a state that had its turn.
