@@ -1,4 +1,4 @@
-use Rattle.std.proofs.Common.{ap, ℕ, ◌+◌, ◌≡◌, ◌<◌, ◌≤◌, not-suc-le-zero, arith, length, get_or, take, replicate, length-take}
+use Rattle.std.proofs.Common.{ap, ℕ, ◌+◌, ◌≡◌, ◌<◌, ◌≤◌, arith, length, get_or, take, replicate, length-take}
 use Rattle.drive.specs.Drive.{drive_time}
 use Rattle.tables.specs.Tables.Laws.{filled_more, each_front}
 use Rattle.tables.proofs.costs_of.Goals as goal

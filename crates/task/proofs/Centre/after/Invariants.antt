@@ -1,5 +1,5 @@
 -- The loop's invariant: the first v values are those of the next centre state, the others are as they were. Assumes nothing.
-use Rattle.std.proofs.Common.{◌≡◌, cond, ◌&&◌, List, ◌++◌, ℕ, ◌≤◌, eqb, length, get_or, drop}
+use Rattle.std.proofs.Common.{◌≡◌, cond, ◌&&◌, List, ◌++◌, ℕ, eqb, get_or, drop}
 use Rattle.loops.specs.Count.{list}
 use Rattle.task.specs.Factors.{named}
 use Rattle.task.proofs.Centre.after.Given as goal
