@@ -302,11 +302,11 @@ fn ways_of<'a>(
 
 // From a state of the settled prices of the leaf behind i leaves back to one that has kept the price that the layer began with, by these actions. The state
 // where that ends. `tight` is lent to work in: its words afterwards are left to the program, its length stays.
-pub fn leaf_back<'a>(
-    board: &Board<'a>,
+pub fn leaf_back(
+    board: &Board<'_>,
     i: usize,
     acts: &[u8],
-    edges: &EdgeTable<'a>,
+    edges: &EdgeTable<'_>,
     begins: &[u64],
     prices: &[u64],
     state: usize,
