@@ -1,5 +1,5 @@
 -- `explore::next_round` meets its contract: the choice and the expansion are those of the search that the table holds. Assumes nothing.
-use Rattle.std.proofs.Common.{ℕ, ◌≤◌, ◌≡◌, refl, sym, ◌∙◌, Ok, Err, arith, length, eqb-true, rules}
+use Rattle.std.proofs.Common.{◌≤◌, refl, sym, ◌∙◌, Ok, Err, arith, length, eqb-true}
 use Rattle.std.proofs.lemmas.Result.{err_from_is_err_and}
 use borrow.Author.Tests.{eqb-false}
 use Rattle.task.specs.Factors.{all_states}

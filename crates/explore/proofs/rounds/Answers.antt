@@ -1,5 +1,5 @@
 -- `explore::rounds` meets its contract: each round is the search's, from its start to its end. Assumes nothing.
-use Rattle.std.proofs.Common.{◌≤◌, ◌≡◌, refl, ◌∙◌, arith, length, rules}
+use Rattle.std.proofs.Common.{◌≡◌, refl, ◌∙◌, arith, length, rules}
 use Rattle.task.specs.Factors.{all_states}
 use Rattle.layer.specs.Board.Laws.{row_on_lem}
 use Rattle.layer.specs.Held.{board_in}
