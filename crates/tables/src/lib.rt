@@ -10,7 +10,7 @@ ghost use Rattle.layer.specs.Held.{board_in};
 ghost use Rattle.tables.specs.Tables.{KindIs, Bases, Starts, Costs, Kinds, Moves, Goals, Tabled};
 ghost use Rattle.tables.specs.Fit.{board_of};
 
-use digits::{fill_action, fill_rows};
+use digits::{Pairs, fill_action, fill_rows};
 use layer::Board;
 use task::{FREE, Task};
 
@@ -234,13 +234,16 @@ pub fn fill_moves(task: &Task, bases: [usize; 9], moves: &mut [u16])
     ensures moves { Moves task.now moves.new }
     ensures same { Same 0 (task.now.actions * all_states task.now) moves.old moves.new }
 {
+    let pairs = Pairs {
+        sizes: &task.sizes,
+        factors: &task.factors,
+        conditions: &task.conditions,
+        effects: &task.effects,
+        variables: task.variables as usize,
+    };
     fill_rows(
-        &task.sizes,
-        &task.factors,
-        &task.conditions,
-        &task.effects,
+        &pairs,
         &bases,
-        task.variables as usize,
         task.leaves as usize,
         task.actions as usize,
         moves,
@@ -255,18 +258,14 @@ pub fn leaf_goals(task: &Task, bases: [usize; 9]) -> [u16; 1024]
     ensures { Goals task.now result }
 {
     let none = [FREE; 32];
+    let pairs = Pairs {
+        sizes: &task.sizes,
+        factors: &task.factors,
+        conditions: &task.goal,
+        effects: &none,
+        variables: task.variables as usize,
+    };
     let mut goals = [0u16; 1024];
-    fill_action(
-        &task.sizes,
-        &task.factors,
-        &task.goal,
-        &none,
-        &bases,
-        task.variables as usize,
-        task.leaves as usize,
-        0,
-        0,
-        &mut goals,
-    );
+    fill_action(&pairs, &bases, task.leaves as usize, 0, &mut goals);
     goals
 }

@@ -17,11 +17,17 @@ factors_long s = search rules
 goal_long : (s : Start) → length s.args.task.now.goal ≡ 32
 goal_long s = search rules
 
+pub invariant_of-pairs : goal.invariant_of-pairs
+invariant_of-pairs c =
+    let at = (goal.at.invariant_of-pairs c).Start in
+    record { long = omega (arith, sizes_long at, factors_long at, goal_long at, c.requires.valid.fields.few_variables) }
+
 pub fill_action-requires : goal.fill_action-requires
 unfolding start_of base states all_states
 fill_action-requires c =
     let ok = c.requires.valid in
-    let bases = c.requires.bases in record { variables_in_bounds = omega (arith, sizes_long (goal.at.fill_action-requires c).Start, factors_long (goal.at.fill_action-requires c).Start, bases.long, ok.fields.few_variables, ok.fields.few_leaves); variables_in_bounds_2 = omega (arith, goal_long (goal.at.fill_action-requires c).Start, ok.fields.few_variables); leaves_in_bounds = omega (arith, ok.whole.few_all_states); filled = λ i l. bases.is i (omega arith); by_index = still_small c.args.task.now ok }
+    let bases = c.requires.bases in
+    record { leaves_in_bounds = omega (arith, bases.long, ok.fields.few_leaves); room = omega (arith, ok.whole.few_all_states); filled = λ i l. bases.is i (omega arith); by_index = still_small c.args.task.now ok }
 
 pub returns : goal.returns
 returns c = goals_are c.args.task.now _ (search rules) c.fill_action.ensures.row
