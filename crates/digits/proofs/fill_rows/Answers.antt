@@ -1,13 +1,18 @@
 use Rattle.std.proofs.Common.{◌∙◌, ℕ, suc, ◌*◌, arith}
-use Rattle.digits.specs.Digits.{entries, entries_from}
+use Rattle.digits.specs.Moves.{Small}
+use Rattle.digits.specs.Digits.{entries, entries_from, Row}
 use Rattle.digits.specs.Digits.Laws.{row_next, rows_more, rows_same}
-use Rattle.digits.specs.Paired.Laws.{small_behind, row_behind}
+use Rattle.digits.specs.Paired.Laws.{from_behind, to_behind}
 use Rattle.digits.proofs.fill_rows.Goals as goal
 
 pub fill_action-requires-clause-by_index : goal.fill_action-requires-clause-by_index
 fill_action-requires-clause-by_index c =
+    let a = c.loop-a.a in
+    let p = c.args.pairs.now in
     let here = c.behind.ensures in
-    λ i l. rw (here.variables, here.factors, here.sizes) (small_behind _ _ _ (c.loop-a.a * 32) c.args.pairs.now.effects.now _ here.effects (suc i) (c.requires.by_index c.loop-a.a c.loop-a-test.true i l))
+    λ i l.
+    rw (here.variables, here.factors, here.sizes)
+    (to_behind (λ con eff. Small p.variables (entries p.factors.now) (entries p.sizes.now) eff (suc i)) (a * 32) p.conditions.now p.effects.now _ _ here.conditions here.effects (c.requires.by_index a c.loop-a-test.true i l))
 
 pub loop-a-preserved : goal.loop-a-preserved
 loop-a-preserved c =
@@ -19,7 +24,7 @@ loop-a-preserved c =
     let next = c.fill_action.new.moves in
     let con : ℕ → ℕ → ℕ = λ k. entries_from (k * 32) p.conditions.now in
     let eff : ℕ → ℕ → ℕ = λ k. entries_from (k * 32) p.effects.now in
-    let row = row_behind p.variables (entries p.factors.now) (entries p.sizes.now) (l.a * 32) p.effects.now _ here.effects p.conditions.now _ here.conditions l.from a.leaves next filled.row in (
+    let row = from_behind (λ con eff. Row p.variables (entries p.factors.now) (entries p.sizes.now) con eff l.from a.leaves next) (l.a * 32) p.conditions.now p.effects.now _ _ here.conditions here.effects filled.row in (
       omega arith,
       c.fill_action.auto.moves ∙ l.invariant.1,
       row_next l.a _ l.invariant.2 (c.requires.filled a.leaves (omega arith)),
