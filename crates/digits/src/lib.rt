@@ -136,23 +136,16 @@ fn fill_leaf(pairs: &Pairs<'_>, leaf: usize, from: usize, moves: &mut [u16])
     }
 }
 
-// What the action makes of each state of each leaf, in the entries from `from` on.
-pub fn fill_action(
-    pairs: &Pairs<'_>,
-    bases: &[usize],
-    leaves: usize,
-    from: usize,
-    moves: &mut [u16],
-)
-    requires leaves_in_bounds { leaves < length bases.now }
-    requires room { from + begins pairs.now leaves ≤ length moves.old }
-    requires filled { Filled (leaves + 1) (begins pairs.now) bases.now }
-    requires by_index { (i : ℕ) → i < leaves → small pairs.now (suc i) }
-    ensures row { Row pairs.now.variables (entries pairs.now.factors.now) (entries pairs.now.sizes.now) (entries pairs.now.conditions.now) (entries pairs.now.effects.now) from leaves moves.new }
-    ensures same { Same from (from + begins pairs.now leaves) moves.old moves.new }
+// What the action makes of each state of each leaf, in the entries from `from` on. There is a base for each leaf.
+pub fn fill_action(pairs: &Pairs<'_>, bases: &[usize], from: usize, moves: &mut [u16])
+    requires room { from + begins pairs.now (length bases.now) ≤ length moves.old }
+    requires filled { Filled (length bases.now) (begins pairs.now) bases.now }
+    requires by_index { (i : ℕ) → i < length bases.now → small pairs.now (suc i) }
+    ensures row { Row pairs.now.variables (entries pairs.now.factors.now) (entries pairs.now.sizes.now) (entries pairs.now.conditions.now) (entries pairs.now.effects.now) from (length bases.now) moves.new }
+    ensures same { Same from (from + begins pairs.now (length bases.now)) moves.old moves.new }
 {
-    for i in 0..leaves {
-        fill_leaf(pairs, i + 1, from + bases[i], moves);
+    for (i, &base) in bases.iter().enumerate() {
+        fill_leaf(pairs, i + 1, from + base, moves);
     }
 }
 
@@ -176,7 +169,7 @@ pub fn fill_rows(
     let row = bases[leaves];
     let mut from = 0;
     for a in 0..actions {
-        fill_action(&pairs.behind(a * 32), bases, leaves, from, moves);
+        fill_action(&pairs.behind(a * 32), &bases[..leaves], from, moves);
         from += row;
     }
 }

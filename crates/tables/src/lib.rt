@@ -251,6 +251,6 @@ pub fn leaf_goals(task: &Task, bases: [usize; 9]) -> [u16; 1024]
         variables: task.variables as usize,
     };
     let mut goals = [0u16; 1024];
-    fill_action(&pairs, &bases, task.leaves as usize, 0, &mut goals);
+    fill_action(&pairs, &bases[..task.leaves as usize], 0, &mut goals);
     goals
 }

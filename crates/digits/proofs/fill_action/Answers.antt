@@ -13,7 +13,7 @@ leaf_here : (c : In-loop-i) →
     × (a.from + (begins a.pairs.now i + counted a.pairs.now (suc i)) ≤ length a.moves.now)
 leaf_here c =
     let p = c.args.pairs.now in
-    let room = start_before p.variables (entries p.factors.now) (entries p.sizes.now) c.loop-i.i c.args.leaves c.loop-i-test.true in
+    let room = start_before p.variables (entries p.factors.now) (entries p.sizes.now) c.loop-i.i (length c.args.bases.now) c.loop-i-test.true in
     (c.requires.filled c.loop-i.i (omega arith), omega (arith, c.requires.room))
 
 pub loop-i-init : goal.loop-i-init

@@ -7,5 +7,5 @@ use Rattle.digits.proofs.fill_action.Given as goal
 
 abbrev pub invariant-loop-i : goal.invariant-loop-i
 invariant-loop-i l =
-    (l.i ≤ l.leaves) × (length l.moves ≡ length l.initial.moves) × Same l.from (l.from + begins l.pairs l.i) l.initial.moves l.moves ×
+    (l.i ≤ length l.bases) × (length l.moves ≡ length l.initial.moves) × Same l.from (l.from + begins l.pairs l.i) l.initial.moves l.moves ×
     Row l.pairs.variables (entries l.pairs.factors.now) (entries l.pairs.sizes.now) (entries l.pairs.conditions.now) (entries l.pairs.effects.now) l.from l.i l.moves
