@@ -84,7 +84,7 @@ pub fn leaf_bases(task: &Task) -> [usize; 9]
 
 // ---- the initial state of each leaf
 
-// The number of a factor's state, from the values of its variables.
+// The number of a factor's state, from the values of its variables. Three lists are read at each variable's place, so the loop goes by its number.
 fn number_of(sizes: &[u8], factors: &[u8], values: &[u8], variables: usize, factor: usize) -> usize
     requires variables_in_bounds { (variables ≤ length sizes.now) × (variables ≤ length factors.now) × (variables ≤ length values.now) }
     requires by_index { (v : ℕ) → v < variables → get_or values.now v 0 < get_or sizes.now v 0 }
