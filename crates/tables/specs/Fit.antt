@@ -1,24 +1,24 @@
 -- The tables of a valid task fit the task and can be indexed: what the layers and the search ask of them. Assumes nothing.
-use Rattle.std.specs.Prelude.{◌≡◌, refl, Bool, false, not, ◌||◌, ◌⊎◌, List, ℕ, zero, suc, ◌+◌, ◌-◌, ◌*◌, ◌≤◌, ◌<◌, eqb, length, get_or, replicate}
+use Rattle.std.specs.Prelude.{◌≡◌, refl, Bool, false, not, ◌⊎◌, List, ℕ, zero, suc, ◌+◌, ◌-◌, ◌*◌, ◌≤◌, ◌<◌, eqb, length, get_or, replicate}
 use Rattle.std.proofs.Math.Path.{sym}
-use Rattle.std.proofs.Common.{ap, ◌∙◌, inl, inr, zero-add, mul-le-mul_right, arith}
+use Rattle.std.proofs.Common.{◌∙◌, inl, inr, zero-add, mul-le-mul_right, arith}
 use Rattle.std.proofs.Math.Bool.{true, true≢false}
 use Rattle.std.proofs.Math.Numerals.{add-one}
 use Rattle.std.proofs.Math.Decide.{ℕ_discrete}
 use Rattle.std.proofs.lemmas.List.{get_or-replicate}
 use borrow.Author.Tests.{eq-eqb, ne_eqb}
 use Rattle.loops.specs.Count.{sum}
-use Rattle.loops.specs.Count.Laws.{or_in_left, or_in_right, any_in, all_ext, sum_more}
+use Rattle.loops.specs.Count.Laws.{or_in_left, or_in_right, any_in, sum_more}
 use Rattle.task.specs.declared.Task.{Task}
-use Rattle.task.specs.Meaning.{free, met, size, factor, goal, condition, effect}
-use Rattle.task.specs.Factors.{star_pairs, centre_action, leaf_action, states, all_states, values_of, holds_in, meets_in, gate, to}
+use Rattle.task.specs.Meaning.{free, size, factor, goal, condition, effect}
+use Rattle.task.specs.Factors.{star_pairs, centre_action, leaf_action, states, all_states, values_of, meets_in, gate, to}
 use Rattle.task.specs.Valid.{Valid}
 use Rattle.task.specs.Star.{leaf_not_centre, leaf_one, to_in, number_lt}
 use Rattle.layer.specs.Layer.{base}
 use Rattle.layer.specs.Board.{Board, Sound, Fits, states_on}
 use Rattle.layer.specs.Board.Laws.{states_on_lem}
 use Rattle.digits.specs.Moves.{Small, to_with}
-use Rattle.digits.specs.Digits.{entries_from, start_of, Row}
+use Rattle.digits.specs.Digits.{entries, start_of, Row}
 use Rattle.tables.specs.Tables.{KindIs, Bases, Starts, Costs, Kinds, Moves, Goals}
 
 -- ---- kinds
@@ -86,31 +86,24 @@ gate_none true y e = rw e (ne_eqb (suc y) 0 (λ q. omega arith))
 gate_none false y e = rw e (eq-eqb 0 0 refl)
 
 -- an action with no effects makes small numbers
-pub still_small : (t : Task) → Valid t → (i : ℕ) → i < t.leaves → Small t.variables (factor t) (size t) (entries_from 0 (replicate 32 free)) (suc i)
+pub still_small : (t : Task) → Valid t → (i : ℕ) → i < t.leaves → Small t.variables (factor t) (size t) (entries (replicate 32 free)) (suc i)
 unfolding states
 still_small t ok i l =
     record {
       sized = λ v m. omega (arith, ok.fields.size_low v m);
-      inside = λ v m. inl (rw zero-add (get_or-replicate 32 v free 0 (omega (arith, ok.fields.few_variables))));
+      inside = λ v m. inl (get_or-replicate 32 v free 0 (omega (arith, ok.fields.few_variables)));
       few = ok.whole.few_states i l;
     }
 
--- the goal's pairs as conditions that are counted from 0 on
-goal_counted : (t : Task) (i x : ℕ)
-    → holds_in t.variables (factor t) (suc i) (entries_from 0 t.goal) (values_of t (suc i) x) ≡ meets_in t (suc i) (goal t) (values_of t (suc i) x)
-unfolding meets_in holds_in
-goal_counted t i x = all_ext t.variables _ _ (λ v l. ap (λ k. not (eqb (factor t v) (suc i)) || met (get_or t.goal k 0) (values_of t (suc i) x v)) (zero-add v))
-
 -- it passes just where its conditions, the goal's pairs, are met
 pub goals_are : (t : Task) (xs : List ℕ) → length xs ≡ 1024
-    → Row t.variables (factor t) (size t) (entries_from 0 t.goal) (entries_from 0 (replicate 32 free)) 0 t.leaves xs → Goals t xs
-unfolding start_of base states values_of to_with
+    → Row t.variables (factor t) (size t) (entries t.goal) (entries (replicate 32 free)) 0 t.leaves xs → Goals t xs
+unfolding start_of base states values_of meets_in to_with
 goals_are t xs e row =
     record {
       long = e;
       is = λ i x l m.
-          gate_none (holds_in t.variables (factor t) (suc i) (entries_from 0 t.goal) (values_of t (suc i) x)) _ (simp zero-add at (row i x l m))
-          ∙ ap not (goal_counted t i x);
+          gate_none (meets_in t (suc i) (goal t) (values_of t (suc i) x)) _ (simp zero-add at (row i x l m));
     }
 
 -- ---- the board

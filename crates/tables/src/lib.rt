@@ -10,7 +10,7 @@ ghost use Rattle.layer.specs.Held.{board_in};
 ghost use Rattle.tables.specs.Tables.{KindIs, Bases, Starts, Costs, Kinds, Moves, Goals, Tabled};
 ghost use Rattle.tables.specs.Fit.{board_of};
 
-use digits::{fill_action, fill_rows};
+use digits::{Pairs, fill_action, fill_rows};
 use layer::Board;
 use task::{FREE, Task};
 
@@ -84,7 +84,7 @@ pub fn leaf_bases(task: &Task) -> [usize; 9]
 
 // ---- the initial state of each leaf
 
-// The number of a factor's state, from the values of its variables.
+// The number of a factor's state, from the values of its variables. Three lists are read at each variable's place, so the loop goes by its number.
 fn number_of(sizes: &[u8], factors: &[u8], values: &[u8], variables: usize, factor: usize) -> usize
     requires variables_in_bounds { (variables ≤ length sizes.now) × (variables ≤ length factors.now) × (variables ≤ length values.now) }
     requires by_index { (v : ℕ) → v < variables → get_or values.now v 0 < get_or sizes.now v 0 }
@@ -160,23 +160,15 @@ pub fn action_costs(task: &Task) -> [u16; 256]
 
 // ---- the leaf of each leaf action
 
-// The leaf of the leaf action whose pairs begin at `at`, or 0 for a centre action.
-fn kind_of(
-    factors: &[u8],
-    conditions: &[u8],
-    effects: &[u8],
-    at: usize,
-    variables: usize,
-    leaves: usize,
-) -> u8
-    requires variables_in_bounds { (variables ≤ length factors.now) × (leaves ≤ 8) }
-    requires variables_in_bounds_2 { (at + variables ≤ length conditions.now) × (at + variables ≤ length effects.now) }
-    requires effects_value { star_pairs variables (entries factors.now) leaves (entries_from at conditions.now) (entries_from at effects.now) ≡ true }
-    ensures { KindIs variables (entries factors.now) leaves (entries_from at conditions.now) (entries_from at effects.now) result }
+// The leaf of the leaf action with these pairs, or 0 for a centre action.
+fn kind_of(pairs: &Pairs<'_>, leaves: usize) -> u8
+    requires few_leaves { leaves ≤ 8 }
+    requires star { star_pairs pairs.now.variables (entries pairs.now.factors.now) leaves (entries pairs.now.conditions.now) (entries pairs.now.effects.now) ≡ true }
+    ensures { KindIs pairs.now.variables (entries pairs.now.factors.now) leaves (entries pairs.now.conditions.now) (entries pairs.now.effects.now) result }
 {
-    let owners = &factors[..variables];
-    let needs = &conditions[at..at + variables];
-    let makes = &effects[at..at + variables];
+    let owners = &pairs.factors[..pairs.variables];
+    let needs = &pairs.conditions[..pairs.variables];
+    let makes = &pairs.effects[..pairs.variables];
     if whole::touches_centre(owners, makes) {
         return 0;
     }
@@ -188,23 +180,16 @@ fn kind_of(
     0
 }
 
-// The leaf of each action, 0 for centre actions.
-fn kinds_of<'a>(
-    factors: &[u8],
-    conditions: &'a [u8],
-    effects: &'a [u8],
-    variables: usize,
-    leaves: usize,
-    actions: usize,
-) -> [u8; 256]
-    requires variables_bound { (variables ≤ 32) × (variables ≤ length factors.now) × (leaves ≤ 8) × (actions ≤ 255) }
-    requires in_bounds { (8192 ≤ length conditions.now) × (8192 ≤ length effects.now) }
-    requires by_index { (a : ℕ) → a < actions → star_pairs variables (entries factors.now) leaves (entries_from (a * 32) conditions.now) (entries_from (a * 32) effects.now) ≡ true }
-    ensures { (length result ≡ 256) × Each actions (λ a k. KindIs variables (entries factors.now) leaves (entries_from (a * 32) conditions.now) (entries_from (a * 32) effects.now) k) result }
+// The leaf of each action, 0 for centre actions. The pairs are those of all actions, 32 each.
+fn kinds_of(pairs: &Pairs<'_>, leaves: usize, actions: usize) -> [u8; 256]
+    requires few { (pairs.now.variables ≤ 32) × (leaves ≤ 8) × (actions ≤ 255) }
+    requires in_bounds { (8192 ≤ length pairs.now.conditions.now) × (8192 ≤ length pairs.now.effects.now) }
+    requires star { (a : ℕ) → a < actions → star_pairs pairs.now.variables (entries pairs.now.factors.now) leaves (entries_from (a * 32) pairs.now.conditions.now) (entries_from (a * 32) pairs.now.effects.now) ≡ true }
+    ensures { (length result ≡ 256) × Each actions (λ a k. KindIs pairs.now.variables (entries pairs.now.factors.now) leaves (entries_from (a * 32) pairs.now.conditions.now) (entries_from (a * 32) pairs.now.effects.now) k) result }
 {
     let mut kinds: [u8; 256] = [0; 256];
     for (a, kind) in kinds[..actions].iter_mut().enumerate() {
-        *kind = kind_of(factors, conditions, effects, a * 32, variables, leaves);
+        *kind = kind_of(&pairs.behind(a * 32), leaves);
     }
     kinds
 }
@@ -214,14 +199,14 @@ pub fn action_kinds(task: &Task) -> [u8; 256]
     requires { Valid task.now }
     ensures { Kinds task.now result }
 {
-    kinds_of(
-        &task.factors,
-        &task.conditions,
-        &task.effects,
-        task.variables as usize,
-        task.leaves as usize,
-        task.actions as usize,
-    )
+    let pairs = Pairs {
+        sizes: &task.sizes,
+        factors: &task.factors,
+        conditions: &task.conditions,
+        effects: &task.effects,
+        variables: task.variables as usize,
+    };
+    kinds_of(&pairs, task.leaves as usize, task.actions as usize)
 }
 
 // ---- what each action makes of each leaf state
@@ -234,13 +219,16 @@ pub fn fill_moves(task: &Task, bases: [usize; 9], moves: &mut [u16])
     ensures moves { Moves task.now moves.new }
     ensures same { Same 0 (task.now.actions * all_states task.now) moves.old moves.new }
 {
+    let pairs = Pairs {
+        sizes: &task.sizes,
+        factors: &task.factors,
+        conditions: &task.conditions,
+        effects: &task.effects,
+        variables: task.variables as usize,
+    };
     fill_rows(
-        &task.sizes,
-        &task.factors,
-        &task.conditions,
-        &task.effects,
+        &pairs,
         &bases,
-        task.variables as usize,
         task.leaves as usize,
         task.actions as usize,
         moves,
@@ -255,18 +243,14 @@ pub fn leaf_goals(task: &Task, bases: [usize; 9]) -> [u16; 1024]
     ensures { Goals task.now result }
 {
     let none = [FREE; 32];
+    let pairs = Pairs {
+        sizes: &task.sizes,
+        factors: &task.factors,
+        conditions: &task.goal,
+        effects: &none,
+        variables: task.variables as usize,
+    };
     let mut goals = [0u16; 1024];
-    fill_action(
-        &task.sizes,
-        &task.factors,
-        &task.goal,
-        &none,
-        &bases,
-        task.variables as usize,
-        task.leaves as usize,
-        0,
-        0,
-        &mut goals,
-    );
+    fill_action(&pairs, &bases[..task.leaves as usize], 0, &mut goals);
     goals
 }

@@ -1,7 +1,7 @@
 use Rattle.std.proofs.Common.{refl, ◌∙◌, ◌+◌, ◌<◌, le_antisymm, arith, length, length-set}
-use Rattle.task.specs.Factors.{states_to}
 use Rattle.digits.specs.Moves.Laws.{some_states}
-use Rattle.digits.specs.Digits.{entries, entries_from}
+use Rattle.digits.specs.Digits.{entries}
+use Rattle.digits.specs.Paired.{counted}
 use Rattle.digits.specs.Digits.Laws.{same_set, partly_none}
 use Rattle.digits.proofs.fill_leaf.Goals as goal
 use Rattle.digits.proofs.fill_leaf.Goals.{Start}
@@ -9,10 +9,10 @@ use Rattle.digits.proofs.fill_leaf.Goals.{Start}
 -- there is an entry for the first state
 first : (s : Start) →
     let a = s.args in
-    (a.from < a.from + states_to (entries a.factors.now) (entries a.sizes.now) a.leaf a.variables) × (a.from < length a.moves.now)
+    (a.from < a.from + counted a.pairs.now a.leaf) × (a.from < length a.moves.now)
 first s =
-    let one = some_states (entries s.args.factors.now) (entries s.args.sizes.now) (entries_from s.args.at s.args.conditions.now) _ s.args.leaf s.args.variables s.requires.small in
-    (omega arith, omega (arith, s.requires.variables_in_bounds_3))
+    let one = some_states _ _ (entries s.args.pairs.now.conditions.now) _ s.args.leaf s.args.pairs.now.variables s.requires.small in
+    (omega arith, omega (arith, s.requires.room))
 
 pub offset_bounds-moves-from : goal.offset_bounds-moves-from
 offset_bounds-moves-from c = omega (arith, first (goal.at.offset_bounds-moves-from c).Start)
@@ -28,7 +28,7 @@ pub fill_variable-states-requires : goal.fill_variable-states-requires
 fill_variable-states-requires c =
     let l = c.loop-v in
     let long = simp length-set at l.invariant.1 in
-    record { variables_in_bounds = (c.requires.variables_in_bounds.0, c.requires.variables_in_bounds.1, c.loop-v-test.true); variables_in_bounds_2 = c.requires.variables_in_bounds_2; variables_in_bounds_3 = omega (arith, c.requires.variables_in_bounds_3); small = c.requires.small; partly = l.invariant.3 }
+    record { v_in_bounds = c.loop-v-test.true; room = omega (arith, c.requires.room); small = c.requires.small; partly = l.invariant.3 }
 
 pub loop-v-preserved : goal.loop-v-preserved
 loop-v-preserved c =
@@ -37,7 +37,7 @@ loop-v-preserved c =
       omega arith,
       did.auto.moves ∙ l.invariant.1,
       λ k o. did.ensures.same k o ∙ l.invariant.2 k o,
-      did.ensures.partly_2,
+      did.ensures.partly,
     )
 
 pub shape_of-moves : goal.shape_of-moves

@@ -1,8 +1,7 @@
 -- `digits::fill_variable` meets its contract: at a variable of the leaf each state has a digit more, and any other changes nothing. Assumes nothing.
 use Rattle.std.proofs.Common.{◌≡◌, refl, true, ℕ, ◌+◌, ◌*◌, ◌≤◌, ◌<◌, arith, eqb, get_or}
 use Rattle.loops.specs.Count.Laws.{told}
-use Rattle.task.specs.Factors.{states_to}
-use Rattle.digits.specs.Digits.{entries}
+use Rattle.digits.specs.Paired.{counted}
 use Rattle.digits.specs.Digits.Laws.{outside, partly_leaf, partly_other, partly_room}
 use Rattle.digits.proofs.fill_variable.Goals as goal
 use Rattle.digits.proofs.fill_variable.Goals.{Start}
@@ -10,23 +9,20 @@ use Rattle.digits.proofs.fill_variable.Goals.{Start}
 -- the room of the states with a digit more
 room : (s : Start) →
     let a = s.args in
-    eqb (get_or a.factors.now a.v 0) a.leaf ≡ true
-    → (a.states * get_or a.sizes.now a.v 0 ≤ states_to (entries a.factors.now) (entries a.sizes.now) a.leaf a.variables)
+    eqb (get_or a.pairs.now.factors.now a.v 0) a.leaf ≡ true
+    → (a.states * get_or a.pairs.now.sizes.now a.v 0 ≤ counted a.pairs.now a.leaf)
     × ((k : ℕ) → k < a.states → get_or a.moves.now (a.from + k) 0 ≤ a.states)
-room s e = partly_room _ _ _ _ _ _ s.args.variables s.args.v s.args.states _ s.requires.small s.requires.variables_in_bounds.2 e s.requires.partly
+room s e = partly_room _ _ _ _ _ _ s.args.pairs.now.variables s.args.v s.args.states _ s.requires.small s.requires.v_in_bounds e s.requires.partly
 
 pub returns-then-not-is_factor : goal.returns-then-not-is_factor
 returns-then-not-is_factor c =
-    record { partly_2 = partly_other _ _ _ _ _ _ c.args.v _ _ (told c.is_factor.ensures c.if-not-is_factor.true) c.requires.partly; same = λ k o. refl }
-
-pub overflow_cast-size : goal.overflow_cast-size
-overflow_cast-size c = omega (arith, c.type_inv.sizes c.args.v)
+    record { partly = partly_other _ _ _ _ _ _ c.args.v _ _ (told c.is_factor.ensures c.if-not-is_factor.true) c.requires.partly; same = λ k o. refl }
 
 pub grow-requires : goal.grow-requires
 grow-requires c =
     let own = room (goal.at.grow-requires c).Start (told c.is_factor.ensures c.if-not-is_factor.false) in
     let small = c.requires.small in
-    record { size_bound = (omega (arith, small.few), small.sized c.args.v c.requires.variables_in_bounds.2, small.inside c.args.v c.requires.variables_in_bounds.2, omega (arith, c.requires.variables_in_bounds_3)); by_index = own.1 }
+    record { size_bound = (omega (arith, small.few), small.sized c.args.v c.requires.v_in_bounds, small.inside c.args.v c.requires.v_in_bounds, omega (arith, c.requires.room)); by_index = own.1 }
 
 pub overflow_mul-result : goal.overflow_mul-result
 overflow_mul-result c =
@@ -38,4 +34,4 @@ returns c =
     let a = c.args in
     let e = told c.is_factor.ensures c.if-not-is_factor.false in
     let own = room (goal.at.returns c).Start e in
-    let did = c.grow.ensures in record { partly_2 = partly_leaf _ _ _ _ _ _ a.v _ _ _ e (c.requires.small.sized a.v c.requires.variables_in_bounds.2) c.requires.partly did.spread; same = λ k o. did.same k (outside (omega arith) (omega arith) o) }
+    let did = c.grow.ensures in record { partly = partly_leaf _ _ _ _ _ _ a.v _ _ _ e (c.requires.small.sized a.v c.requires.v_in_bounds) c.requires.partly did.spread; same = λ k o. did.same k (outside (omega arith) (omega arith) o) }

@@ -6,6 +6,3 @@ use Rattle.digits.proofs.grow.Given as goal
 abbrev pub invariant-loop-x : goal.invariant-loop-x
 invariant-loop-x l =
     (l.x ≤ l.states) × (length l.moves ≡ length l.initial.moves) × Same l.from (l.from + l.states * l.size) l.initial.moves l.moves × Growing l.from l.states l.size l.condition l.effect l.initial.moves l.x l.moves
-
-abbrev pub decreases-loop-x : goal.decreases-loop-x
-decreases-loop-x l = l.x

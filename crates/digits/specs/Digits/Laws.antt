@@ -16,15 +16,6 @@ use Rattle.digits.specs.Digits.{Placed, Same, Spread, Growing, start_of, Partly,
 
 -- ---- lists
 
--- a turn of a loop that stores one entry after the other, from `from` on
-pub placed_more : (from n : ℕ) (f : ℕ → ℕ) (xs : List ℕ) {y : ℕ} → from + n < length xs → Placed from n f xs → y ≡ f n
-    → Placed from (n + 1) f (set xs (from + n) y)
-placed_more from n f xs {y} l h e k m = go (ℕ_discrete k n)
-  where
-    go : Dec (k ≡ n) → get_or (set xs (from + n) y) (from + k) 0 ≡ f k
-    go (yes q) = rw (q, get_or-set_same) e
-    go (no d) = rw (get_or-set_other xs (from + n) (from + k) y 0 (λ q. omega arith)) (h k (omega arith))
-
 -- an entry between the two is stored
 pub same_set : (from end : ℕ) (xs ys : List ℕ) (j y : ℕ) → from ≤ j → j < end → Same from end xs ys → Same from end xs (set ys j y)
 same_set from end xs ys j y l m h k o = rw (get_or-set_other ys j k y 0 (apart o)) (h k o)
@@ -85,10 +76,6 @@ pub digit_room : (u s z : ℕ) → u < s → 1 ≤ z → (u ≤ u * z) × (u * z
 digit_room u s z l h = (omega (arith, mul-one u, mul-le-mul_left u h), row_inside u s z l, omega (arith, mul-one s, mul-le-mul_left s h))
 
 module _ (from s z p q : ℕ) (xs : List ℕ) where
-  -- before the first state
-  pub growing_none : Growing from s z p q xs s xs
-  growing_none = record { waits = λ k l. refl; grown = λ k d l m. absurd (omega arith) }
-
   -- one state more
   pub growing_more : (u x : ℕ) (ys zs : List ℕ) → x ≡ u + 1 → 1 ≤ z → Growing from s z p q xs x ys
       → Placed (from + u * z) z (digit_move (get_or ys (from + u) 0) z p q) zs → Same (from + u * z) (from + u * z + z) ys zs → Growing from s z p q xs u zs

@@ -20,11 +20,18 @@ conditions_long s = search rules
 effects_long : (s : Start) → length s.args.task.now.effects ≡ 8192
 effects_long s = search rules
 
+pub invariant_of-pairs : goal.invariant_of-pairs
+invariant_of-pairs c =
+    let at = (goal.at.invariant_of-pairs c).Start in
+    record { long = omega (arith, sizes_long at, factors_long at, conditions_long at, effects_long at, c.requires.valid.fields.few_variables) }
+
 pub fill_rows-requires : goal.fill_rows-requires
 unfolding start_of base states all_states
 fill_rows-requires c =
     let ok = c.requires.valid in
-    let bases = c.requires.bases in record { variables_in_bounds = omega (arith, sizes_long (goal.at.fill_rows-requires c).Start, factors_long (goal.at.fill_rows-requires c).Start, bases.long, ok.fields.few_variables, ok.fields.few_leaves, ok.fields.few_actions); in_bounds = omega (arith, conditions_long (goal.at.fill_rows-requires c).Start, effects_long (goal.at.fill_rows-requires c).Start); leaves_in_bounds = c.requires.task_in_bounds; filled = λ i l. bases.is i (omega arith); by_index = small_is c.args.task.now ok }
+    let bases = c.requires.bases in
+    let at = (goal.at.fill_rows-requires c).Start in
+    record { leaves_in_bounds = omega (arith, bases.long, ok.fields.few_leaves); few = omega (arith, ok.fields.few_variables, ok.fields.few_actions); in_bounds = omega (arith, conditions_long at, effects_long at); room = c.requires.task_in_bounds; filled = λ i l. bases.is i (omega arith); by_index = small_is c.args.task.now ok }
 
 pub returns : goal.returns
 unfolding start_of base states all_states to meets_in number values_of to_with

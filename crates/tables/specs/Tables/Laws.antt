@@ -2,14 +2,15 @@
 use Rattle.std.specs.Prelude.{◌≡◌, refl, true, false, List, ◌++◌, ℕ, ◌+◌, ◌*◌, ◌≤◌, ◌<◌, eqb, length, get_or, set, take, drop, replicate}
 use Rattle.std.proofs.Math.Logic.{inl, inr}
 use Rattle.std.proofs.Common.{sym, subst, ◌∙◌, add-one, arith, length-append, length-take, length-drop, get_or-set_same, get_or-set_other}
-use Rattle.std.proofs.lemmas.List.{length-replicate}
+use Rattle.std.proofs.lemmas.List.{length-replicate, length-take-le, get_or-take}
 use Rattle.std.proofs.Math.ListN.{get_or-append}
 use Rattle.std.proofs.Math.Decide.{ℕ_discrete}
 use Rattle.task.specs.Meaning.{State, Partial}
 use Rattle.task.specs.Factors.{touches, leaf_pairs, number_to, states_to}
 use Rattle.task.specs.Radix.{num_lt}
 use Rattle.digits.specs.Moves.Laws.{states_less}
-use Rattle.digits.specs.Digits.{Each, Filled}
+use Rattle.whole.specs.Whole.Ext.{Agree, touches_ext, leaf_pairs_ext}
+use Rattle.digits.specs.Digits.{entries, Each, Filled}
 use Rattle.tables.specs.Tables.{KindIs}
 
 -- ---- lists
@@ -50,6 +51,18 @@ pub number_fits : (fac siz : ℕ → ℕ) (l : ℕ) (s : State) (v n : ℕ) {x :
 number_fits fac siz l s v n m h few e p = rw (number_on fac siz l s v e p) (number_few fac siz l s (v + 1) n (omega arith) h few)
 
 -- ---- kinds
+
+-- the tests of the entries of the variables alone say the same of the whole lists
+module _ (n : ℕ) (factors : List ℕ) (l : n ≤ length factors) where
+  front : (xs : List ℕ) → Agree n (entries (take n xs)) (entries xs)
+  front xs v m = get_or-take n xs v 0 m
+
+  pub touches_front : (es : List ℕ) → touches (length (take n factors)) (entries (take n factors)) 0 (entries (take n es)) ≡ touches n (entries factors) 0 (entries es)
+  touches_front es = rw (length-take-le n factors l) (touches_ext n _ _ (front factors) 0 _ _ (front es))
+
+  pub leaf_pairs_front : (cs es : List ℕ) (leaf : ℕ)
+      → leaf_pairs (length (take n factors)) (entries (take n factors)) (entries (take n cs)) (entries (take n es)) leaf ≡ leaf_pairs n (entries factors) (entries cs) (entries es) leaf
+  leaf_pairs_front cs es leaf = rw (length-take-le n factors l) (leaf_pairs_ext n _ _ (front factors) _ _ _ _ leaf (front cs) (front es))
 
 module _ (n : ℕ) (fac : ℕ → ℕ) (leaves : ℕ) (p q : Partial) where
   pub kind_centre : touches n fac 0 q ≡ true → KindIs n fac leaves p q 0
