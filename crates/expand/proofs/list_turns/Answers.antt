@@ -1,5 +1,5 @@
 -- `expand::list_turns` meets its contract: all actions whose conditions hold are listed, and detours are left out where a hop made the node. Assumes nothing.
-use Rattle.std.proofs.Common.{◌≡◌, ◌∙◌, Bool, ℕ, ◌+◌, ◌*◌, ◌≤◌, ◌<◌, arith, length, get_or, take, rules}
+use Rattle.std.proofs.Common.{◌≡◌, ◌∙◌, Bool, ℕ, ◌≤◌, ◌<◌, arith, length, get_or, take}
 use Rattle.layer.specs.Board.{Board, row_on, met_on}
 use Rattle.layer.specs.Held.{board_in}
 use Rattle.rows.specs.Row.{node_in}

@@ -1,5 +1,5 @@
 -- `expand::turn` meets its contract: the tables say whether the action is a centre action, and its layer's begin is offered. Assumes nothing.
-use Rattle.std.proofs.Common.{◌≡◌, refl, sym, ◌∙◌, true, rules}
+use Rattle.std.proofs.Common.{◌≡◌, refl, sym, ◌∙◌, true}
 use Rattle.loops.specs.Count.Laws.{told}
 use Rattle.layer.specs.Held.{board_in}
 use Rattle.keys.specs.Scan.{key_by}

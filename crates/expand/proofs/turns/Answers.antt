@@ -1,8 +1,8 @@
 -- `expand::turns` meets its contract: what is left of the expansion is the whole, from turn to turn. Assumes nothing.
-use Rattle.std.proofs.Common.{◌≡◌, refl, sym, ◌∙◌, ℕ, ◌<◌, Ok, Err, arith, length, get_or, rules}
+use Rattle.std.proofs.Common.{◌≡◌, refl, Ok, Err, arith, length, get_or, rules}
 use Rattle.std.proofs.lemmas.Result.{err_from_is_err_and}
 use Rattle.mets.specs.Listed.{past, past_more}
-use Rattle.expand.specs.Held.Turns.{Passed, passed_none, passed_more, passed_full, passed_next, passed_last, passed_all}
+use Rattle.expand.specs.Held.Turns.{passed_none, passed_more, passed_full, passed_next, passed_last, passed_all}
 use Rattle.expand.proofs.turns.Goals as goal
 
 pub loop-a-init : goal.loop-a-init

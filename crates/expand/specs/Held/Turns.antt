@@ -1,5 +1,5 @@
 -- The cases of a turn and of an expansion by tables, one law for each. Assumes nothing.
-use Rattle.std.specs.Prelude.{◌≡◌, refl, ◌⊎◌, Bool, not, List, ◌++◌, length, get_or, take, drop, Result, Ok, Err, is_err, IsErr}
+use Rattle.std.specs.Prelude.{◌≡◌, refl, ◌⊎◌, Bool, not, List, ◌++◌, length, get_or, take, drop, Result, Ok, is_err, IsErr}
 use Rattle.std.proofs.Math.Path.{sym}
 use Rattle.std.proofs.Common.{ap, ◌∙◌, inl, inr, lt_of_lt_of_le, add-one, take_at}
 use Rattle.std.proofs.Math.Bool.{true, false}
@@ -39,7 +39,7 @@ use Rattle.hops.specs.Hops.{HopOn}
 use Rattle.expand.specs.Held.{Suits, expanded_of, Aside, Useful, Moved, Grown, Done}
 use Rattle.offers.specs.Held.{search_of, run_of, Cached, Scans, Room, Has, Stands, settled_words, begun_node, settled_node, Alike, Offered}
 use Rattle.offers.specs.Held.Offers.{went_same}
-use Rattle.offers.specs.Held.Laws.{kept_length, node_at_lem, below_is, key_any, goal_is}
+use Rattle.offers.specs.Held.Laws.{kept_length, node_at_lem, below_is, key_any}
 
 -- ---- turn
 

@@ -1,5 +1,5 @@
 -- `offers::fill_begin` meets its contract. Assumes nothing.
-use Rattle.std.proofs.Common.{sym, ◌∙◌, rules}
+use Rattle.std.proofs.Common.{sym, ◌∙◌}
 use Rattle.rows.specs.Begun.{begun_moved, begun_stays}
 use Rattle.offers.proofs.fill_begin.Goals as goal
 

@@ -1,10 +1,9 @@
 -- `offers::is_dominated` meets its contract: the prices are read where they stand, and a list for them. Assumes nothing.
-use Rattle.std.proofs.Common.{◌≡◌, sym, ap, ◌∙◌, List, ℕ, ◌+◌, ◌≤◌, ◌<◌, arith, length, take, rules}
+use Rattle.std.proofs.Common.{◌≡◌, sym, ap, ◌∙◌, List, ℕ, ◌≤◌, arith, length, take, rules}
 use Rattle.layer.specs.Board.{row_on}
 use Rattle.layer.specs.Held.{board_in}
 use Rattle.rows.specs.Begun.{begun_words, read_from, read_begun, read_long, read_reaches}
-use Rattle.rows.specs.Reach.{Reaches, reaches_front}
-use Rattle.rows.specs.Row.{node_with}
+use Rattle.rows.specs.Reach.{reaches_front}
 use Rattle.rows.specs.Sign.{sign_of}
 use Rattle.rows.specs.Sign.Laws.{class_lt}
 use Rattle.nodes.specs.Chain.Walk.{dominator_tells}

@@ -1,5 +1,5 @@
 -- `offers::keep` meets its contract: the row, the links, and the new best by its goal cost. Assumes nothing.
-use Rattle.std.proofs.Common.{◌≡◌, ℕ, ◌+◌, ◌*◌, ◌≤◌, arith, length, take, rules}
+use Rattle.std.proofs.Common.{ℕ, arith, take}
 use Rattle.layer.specs.Board.{row_on}
 use Rattle.layer.specs.Held.{board_in}
 use Rattle.search.specs.Node.{Node}

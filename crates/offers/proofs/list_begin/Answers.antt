@@ -1,5 +1,5 @@
 -- `offers::list_begin` meets its contract: behind a still action no list is asked for. Assumes nothing.
-use Rattle.std.proofs.Common.{arith, rules}
+use Rattle.std.proofs.Common.{arith}
 use Rattle.offers.proofs.list_begin.Goals as goal
 
 pub returns-then-still-ne0 : goal.returns-then-still-ne0

@@ -1,10 +1,9 @@
 -- `offers::offer` meets its contract: one law for each of its four ends. Assumes nothing.
-use Rattle.std.proofs.Common.{◌≡◌, sym, ap, ◌∙◌, Bool, true, false, nat_le, List, ℕ, ◌+◌, ◌≤◌, ◌<◌, arith, length, take, rules}
+use Rattle.std.proofs.Common.{◌≡◌, sym, ◌∙◌, Bool, true, false, nat_le, List, ℕ, ◌+◌, ◌≤◌, ◌<◌, arith, length, rules}
 use borrow.Author.Tests.{leb-true, leb-false}
 use Rattle.layer.specs.Board.{Board, row_on}
 use Rattle.layer.specs.Held.{board_in}
 use Rattle.rows.specs.Begun.{begun_words}
-use Rattle.rows.specs.Sign.{sign_of}
 use Rattle.rows.specs.Sign.Laws.{class_lt}
 use Rattle.offers.specs.Held.Laws.{rows_fit}
 use Rattle.offers.specs.Held.Offers.{offered_above, offered_dominated, offered_full, offered_kept}

@@ -1,5 +1,5 @@
 -- `offers::settle_begin` meets its contract: the flags in the slot are those of the centre state. Assumes nothing.
-use Rattle.std.proofs.Common.{◌+◌, ◌≤◌, arith, length, rules}
+use Rattle.std.proofs.Common.{◌+◌, ◌≤◌, arith, length}
 use Rattle.layer.specs.Held.{board_in}
 use Rattle.mets.specs.Known.{told_mets}
 use Rattle.offers.proofs.settle_begin.Goals as goal

@@ -1,5 +1,4 @@
 -- `offers::sign_behind` meets its contract. Assumes nothing.
-use Rattle.std.proofs.Common.{rules}
 use Rattle.offers.proofs.sign_behind.Goals as goal
 
 pub returns : goal.returns

@@ -1,5 +1,5 @@
 -- The cases of an offer by tables, one law for each. Assumes nothing.
-use Rattle.std.specs.Prelude.{◌≡◌, refl, Bool, true, false, List, ℕ, ◌-◌, ◌≤◌, ◌<◌, min, ltb, length, take, Result, Ok, Err, IsErr}
+use Rattle.std.specs.Prelude.{◌≡◌, refl, Bool, true, false, List, ℕ, ◌≤◌, ◌<◌, min, ltb, length, take, Result, Ok, Err}
 use Rattle.std.proofs.Math.Path.{sym}
 use Rattle.std.proofs.Common.{ap, ◌∙◌, true≢false, arith}
 use borrow.Author.Tests.{lt-ltb, le-ltb}
@@ -13,7 +13,7 @@ use Rattle.search.specs.Made.{Made}
 use Rattle.search.specs.Small.{made_key, made_goal}
 use Rattle.search.specs.Explore.{Search, node_at, below_best, keep, on, full, offer}
 use Rattle.search.specs.Explore.Laws.{Base}
-use Rattle.rows.specs.Row.{node_in, node_with}
+use Rattle.rows.specs.Row.{node_with}
 use Rattle.keys.specs.Scan.{key_by, goal_cost_by}
 use Rattle.offers.specs.declared.Run.{Run}
 use Rattle.offers.specs.declared.Full.{Full}
