@@ -1,5 +1,5 @@
 -- `solve::answer_of` meets its contract: a full table and a spent budget are refused, and a search that has finished is answered. Assumes nothing.
-use Rattle.std.proofs.Common.{◌∙◌, rules}
+use Rattle.std.proofs.Common.{◌∙◌}
 use Rattle.solve.specs.Solve.Stops.{stop_full, stop_spent, stop_finished}
 use Rattle.solve.proofs.answer_of.Goals as goal
 

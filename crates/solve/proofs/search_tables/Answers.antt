@@ -1,5 +1,5 @@
 -- `solve::search_tables` meets its contract: moves and edges have room either way. Assumes nothing.
-use Rattle.std.proofs.Common.{◌≡◌, ◌*◌, ◌≤◌, arith, get_or, rules}
+use Rattle.std.proofs.Common.{◌≡◌, ◌*◌, ◌≤◌, arith, get_or}
 use Rattle.task.specs.Factors.{all_states}
 use Rattle.tables.specs.Fit.{row_of, moves_fit}
 use Rattle.solve.proofs.search_tables.Goals as goal

@@ -1,5 +1,5 @@
 -- `solve::search_task` meets its contract: the search works on the words that it needs, which are zero behind it. Assumes nothing.
-use Rattle.std.proofs.Common.{◌≡◌, sym, ◌∙◌, arith, ◌+◌, ◌*◌, ◌≤◌, length, get_or, take, length-append, length-take-le, rules}
+use Rattle.std.proofs.Common.{◌≡◌, sym, ◌∙◌, arith, ◌+◌, ◌*◌, ◌≤◌, length, get_or, take, length-append, length-take-le}
 use Rattle.tables.specs.Fit.{row_of}
 use Rattle.solve.specs.Solve.{table_words}
 use Rattle.solve.specs.Solve.Answers.{words_is, words_few, search_is}

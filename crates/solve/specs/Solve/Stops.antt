@@ -1,5 +1,5 @@
 -- A search that has stopped, as the code hands it on: the table's rows and the counts. Assumes nothing.
-use Rattle.std.specs.Prelude.{◌≡◌, refl, Option, Some, None, List, [], ◌++◌, ℕ, zero, suc, ◌+◌, ◌-◌, ◌*◌, ◌≤◌, ◌<◌, drop, replicate}
+use Rattle.std.specs.Prelude.{◌≡◌, refl, Option, Some, None, List, [], ◌++◌, ℕ, zero, suc, ◌+◌, ◌*◌, ◌≤◌, ◌<◌, drop, replicate}
 use Rattle.std.proofs.Common.{sym, ◌∙◌, arith, drop_at}
 use Rattle.std.proofs.Math.Path.{ap}
 use Rattle.std.proofs.Math.Bool.{true, false}
@@ -109,6 +109,11 @@ module _ (t : Task) (nodes budget : ℕ) (T O : List ℕ) (r : Stop) (e : stoppe
       room' = omega (arith, room)
 
 -- ---- the answers of a search that has finished
+
+-- what is not some number is none
+pub none_is : (o : Option ℕ) → ((u : ℕ) → o ≡ Some u → ⊥) → o ≡ None
+none_is None h = refl
+none_is (Some u) h = absurd (h u refl)
 
 module _ (t : Task) (T : List ℕ) (r : Run) (plan : List ℕ) where
   abbrev held : Search
