@@ -40,49 +40,32 @@ fn with_price(sum: u64, x: u64) -> u64
 }
 
 // The checksum of the prices.
-fn sum_of_prices(words: &[u64; 1116], count: usize) -> u64
-    requires { count ≤ 1100 }
+fn sum_of_prices(prices: &[u64]) -> u64
     ensures { result < 1000003 }
 {
     let mut sum: u64 = 0;
-    for i in 0..count {
-        sum = with_price(sum, words[BEFORE + i]);
+    for &price in prices {
+        sum = with_price(sum, price);
     }
     sum
 }
 
-// What word `i` of all the words holds before the call: the first lent word holds 1,000,000.
-fn pattern(i: usize) -> u64
-    requires { i ≤ 1116 }
-{
-    999992 + i as u64
-}
-
-// The words before the call.
-fn fill(words: &mut [u64])
-    requires { length words.old ≡ 1116 }
-{
-    for i in 0..ALL {
-        words[i] = pattern(i);
+// The words before the call: the first lent word holds 1,000,000.
+fn pattern() -> [u64; 1116] {
+    let mut words = [0u64; ALL];
+    for (i, word) in words.iter_mut().enumerate() {
+        *word = 999992 + i as u64;
     }
+    words
 }
 
-// Whether the words from `from` to before `to` hold what they held before the call.
-fn same(words: &[u64; 1116], from: usize, to: usize) -> bool
-    requires from_le_to { from ≤ to }
-    requires to_bound { to ≤ 1116 }
+// Whether the words outside those of the prices hold what they held before the call.
+fn kept_around(words: &[u64; 1116], count: usize) -> bool
+    requires { count ≤ 1100 }
 {
-    for i in from..to {
-        if words[i] != pattern(i) {
-            return false;
-        }
-    }
-    true
-}
-
-// A space and a number.
-fn print_number(rt: &impl Print, n: u64) -> io::Result<()> {
-    print!(rt; " {n}")
+    let old = pattern();
+    let end = BEFORE + count;
+    words[..BEFORE] == old[..BEFORE] && words[end..] == old[end..]
 }
 
 // A space and a price.
@@ -90,20 +73,19 @@ fn print_price(rt: &impl Print, x: u64) -> io::Result<()> {
     if x == UNREACHABLE {
         print!(rt; " -")
     } else {
-        print_number(rt, x)
+        print!(rt; " {x}")
     }
 }
 
 // The first prices, at most twelve.
-fn print_first(rt: &impl Print, words: &[u64; 1116], count: usize) -> io::Result<()> {
-    for i in 0..12 {
-        if i < count {
-            print_price(rt, words[BEFORE + i])?;
-        }
+fn print_first(rt: &impl Print, prices: &[u64]) -> io::Result<()> {
+    for &price in prices.iter().take(12) {
+        print_price(rt, price)?;
     }
     Ok(())
 }
 
+// The end of a line.
 fn print_kept(rt: &impl Print, kept: bool) -> io::Result<()> {
     if kept {
         println!(rt; " kept")
@@ -114,36 +96,28 @@ fn print_kept(rt: &impl Print, kept: bool) -> io::Result<()> {
 
 // The rest of an answered call's line.
 fn print_answered(rt: &impl Print, words: &[u64; 1116], count: usize) -> io::Result<()> {
-    print!(rt; " prices")?;
-    print_number(rt, count as u64)?;
+    print!(rt; " prices {count}")?;
     if count > MOST {
         return println!(rt; " TOO MANY");
     }
-    print!(rt; " sum")?;
-    print_number(rt, sum_of_prices(words, count))?;
-    print!(rt; " first")?;
-    print_first(rt, words, count)?;
-    print_kept(
-        rt,
-        same(words, 0, BEFORE) && same(words, BEFORE + count, ALL),
-    )
+    let prices = &words[BEFORE..BEFORE + count];
+    print!(rt; " sum {} first", sum_of_prices(prices))?;
+    print_first(rt, prices)?;
+    print_kept(rt, kept_around(words, count))
 }
 
 // The rest of a refused call's line.
 fn print_refused(rt: &impl Print, words: &[u64; 1116], why: PriceRefusal) -> io::Result<()> {
-    print!(rt; " refused")?;
-    print_number(rt, u64::from(u8::from(why)))?;
-    print_kept(rt, same(words, 0, ALL))
+    print!(rt; " refused {}", u8::from(why))?;
+    print_kept(rt, *words == pattern())
 }
 
 // Calls the pricer with so many lent words, and prints the line.
 fn run_call(rt: &impl Print, number: u64, rec: &[u8], path: &[u8], lent: usize) -> io::Result<()>
     requires { lent ≤ 1100 }
 {
-    let mut words = [0u64; 1116];
-    fill(&mut words);
-    let end = BEFORE + lent;
-    let answer = prices(rec, path, &mut words[8..end]);
+    let mut words = pattern();
+    let answer = prices(rec, path, &mut words[BEFORE..BEFORE + lent]);
     print!(rt; "{number}")?;
     match answer {
         Ok(count) => print_answered(rt, &words, count),
@@ -200,9 +174,10 @@ fn run_case(rt: &impl Print, input: &mut impl Read, number: u64) -> io::Result<b
 
 fn main(rt: HostRuntime) -> io::Result<()> {
     let mut input = rt.reader();
-    let mut number: u64 = 1;
-    while number < 1000000 && run_case(&rt, &mut input, number)? {
-        number += 1;
+    for number in 1..1000000 {
+        if !run_case(&rt, &mut input, number)? {
+            break;
+        }
     }
     Ok(())
 }

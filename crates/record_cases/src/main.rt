@@ -86,9 +86,10 @@ fn run_case(rt: &impl Print, input: &mut impl Read, number: u64) -> io::Result<b
 
 fn main(rt: HostRuntime) -> io::Result<()> {
     let mut input = rt.reader();
-    let mut number: u64 = 1;
-    while number < 1000000 && run_case(&rt, &mut input, number)? {
-        number += 1;
+    for number in 1..1000000 {
+        if !run_case(&rt, &mut input, number)? {
+            break;
+        }
     }
     Ok(())
 }
