@@ -19,14 +19,8 @@ use std::io::Read;
 use steps::{holds, put};
 use task::Task;
 
-// The cost where there is no plan. No plan costs so much.
-const NONE: u64 = u64::MAX;
-
 // How many whole states the plain planner can number.
 const MOST: usize = 1024;
-
-// What stands for a state that has no number.
-const OVER: usize = 1025;
 
 // How many nodes the planner may keep: its table has words for them where the leaves have at most 87 states together.
 const NODES: u32 = 512;
@@ -74,64 +68,43 @@ fn cost(handling: u16, distance: u16) -> u64 {
     handling as u64 + drive(distance)
 }
 
-// What each action costs.
-fn write_costs(handling: &[u16], distance: &[u16], costs: &mut [u64], actions: usize)
-    requires { (actions ≤ length handling.now) × (actions ≤ length distance.now) × (actions ≤ length costs.old) }
-{
-    for a in 0..actions {
-        costs[a] = cost(handling[a], distance[a]);
-    }
-}
-
-// What each action of the task costs.
-fn task_costs(t: Task) -> [u64; 256]
-    requires { Valid t }
-    ensures { length result ≡ 256 }
-{
-    let handling = t.handling;
-    let distance = t.distance;
+// What each action of the task costs. Behind the last action stand costs of 0.
+fn task_costs(task: &Task) -> [u64; 256] {
     let mut costs = [0u64; 256];
-    write_costs(&handling, &distance, &mut costs, t.actions as usize);
+    for (a, entry) in costs.iter_mut().enumerate() {
+        *entry = cost(task.handling[a], task.distance[a]);
+    }
     costs
 }
 
-// A cost with another one added, or none where that has no room.
+// A sum with more added, or the greatest number where that has no room.
 fn plus(sum: u64, more: u64) -> u64 {
     sum.saturating_add(more)
 }
 
 // ---- states
 
-// A number with one digit more, or 1,025 where that is above 1,024.
-fn with_digit(number: usize, size: u8, value: u8) -> usize
-    requires { number ≤ 1025 }
-    ensures { result ≤ 1025 }
-{
-    let longer = number * (size as usize) + (value as usize);
-    if longer > MOST {
-        return OVER;
-    }
-    longer
+// A number with one digit more, or the greatest number where that has no room.
+fn with_digit(number: usize, size: u8, value: u8) -> usize {
+    number
+        .saturating_mul(usize::from(size))
+        .saturating_add(usize::from(value))
 }
 
-// How many whole states there are, or 1,025 where there are more.
-fn states_of(sizes: &[u8], n: usize) -> usize
-    requires { n ≤ length sizes.now }
-{
+// How many whole states there are.
+fn states_of(sizes: &[u8]) -> usize {
     let mut states: usize = 1;
-    for v in 0..n {
-        states = with_digit(states, sizes[v], 0);
+    for &size in sizes {
+        states = with_digit(states, size, 0);
     }
     states
 }
 
-// The number of the state with these values, mixed-radix, the first variable the most significant; or 1,025 where it is above 1,024.
-fn number_of(sizes: &[u8], values: &[u8], n: usize) -> usize
-    requires { (n ≤ length sizes.now) × (n ≤ length values.now) }
-{
+// The number of the state with these values, mixed-radix, the first variable the most significant.
+fn number_of(sizes: &[u8], values: &[u8]) -> usize {
     let mut number: usize = 0;
-    for v in 0..n {
-        number = with_digit(number, sizes[v], values[v]);
+    for (&size, &value) in sizes.iter().zip(values) {
+        number = with_digit(number, size, value);
     }
     number
 }
@@ -152,292 +125,205 @@ fn without_digit(number: usize, size: u8) -> usize {
     number / (size as usize)
 }
 
-// The values in the state of this number.
-fn write_values(sizes: &[u8], number: usize, values: &mut [u8], n: usize)
-    requires { (n ≤ length sizes.now) × (n ≤ length values.old) }
+// The values in the state of this number, as many as there are sizes, and 0 behind them.
+fn values_of(sizes: &[u8], number: usize) -> [u8; 32]
+    requires { length sizes.now ≤ 32 }
 {
+    let mut values = [0u8; 32];
     let mut rest = number;
-    for k in 0..n {
-        let v = n - 1 - k;
+    for v in (0..sizes.len()).rev() {
         values[v] = digit(rest, sizes[v]);
         rest = without_digit(rest, sizes[v]);
     }
+    values
+}
+
+// The values behind an action that is carried out from these, or none where it does not apply.
+fn step(task: &Task, action: usize, mut values: [u8; 32]) -> Option<[u8; 32]>
+    requires accepted { Valid task.now }
+    requires fits { action < 256 }
+{
+    let row = action * 32;
+    let end = row + task.variables as usize;
+    if !holds(&task.conditions[row..end], &values) {
+        return None;
+    }
+    put(&task.effects[row..end], &mut values);
+    Some(values)
+}
+
+// Whether the goal holds of the values.
+fn meets_goal(task: &Task, values: &[u8; 32]) -> bool
+    requires { Valid task.now }
+{
+    holds(&task.goal[..task.variables as usize], values)
 }
 
 // ---- the plain planner
 
-// The number of the state behind an action, whose rows begin at `at`, or 1,025 where it does not apply.
-fn next_state(
-    sizes: &[u8],
-    conditions: &[u8],
-    effects: &[u8],
-    at: usize,
-    number: usize,
-    n: usize,
-) -> usize
-    requires { (n ≤ 32) × (n ≤ length sizes.now) × (at + n ≤ length conditions.now) × (at + n ≤ length effects.now) }
-{
-    let mut values = [0u8; 32];
-    write_values(sizes, number, &mut values, n);
-    if !holds(&conditions[at..at + n], &values) {
-        return OVER;
+// What the search knows of a state: the least cost of a way to it so far, if there is a way, and whether it went on from there.
+#[derive(Clone, Copy)]
+struct Node {
+    distance: Option<u64>,
+    settled: bool,
+}
+
+impl Node {
+    // Lowers the distance to this one, if this is lower.
+    fn lower(&mut self, distance: u64) {
+        if self.distance.is_none_or(|old| distance < old) {
+            self.distance = Some(distance);
+        }
     }
-    put(&effects[at..at + n], &mut values);
-    number_of(sizes, &values, n)
+
+    // The distance of a state that the search can go on from.
+    fn open(self) -> Option<u64> {
+        if self.settled { None } else { self.distance }
+    }
 }
 
 // Lowers a state's distance to this one, if there is such a state and this is lower.
-fn lower(distances: &mut [u64], state: usize, distance: u64) {
-    if state >= distances.len() {
-        return;
+fn lower(nodes: &mut [Node], state: usize, distance: u64) {
+    if let Some(node) = nodes.get_mut(state) {
+        node.lower(distance);
     }
-    if distance < distances[state] {
-        distances[state] = distance;
+}
+
+// Notes that the search went on from the state.
+fn settle(nodes: &mut [Node], state: usize) {
+    if let Some(node) = nodes.get_mut(state) {
+        node.settled = true;
     }
+}
+
+// A state that the search can go on from, and its distance.
+#[derive(Clone, Copy)]
+struct Near {
+    state: usize,
+    distance: u64,
 }
 
 // Lowers the distance of each state that an action leads to from this state.
-fn lower_next(
-    sizes: &[u8],
-    conditions: &[u8],
-    effects: &[u8],
-    costs: &[u64],
-    n: usize,
-    actions: usize,
-    state: usize,
-    distances: &mut [u64],
-)
-    requires { (n ≤ 32) × (actions ≤ 255) × (length sizes.now ≡ 32) × (length conditions.now ≡ 8192) × (length effects.now ≡ 8192)
-        × (length costs.now ≡ 256) × (state < length distances.old) }
+fn lower_next(task: &Task, costs: &[u64; 256], here: Near, nodes: &mut [Node])
+    requires { Valid task.now }
 {
-    let here = distances[state];
-    for a in 0..actions {
-        let next = next_state(sizes, conditions, effects, a * 32, state, n);
-        let distance = plus(here, costs[a]);
-        lower(distances, next, distance);
+    let n = task.variables as usize;
+    let values = values_of(&task.sizes[..n], here.state);
+    for (a, &cost) in costs[..task.actions as usize].iter().enumerate() {
+        if let Some(next) = step(task, a, values) {
+            let state = number_of(&task.sizes[..n], &next);
+            lower(nodes, state, plus(here.distance, cost));
+        }
     }
 }
 
-// The nearer of two states, where the second counts if it can be reached and is not settled, and the first if it is below 1,024.
-fn nearer(distances: &[u64], settled: &[u8], first: usize, second: usize) -> usize
-    requires { (length distances.now ≡ 1024) × (length settled.now ≡ 1024) × (first ≤ 1024) × (second < 1024) }
-    ensures { result ≤ 1024 }
-{
-    if settled[second] != 0 {
-        return first;
+// The nearer of a state found so far and another one, the first where they are as near.
+fn nearer(found: Option<Near>, other: Near) -> Near {
+    match found {
+        Some(first) if first.distance <= other.distance => first,
+        _ => other,
     }
-    if distances[second] == NONE {
-        return first;
-    }
-    if first == MOST {
-        return second;
-    }
-    if distances[first] <= distances[second] {
-        return first;
-    }
-    second
 }
 
-// The unsettled state of least distance, or 1,024 where no more can be reached.
-fn nearest(distances: &[u64], settled: &[u8]) -> usize
-    requires { (length distances.now ≡ 1024) × (length settled.now ≡ 1024) }
-    ensures { result ≤ 1024 }
-{
-    let mut found = MOST;
-    for state in 0..MOST {
-        found = nearer(distances, settled, found, state);
+// The state of least distance that the search can go on from, if there is one.
+fn nearest(nodes: &[Node]) -> Option<Near> {
+    let mut found = None;
+    for (state, node) in nodes.iter().enumerate() {
+        if let Some(distance) = node.open() {
+            found = Some(nearer(found, Near { state, distance }));
+        }
     }
     found
 }
 
 // Whether the goal holds in the state.
-fn is_goal(sizes: &[u8], goal: &[u8], state: usize, n: usize) -> bool
-    requires { (n ≤ 32) × (n ≤ length sizes.now) × (n ≤ length goal.now) }
+fn is_goal(task: &Task, state: usize) -> bool
+    requires { Valid task.now }
 {
-    let mut values = [0u8; 32];
-    write_values(sizes, state, &mut values, n);
-    holds(&goal[..n], &values)
-}
-
-// The least cost from the state `start` to the goal, or none: settles the nearest states first, until one meets the goal.
-fn least_cost(
-    sizes: &[u8],
-    goal: &[u8],
-    conditions: &[u8],
-    effects: &[u8],
-    costs: &[u64],
-    n: usize,
-    actions: usize,
-    start: usize,
-) -> u64
-    requires { (n ≤ 32) × (actions ≤ 255) × (start < 1024) × (length sizes.now ≡ 32) × (length goal.now ≡ 32)
-        × (length conditions.now ≡ 8192) × (length effects.now ≡ 8192) × (length costs.now ≡ 256) }
-{
-    let mut distances = [NONE; 1024];
-    let mut settled = [0u8; 1024];
-    distances[start] = 0;
-    for turn in 0..MOST {
-        let state = nearest(&distances, &settled);
-        if state == MOST {
-            return NONE;
-        }
-        if is_goal(sizes, goal, state, n) {
-            return distances[state];
-        }
-        settled[state] = 1;
-        lower_next(
-            sizes,
-            conditions,
-            effects,
-            costs,
-            n,
-            actions,
-            state,
-            &mut distances,
-        );
-    }
-    NONE
-}
-
-// How many whole states the task has, or 1,025 where there are more.
-fn task_states(t: Task) -> usize
-    requires { Valid t }
-{
-    let sizes = t.sizes;
-    states_of(&sizes, t.variables as usize)
+    let n = task.variables as usize;
+    meets_goal(task, &values_of(&task.sizes[..n], state))
 }
 
 // The number of the initial state.
-fn first_state(t: Task) -> usize
-    requires { Valid t }
+fn first_state(task: &Task) -> usize
+    requires { Valid task.now }
 {
-    let sizes = t.sizes;
-    let initial = t.initial;
-    number_of(&sizes, &initial, t.variables as usize)
+    number_of(&task.sizes[..task.variables as usize], &task.initial)
 }
 
-// The least cost of a plan, or none, by a search over whole states.
-fn plain_cost(t: Task) -> u64
-    requires { Valid t }
+// The least cost of a plan, or none: settles the nearest states first, until one meets the goal.
+fn plain_cost(task: &Task) -> Option<u64>
+    requires { Valid task.now }
 {
-    let start = first_state(t);
-    if start >= MOST {
-        return NONE;
+    let costs = task_costs(task);
+    let mut nodes = [Node {
+        distance: None,
+        settled: false,
+    }; MOST];
+    lower(&mut nodes, first_state(task), 0);
+    for _ in 0..MOST {
+        let here = nearest(&nodes)?;
+        if is_goal(task, here.state) {
+            return Some(here.distance);
+        }
+        settle(&mut nodes, here.state);
+        lower_next(task, &costs, here, &mut nodes);
     }
-    let costs = task_costs(t);
-    let sizes = t.sizes;
-    let goal = t.goal;
-    let conditions = t.conditions;
-    let effects = t.effects;
-    least_cost(
-        &sizes,
-        &goal,
-        &conditions,
-        &effects,
-        &costs,
-        t.variables as usize,
-        t.actions as usize,
-        start,
-    )
+    None
+}
+
+// How many whole states the task has.
+fn task_states(task: &Task) -> usize
+    requires { Valid task.now }
+{
+    states_of(&task.sizes[..task.variables as usize])
 }
 
 // ---- a plan carried out
 
-// The cost of the plan's actions where each applies in turn from the values, and the goal holds at the end; else none.
-fn carry_out(
-    conditions: &[u8],
-    effects: &[u8],
-    goal: &[u8],
-    costs: &[u64],
-    n: usize,
-    actions: usize,
-    plan: &[u8],
-    values: &mut [u8],
-) -> u64
-    requires { (n ≤ 32) × (actions ≤ 255) × (length conditions.now ≡ 8192) × (length effects.now ≡ 8192) × (length goal.now ≡ 32)
-        × (length costs.now ≡ 256) × (length values.old ≡ 32) }
+// What the plan's actions cost where each applies in turn from the initial state, and the goal holds at the end; else none.
+fn carried_cost(task: &Task, plan: &[u8]) -> Option<u64>
+    requires { Valid task.now }
 {
+    let costs = task_costs(task);
+    let mut values = task.initial;
     let mut sum: u64 = 0;
-    for k in 0..plan.len() {
-        let a = plan[k] as usize;
-        if a >= actions {
-            return NONE;
+    for &action in plan {
+        if action >= task.actions {
+            return None;
         }
-        let row = a * 32;
-        if !holds(&conditions[row..row + n], values) {
-            return NONE;
-        }
-        put(&effects[row..row + n], values);
-        sum = plus(sum, costs[a]);
+        values = step(task, action as usize, values)?;
+        sum = plus(sum, costs[action as usize]);
     }
-    if !holds(&goal[..n], values) {
-        return NONE;
+    if meets_goal(task, &values) {
+        Some(sum)
+    } else {
+        None
     }
-    sum
-}
-
-// What the plan costs, carried out from the initial state, or none where it does not reach the goal.
-fn carried_cost(t: Task, plan: &[u8]) -> u64
-    requires { Valid t }
-{
-    let costs = task_costs(t);
-    let goal = t.goal;
-    let conditions = t.conditions;
-    let effects = t.effects;
-    let mut values = t.initial;
-    carry_out(
-        &conditions,
-        &effects,
-        &goal,
-        &costs,
-        t.variables as usize,
-        t.actions as usize,
-        plan,
-        &mut values,
-    )
 }
 
 // Whether each byte is blank.
 fn is_blank(bytes: &[u8]) -> bool {
-    for k in 0..bytes.len() {
-        if bytes[k] != BLANK {
-            return false;
-        }
-    }
-    true
+    bytes.iter().all(|byte| *byte == BLANK)
 }
 
 // Whether the plan has room in the bytes, those behind it are blank, and it carries out for the cost that the answer states.
-fn carries(t: Task, s: Solution, bytes: &[u8]) -> bool
-    requires { Valid t }
+fn carries(task: &Task, s: Solution, bytes: &[u8]) -> bool
+    requires { Valid task.now }
 {
-    let end = s.length;
-    if end > bytes.len() {
+    let Some((plan, rest)) = bytes.split_at_checked(s.length) else {
         return false;
-    }
-    if !is_blank(&bytes[end..]) {
-        return false;
-    }
-    let sum = carried_cost(t, &bytes[..end]);
-    if sum == NONE {
-        return false;
-    }
-    sum == s.cost
+    };
+    is_blank(rest) && carried_cost(task, plan) == Some(s.cost)
 }
 
 // ---- the lines
 
-// A space and a number.
-fn print_number(rt: &impl Print, n: u64) -> io::Result<()> {
-    print!(rt; " {n}")
-}
-
 // A space and a cost.
-fn print_cost(rt: &impl Print, cost: u64) -> io::Result<()> {
-    if cost == NONE {
-        print!(rt; " none")
-    } else {
-        print_number(rt, cost)
+fn print_cost(rt: &impl Print, cost: Option<u64>) -> io::Result<()> {
+    match cost {
+        Some(cost) => print!(rt; " {cost}"),
+        None => print!(rt; " none"),
     }
 }
 
@@ -452,31 +338,35 @@ fn print_end(rt: &impl Print, same: bool) -> io::Result<bool> {
 }
 
 // The rest of the line of a task that the planner solved.
-fn print_solved(rt: &impl Print, t: Task, plain: u64, s: Solution, bytes: &[u8]) -> io::Result<bool>
-    requires { Valid t }
+fn print_solved(
+    rt: &impl Print,
+    task: &Task,
+    plain: Option<u64>,
+    s: Solution,
+    bytes: &[u8],
+) -> io::Result<bool>
+    requires { Valid task.now }
 {
-    let cost = s.cost;
-    print_cost(rt, cost)?;
-    print!(rt; " plain")?;
+    print!(rt; " {} plain", s.cost)?;
     print_cost(rt, plain)?;
-    if carries(t, s, bytes) {
+    if carries(task, s, bytes) {
         print!(rt; " carried yes")?;
-        return print_end(rt, cost == plain);
+        return print_end(rt, plain == Some(s.cost));
     }
     print!(rt; " carried no")?;
     print_end(rt, false)
 }
 
 // The rest of the line of a task that has no plan by the planner.
-fn print_unsolvable(rt: &impl Print, plain: u64, bytes: &[u8]) -> io::Result<bool> {
+fn print_unsolvable(rt: &impl Print, plain: Option<u64>, bytes: &[u8]) -> io::Result<bool> {
     print!(rt; " none plain")?;
     print_cost(rt, plain)?;
     print!(rt; " carried none")?;
-    print_end(rt, plain == NONE && is_blank(bytes))
+    print_end(rt, plain.is_none() && is_blank(bytes))
 }
 
 // The rest of the line of a task that the planner refused.
-fn print_refused(rt: &impl Print, plain: u64) -> io::Result<bool> {
+fn print_refused(rt: &impl Print, plain: Option<u64>) -> io::Result<bool> {
     print!(rt; " refused plain")?;
     print_cost(rt, plain)?;
     print!(rt; " carried none")?;
@@ -484,15 +374,15 @@ fn print_refused(rt: &impl Print, plain: u64) -> io::Result<bool> {
 }
 
 // Runs the planner on the task's record, and prints the rest of the line.
-fn run_planner(rt: &impl Print, t: Task, rec: &[u8], plain: u64) -> io::Result<bool>
-    requires { Valid t }
+fn run_planner(rt: &impl Print, task: &Task, rec: &[u8], plain: Option<u64>) -> io::Result<bool>
+    requires { Valid task.now }
 {
     let mut bytes = [BLANK; 4096];
     let mut table = [0u64; 65536];
     let answer = plan(rec, NODES, BUDGET, &mut bytes, &mut table);
     print!(rt; " planner")?;
     match answer {
-        PlanAnswer::Solved(s, _) => print_solved(rt, t, plain, s, &bytes),
+        PlanAnswer::Solved(s, _) => print_solved(rt, task, plain, s, &bytes),
         PlanAnswer::Unsolvable(_) => print_unsolvable(rt, plain, &bytes),
         PlanAnswer::Refused(_, _) => print_refused(rt, plain),
     }
@@ -500,10 +390,9 @@ fn run_planner(rt: &impl Print, t: Task, rec: &[u8], plain: u64) -> io::Result<b
 
 // ---- the run
 
-// What came of a call: the end of the input; a task that was not planned; one with a plan and one without, each with whether the planners agree.
+// What came of a call: a task that was not planned; one with a plan and one without, each with whether the planners agree.
 #[derive(Clone, Copy)]
 enum Outcome {
-    End,
     Left,
     Solved(bool),
     Unsolvable(bool),
@@ -549,7 +438,6 @@ impl Totals {
     // With what came of a call.
     fn with(self, outcome: Outcome) -> Totals {
         match outcome {
-            Outcome::End => self,
             Outcome::Left => self.with_task(),
             Outcome::Solved(same) => self.with_task().with_solved().with_difference(same),
             Outcome::Unsolvable(same) => self.with_task().with_unsolvable().with_difference(same),
@@ -558,29 +446,25 @@ impl Totals {
 
     // The last line.
     fn print(self, rt: &impl Print) -> io::Result<()> {
-        print!(rt; "tasks")?;
-        print_number(rt, self.tasks)?;
-        print!(rt; " solved")?;
-        print_number(rt, self.solved)?;
-        print!(rt; " unsolvable")?;
-        print_number(rt, self.unsolvable)?;
-        print!(rt; " differences")?;
-        print_number(rt, self.differences)?;
-        println!(rt)
+        print!(rt; "tasks {} solved {}", self.tasks, self.solved)?;
+        println!(rt;
+            " unsolvable {} differences {}",
+            self.unsolvable, self.differences
+        )
     }
 }
 
 // Plans a task both ways, and prints the rest of its line.
-fn run_task(rt: &impl Print, t: Task, rec: &[u8]) -> io::Result<Outcome>
-    requires { Valid t }
+fn run_task(rt: &impl Print, task: &Task, rec: &[u8]) -> io::Result<Outcome>
+    requires { Valid task.now }
 {
-    if task_states(t) > MOST {
+    if task_states(task) > MOST {
         println!(rt; " has more than 1024 states")?;
         return Ok(Outcome::Left);
     }
-    let plain = plain_cost(t);
-    let same = run_planner(rt, t, rec, plain)?;
-    if plain == NONE {
+    let plain = plain_cost(task);
+    let same = run_planner(rt, task, rec, plain)?;
+    if plain.is_none() {
         return Ok(Outcome::Unsolvable(same));
     }
     Ok(Outcome::Solved(same))
@@ -590,7 +474,7 @@ fn run_task(rt: &impl Print, t: Task, rec: &[u8]) -> io::Result<Outcome>
 fn run_record(rt: &impl Print, number: u64, rec: &[u8]) -> io::Result<Outcome> {
     print!(rt; "{number}")?;
     match read_record(rec) {
-        Ok(task) => run_task(rt, task, rec),
+        Ok(task) => run_task(rt, &task, rec),
         Err(_) => {
             println!(rt; " refused by the reader")?;
             Ok(Outcome::Left)
@@ -598,23 +482,23 @@ fn run_record(rt: &impl Print, number: u64, rec: &[u8]) -> io::Result<Outcome> {
     }
 }
 
-// Fills `rec` from the input and goes on with it.
+// Fills `rec` from the input and goes on with it; none at the end of the input.
 fn fill_record(
     rt: &impl Print,
     input: &mut impl Read,
     number: u64,
     rec: &mut [u8],
-) -> io::Result<Outcome> {
+) -> io::Result<Option<Outcome>> {
     if read_full(input, rec) < rec.len() {
-        return Ok(Outcome::End);
+        return Ok(None);
     }
-    run_record(rt, number, rec)
+    Ok(Some(run_record(rt, number, rec)?))
 }
 
-// Reads the length of a record and goes on with the record.
-fn run_case(rt: &impl Print, input: &mut impl Read, number: u64) -> io::Result<Outcome> {
+// Reads the length of a record and goes on with the record; none at the end of the input.
+fn run_case(rt: &impl Print, input: &mut impl Read, number: u64) -> io::Result<Option<Outcome>> {
     let Some(length) = read_length(input) else {
-        return Ok(Outcome::End);
+        return Ok(None);
     };
     let mut rec = [0u8; 65535];
     fill_record(rt, input, number, &mut rec[..length])
@@ -629,10 +513,9 @@ fn main(rt: HostRuntime) -> io::Result<()> {
         differences: 0,
     };
     for number in 1..1000000 {
-        let outcome = run_case(&rt, &mut input, number)?;
-        if let Outcome::End = outcome {
+        let Some(outcome) = run_case(&rt, &mut input, number)? else {
             return totals.print(&rt);
-        }
+        };
         totals = totals.with(outcome);
     }
     totals.print(&rt)
