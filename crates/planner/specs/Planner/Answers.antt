@@ -1,5 +1,5 @@
 -- The planner's answers case by case, as its code finds them, and what each says of sequences. Assumes nothing.
-use Rattle.std.specs.Prelude.{◌≡◌, ◌&&◌, Ok, Err, List, ℕ, ◌+◌, ◌-◌, ◌/◌, ◌≤◌, ◌<◌, length}
+use Rattle.std.specs.Prelude.{◌≡◌, ◌&&◌, Ok, List, ℕ, ◌+◌, ◌-◌, ◌/◌, ◌≤◌, ◌<◌, length}
 use Rattle.std.proofs.Common.{◌∙◌, arith}
 use Rattle.std.proofs.Math.Bool.{true, false}
 use Rattle.std.proofs.Math.Dec.{leb}
@@ -8,6 +8,7 @@ use Rattle.loops.specs.Count.Laws.{and_in}
 use Rattle.task.specs.declared.Task.{Task}
 use Rattle.task.specs.Factors.{all_states}
 use Rattle.fields.specs.declared.Refusal.{Refusal}
+use Rattle.whole.specs.Verdict.{Refused as NotAccepted}
 use Rattle.record.specs.Record.{read_told, read_record}
 use Rattle.answers.specs.declared.PlanRefusal.TheVariants.{InRecord, NodesWrong, TableShort}
 use Rattle.answers.specs.declared.PlanAnswer.{PlanAnswer}
@@ -49,9 +50,9 @@ module _ (t : Task) (nodes budget : ℕ) (plan words : List ℕ) where
 
 module _ (rec : List ℕ) (nodes budget : ℕ) (plan words : List ℕ) where
   -- 1 to 11
-  pub record_refused : {why : Refusal} → read_told (Err why) ≡ read_record rec → unwritten (Refused (InRecord why) no_counts) plan words ≡ record_plan rec nodes budget plan words
+  pub record_refused : {why : Refusal} → (read_record rec).verdict ≡ NotAccepted why → unwritten (Refused (InRecord why) no_counts) plan words ≡ record_plan rec nodes budget plan words
   unfolding record_plan
-  record_refused e = rw (← e)
+  record_refused e = rw e
 
   pub record_accepted : {t : Task} {o : Outcome} → read_told (Ok t) ≡ read_record rec → o ≡ task_plan t nodes budget plan words → o ≡ record_plan rec nodes budget plan words
   unfolding record_plan
@@ -84,9 +85,9 @@ unfolding fitting_nodes
 nodes_some t words k e h = rw (← e) (omega arith)
 
 module _ (rec : List ℕ) (words : ℕ) where
-  pub nodes_refused : {why : Refusal} → read_told (Err why) ≡ read_record rec → 0 ≡ record_nodes rec words
+  pub nodes_refused : {why : Refusal} → (read_record rec).verdict ≡ NotAccepted why → 0 ≡ record_nodes rec words
   unfolding record_nodes
-  nodes_refused e = rw (← e)
+  nodes_refused e = rw e
 
   pub nodes_accepted : {t : Task} {n : ℕ} → read_told (Ok t) ≡ read_record rec → n ≡ fitting_nodes t words → n ≡ record_nodes rec words
   unfolding record_nodes

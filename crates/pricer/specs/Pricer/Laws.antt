@@ -296,9 +296,9 @@ module _ (rec path out : List ℕ) where
       go (Refused why) = refused_count (read_record rec).task (PriceInRecord why) (λ x. absurd (omega (arith, (record_number why).0)))
 
   -- a refused record
-  pub record_refused : {why : Refusal} → read_told (Err why) ≡ read_record rec → refuse (PriceInRecord why) out ≡ prices_of rec path out
+  pub record_refused : {why : Refusal} → (read_record rec).verdict ≡ Refused why → refuse (PriceInRecord why) out ≡ prices_of rec path out
   unfolding prices_of
-  record_refused e = rw (← e)
+  record_refused e = rw e
 
   -- an accepted one
   pub record_accepted : {t : Task} {o : Outcome} → read_told (Ok t) ≡ read_record rec → o ≡ task_prices t path out → o ≡ prices_of rec path out
