@@ -128,7 +128,7 @@ fn turns(
 
 // What an action costs.
 fn cost_of(board: &Board<'_>, a: usize) -> u16
-    requires { a < board.now.actions }
+    requires { a < 256 }
     ensures { result ≡ get_or board.now.costs.now a 0 }
 {
     board.costs[a]

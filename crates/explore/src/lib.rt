@@ -26,7 +26,7 @@ use keys::key_of;
 use layer::{first_conditions, first_layer};
 use leaf::MARK;
 use offers::{Bench, Full, Run, SearchTables, Successor, keep};
-use rows::{class_of, sign_of};
+use rows::class_of;
 use stills::{still_actions, still_leaves};
 use tables::TaskTables;
 use task::Centre;
@@ -82,7 +82,7 @@ fn start(
         parent: 0,
         action: 0,
         key: key_of(board, 0, &prices),
-        sign: sign_of(&prices[..board.states()]),
+        sign: 0,
     };
     let none = Run {
         count: 0,
@@ -90,7 +90,16 @@ fn start(
         best: None,
         best_cost: MARK,
     };
-    keep(search, first, class_of(spot), &prices, table, scan, none)
+    keep(
+        search,
+        first,
+        class_of(spot),
+        true,
+        &prices,
+        table,
+        scan,
+        none,
+    )
 }
 
 // Whether so many expansions have begun as the budget allows.

@@ -89,9 +89,9 @@ fn counted(run: Run, cost: u64) -> Run
     }
 }
 
-// A node under the next number: its row, its scan words (key, links), and the new best. `class` is its centre state's class, and its prices begin `prices`. The
-// scan words behind the keys are left to the program: they chain the nodes (`Kept`). So are the words of the table that hold no node.
-pub fn keep(
+// A node under the next number: its row, its scan words (key, links), and the new best. `class` is its centre state's class, and its prices begin `prices`, whose
+// signature it has.
+fn keep_signed(
     tables: &SearchTables<'_>,
     made: Successor,
     class: usize,
@@ -135,6 +135,33 @@ pub fn keep(
         prices,
     );
     counted(run, cost)
+}
+
+// The same of a node with the signature of its layer's begin, where no leaf was swept since; where one was, its signature is found. The scan words behind the keys are left to
+// the program: they chain the nodes (`Kept`). So are the words of the table that hold no node.
+pub fn keep(
+    tables: &SearchTables<'_>,
+    made: Successor,
+    class: usize,
+    swept: bool,
+    prices: &[u64],
+    table: &mut [u64],
+    scan: &mut [u64; SCAN_WORDS],
+    run: Run,
+) -> Run
+    requires prices { row_on (board_in tables.now.board) ≤ length prices.now }
+    requires room { (run.count < 4096) × ((run.count + 1) * (40 + row_on (board_in tables.now.board)) ≤ length table.old) }
+    requires sign { swept ≡ false → made.sign ≡ sign_of (take (row_on (board_in tables.now.board)) prices.now) }
+    requires class { class ≡ class_of made.spot }
+    ensures { Kept (row_on (board_in tables.now.board)) table.old scan.old run
+        (node_with made.spot made.paid (take (row_on (board_in tables.now.board)) prices.now) made.parent made.action) made.key
+        (goal_cost_by tables.now.board.leaves tables.now.board.bases.now tables.now.goals.now tables.now.board.factors tables.now.goal made.spot made.paid prices.now)
+        table.new scan.new result }
+{
+    let states = tables.board.states();
+    let sign = sign_behind(swept, made.sign, &prices[..states]);
+    let signed = Successor { sign, ..made };
+    keep_signed(tables, signed, class, prices, table, scan, run)
 }
 
 // A layer's begin settles; `spot` is its centre state, of this class. Whether a leaf was swept: else all is as it was.
@@ -285,7 +312,5 @@ pub fn offer(
     let class = class_of(next.spot);
     fill_begin(from.node.prices, &mut bench.next, still, states);
     let swept = settle_begin(tables, next.spot, class, &mut bench.next, &mut bench.known);
-    let sign = sign_behind(swept, next.sign, &bench.next[..states]);
-    let made = Successor { sign, ..next };
-    Ok(keep(tables, made, class, &bench.next, table, scan, run))
+    Ok(keep(tables, next, class, swept, &bench.next, table, scan, run))
 }

@@ -41,7 +41,10 @@ pub cost_of-cost-requires : goal.cost_of-cost-requires
 cost_of-cost-requires c =
     let s = (goal.at.cost_of-cost-requires c).Start in
     let known = (hop s c.hop_behind-word.result c.hop_behind-word.ensures c.if-word-eq0.false).1 in
-    rw c.requires.states (rw (action_word (row_on (board s)) c.args.opened.now.number c.args.table.now) at known)
+    let sound = c.args.tables.now.board.sound in
+    let below = rw (action_word (row_on (board s)) c.args.opened.now.number c.args.table.now) at known in
+    let here = rw (← c.requires.states) at below in
+    omega (arith, here, sound.few_actions, sound.few_leaves)
 
 pub drop_detours-requires : goal.drop_detours-requires
 drop_detours-requires c =

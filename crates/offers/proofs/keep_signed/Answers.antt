@@ -1,4 +1,4 @@
--- `offers::keep` meets its contract: the row, the links, and the new best by its goal cost. Assumes nothing.
+-- `offers::keep_signed` meets its contract: the row, the links, and the new best by its goal cost. Assumes nothing.
 use Rattle.std.proofs.Common.{ℕ, arith, take}
 use Rattle.layer.specs.Board.{row_on}
 use Rattle.layer.specs.Held.{board_in}
@@ -7,8 +7,8 @@ use Rattle.rows.specs.Row.{node_with}
 use Rattle.keys.specs.Scan.{goal_cost_by}
 use Rattle.rows.specs.Sign.Laws.{class_lt}
 use Rattle.offers.specs.Held.Laws.{kept_by}
-use Rattle.offers.proofs.keep.Goals as goal
-use Rattle.offers.proofs.keep.Goals.{Start}
+use Rattle.offers.proofs.keep_signed.Goals as goal
+use Rattle.offers.proofs.keep_signed.Goals.{Start}
 
 -- S, the node and its goal cost
 abbrev S : Start → ℕ
