@@ -7,7 +7,7 @@
 // states, or where the bytes behind the plan are not as they were.
 #![tactic(auto)]
 
-ghost use Rattle.std.specs.Prelude.{◌≡◌, ◌+◌, ◌<◌, ◌≤◌, length};
+ghost use Rattle.std.specs.Prelude.{◌≡◌, ℕ, ◌+◌, ◌<◌, ◌≤◌, length, IfSome};
 ghost use Rattle.task.specs.Valid.{Valid};
 
 use answers::{PlanAnswer, Solution};
@@ -21,6 +21,9 @@ use task::Task;
 
 // How many whole states the plain planner can number.
 const MOST: usize = 1024;
+
+// What stands for a state that has no number.
+const OVER: usize = 1025;
 
 // How many nodes the planner may keep: its table has words for them where the leaves have at most 87 states together.
 const NODES: u32 = 512;
@@ -84,14 +87,17 @@ fn plus(sum: u64, more: u64) -> u64 {
 
 // ---- states
 
-// A number with one digit more, or the greatest number where that has no room.
-fn with_digit(number: usize, size: u8, value: u8) -> usize {
+// A number with one digit more, or 1,025 where that is above 1,024.
+fn with_digit(number: usize, size: u8, value: u8) -> usize
+    ensures { result ≤ 1025 }
+{
     number
         .saturating_mul(usize::from(size))
         .saturating_add(usize::from(value))
+        .min(OVER)
 }
 
-// How many whole states there are.
+// How many whole states there are, or 1,025 where there are more than 1,024.
 fn states_of(sizes: &[u8]) -> usize {
     let mut states: usize = 1;
     for &size in sizes {
@@ -100,7 +106,7 @@ fn states_of(sizes: &[u8]) -> usize {
     states
 }
 
-// The number of the state with these values, mixed-radix, the first variable the most significant.
+// The number of the state with these values, mixed-radix, the first variable the most significant; or 1,025 where it is above 1,024.
 fn number_of(sizes: &[u8], values: &[u8]) -> usize {
     let mut number: usize = 0;
     for (&size, &value) in sizes.iter().zip(values) {
@@ -218,7 +224,9 @@ fn lower_next(task: &Task, costs: &[u64; 256], here: Near, nodes: &mut [Node])
 }
 
 // The nearer of a state found so far and another one, the first where they are as near.
-fn nearer(found: Option<Near>, other: Near) -> Near {
+fn nearer(found: Option<Near>, other: Near) -> Near
+    ensures { (states : ℕ) → IfSome found (λ first. first.state < states) → other.state < states → result.state < states }
+{
     match found {
         Some(first) if first.distance <= other.distance => first,
         _ => other,
@@ -226,7 +234,9 @@ fn nearer(found: Option<Near>, other: Near) -> Near {
 }
 
 // The state of least distance that the search can go on from, if there is one.
-fn nearest(nodes: &[Node]) -> Option<Near> {
+fn nearest(nodes: &[Node]) -> Option<Near>
+    ensures { IfSome result (λ near. near.state < length nodes.now) }
+{
     let mut found = None;
     for (state, node) in nodes.iter().enumerate() {
         if let Some(distance) = node.open() {
@@ -272,7 +282,7 @@ fn plain_cost(task: &Task) -> Option<u64>
     None
 }
 
-// How many whole states the task has.
+// How many whole states the task has, or 1,025 where there are more than 1,024.
 fn task_states(task: &Task) -> usize
     requires { Valid task.now }
 {

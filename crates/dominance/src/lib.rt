@@ -166,11 +166,12 @@ fn place_above(row: &[u64], candidate: &Candidate<'_>, hint: usize) -> Option<us
     place_in_list(row, candidate)
 }
 
-// Whether the row's node has the same centre state, no higher centre cost and no higher price anywhere. `hint` is the place to look at first; where a price
-// is higher it is that place afterwards, for the next node.
+// Whether the row's node has the same centre state, no higher centre cost and no higher price anywhere. `hint` is the place to look at first. Which place it
+// is afterwards, for the next node, is left to the program: a hint that is no higher than the number of states stays so (`hint`).
 pub fn test_row(row: &[u64], candidate: &Candidate<'_>, hint: &mut usize) -> bool
     requires { (length row.now ≡ 40 + candidate.now.states) × Packed row.now }
-    ensures { result ≡ dominates (node_of candidate.now.states row.now) (node_held candidate.now) }
+    ensures tells { result ≡ dominates (node_of candidate.now.states row.now) (node_held candidate.now) }
+    ensures hint { hint.old ≤ candidate.now.states → hint.new ≤ candidate.now.states }
 {
     let dearer = row[32] > candidate.paid;
     if dearer {

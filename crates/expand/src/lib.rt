@@ -16,17 +16,17 @@ use dominance::{Candidate, list_reached};
 use layer::{Board, pairs_of};
 use leaf::add_price;
 use mets::list_mets;
-use offers::{Bench, Full, Opened, Run, SearchTables, Successor, offer};
+use offers::{Full, Opened, Origin, Run, SearchTables, Successor, offer};
 use rows::{class_of, read_spot};
 use words::copy_words;
 
-// What an expansion works in: the bench of its offers, its actions that need a turn, its node's prices, and the states that they reach.
+// What an expansion works in: what is known of centre states, its actions that need a turn, its node's prices, and those of a layer's begin and of its layer.
 #[derive(Drop)]
 pub struct Desk {
-    pub bench: Bench,
+    pub known: [u8; 36864],
     pub mets: [u8; 256],
     pub prices: [u64; 1024],
-    pub reached: [u16; 1024],
+    pub next: [u64; 1024],
 }
 
 // Action a, whose centre conditions hold, at the node: a centre action has its layer's begin offered. No leaf's least price falls over it, so nothing is made where
@@ -35,21 +35,26 @@ fn turn(
     tables: &SearchTables<'_>,
     opened: &Opened<'_>,
     a: usize,
-    bench: &mut Bench,
+    known: &mut [u8],
+    begin: &mut [u64],
+    room: &mut [u16],
     table: &mut [u64],
     scan: &mut [u64; SCAN_WORDS],
     run: Run,
 ) -> Result<Run, Full>
-    requires known { Known (board_in tables.now.board) bench.old.known }
-    requires states { opened.now.node.states ≡ row_on (board_in tables.now.board) }
-    requires met { met_on (board_in tables.now.board) opened.now.node.spot a ≡ true }
-    requires inside { (opened.now.number < run.count) × (a < tables.now.board.actions) }
-    requires room { Room (row_on (board_in tables.now.board)) tables.now.nodes table.old scan.old run }
-    ensures moved { Moved (board_in tables.now.board) tables.now.effects.now tables.now.goals.now tables.now.goal tables.now.nodes
+    requires known { Known (board_in tables.now.offers.board) known.old }
+    requires states { opened.now.node.states ≡ row_on (board_in tables.now.offers.board) }
+    requires met { met_on (board_in tables.now.offers.board) opened.now.node.spot a ≡ true }
+    requires inside { (opened.now.number < run.count) × (a < tables.now.offers.board.actions) }
+    requires long { (row_on (board_in tables.now.offers.board) ≤ length begin.old) × (5120 ≤ length room.old) }
+    requires room { Room (row_on (board_in tables.now.offers.board)) tables.now.offers.nodes table.old scan.old run }
+    ensures moved { Moved (board_in tables.now.offers.board) tables.now.effects.now tables.now.offers.goals.now tables.now.offers.goal tables.now.offers.nodes
         opened.now.node.spot opened.now.node.paid opened.now.node.prices.now opened.now.key opened.now.number a table.old scan.old run table.new scan.new result }
-    ensures known { Known (board_in tables.now.board) bench.new.known }
+    ensures known { Known (board_in tables.now.offers.board) known.new }
 {
-    let board = &tables.board;
+    let offers = &tables.offers;
+    let board = &offers.board;
+    let node = &opened.node;
     if board.kinds[a] != 0 {
         return Ok(run);
     }
@@ -58,23 +63,20 @@ fn turn(
     if low >= run.best_cost {
         return Ok(run);
     }
-    if is_stuck(board, tables.still, tables.stills, opened.node.prices, a) {
+    if is_stuck(board, tables.still, tables.stills, node.prices, a) {
         return Ok(run);
     }
-    let spot = opened
-        .node
-        .spot
-        .after(board.factors, pairs_of(tables.effects, a));
-    let paid = add_price(opened.node.paid, cost);
+    let spot = node.spot.after(board.factors, pairs_of(tables.effects, a));
+    let paid = add_price(node.paid, cost);
     let begun = begin_of(
         board,
         tables.still,
         tables.stills,
         a,
-        opened.node.prices,
+        node.prices,
         low,
-        opened.node.sign,
-        &mut bench.next,
+        node.sign,
+        begin,
     );
     let next = Successor {
         spot,
@@ -84,16 +86,12 @@ fn turn(
         key: begun.key,
         sign: begun.sign,
     };
-    offer(
-        tables,
-        opened,
-        next,
-        tables.still[a],
-        bench,
-        table,
-        scan,
-        run,
-    )
+    let from = Origin {
+        prices: node.prices,
+        list: node.list,
+        still: tables.still[a],
+    };
+    offer(offers, &from, next, known, begin, room, table, scan, run)
 }
 
 // All actions of the node that need a turn, which `mets` lists by rising number.
@@ -101,27 +99,40 @@ fn turns(
     tables: &SearchTables<'_>,
     opened: &Opened<'_>,
     mets: &[u8],
-    bench: &mut Bench,
+    known: &mut [u8],
+    begin: &mut [u64],
+    room: &mut [u16],
     table: &mut [u64],
     scan: &mut [u64; SCAN_WORDS],
     run: Run,
 ) -> Result<Run, Full>
-    requires known { Known (board_in tables.now.board) bench.old.known }
-    requires states { opened.now.node.states ≡ row_on (board_in tables.now.board) }
-    requires useful { Useful (board_in tables.now.board) tables.now.effects.now opened.now.node.spot table.old opened.now.number opened.now.node.prices.now
+    requires known { Known (board_in tables.now.offers.board) known.old }
+    requires states { opened.now.node.states ≡ row_on (board_in tables.now.offers.board) }
+    requires useful { Useful (board_in tables.now.offers.board) tables.now.effects.now opened.now.node.spot table.old opened.now.number opened.now.node.prices.now
         (length mets.now) (λ j. get_or mets.now j 0) }
-    requires has { Has (node_in (row_on (board_in tables.now.board)) table.old opened.now.number) opened.now.node.spot opened.now.node.paid
-        (take (row_on (board_in tables.now.board)) opened.now.node.prices.now) }
+    requires has { Has (node_in (row_on (board_in tables.now.offers.board)) table.old opened.now.number) opened.now.node.spot opened.now.node.paid
+        (take (row_on (board_in tables.now.offers.board)) opened.now.node.prices.now) }
     requires inside { opened.now.number < run.count }
-    requires room { Room (row_on (board_in tables.now.board)) tables.now.nodes table.old scan.old run }
-    ensures grown { Grown (board_in tables.now.board) tables.now.nodes run table.new scan.new result }
-    ensures expanded { Done (board_in tables.now.board) tables.now.effects.now tables.now.goals.now tables.now.goal tables.now.nodes
+    requires long { (row_on (board_in tables.now.offers.board) ≤ length begin.old) × (5120 ≤ length room.old) }
+    requires room { Room (row_on (board_in tables.now.offers.board)) tables.now.offers.nodes table.old scan.old run }
+    ensures grown { Grown (board_in tables.now.offers.board) tables.now.offers.nodes run table.new scan.new result }
+    ensures expanded { Done (board_in tables.now.offers.board) tables.now.effects.now tables.now.offers.goals.now tables.now.offers.goal tables.now.offers.nodes
         opened.now.number opened.now.key table.old scan.old run table.new scan.new result }
-    ensures known { Known (board_in tables.now.board) bench.new.known }
+    ensures known { Known (board_in tables.now.offers.board) known.new }
 {
     let mut going = run;
     for a in mets {
-        going = turn(tables, opened, *a as usize, bench, table, scan, going)?;
+        going = turn(
+            tables,
+            opened,
+            *a as usize,
+            known,
+            begin,
+            room,
+            table,
+            scan,
+            going,
+        )?;
     }
     Ok(going)
 }
@@ -143,18 +154,18 @@ fn list_turns(
     known: &mut [u8],
     mets: &mut [u8],
 ) -> usize
-    requires known { Known (board_in tables.now.board) known.old }
-    requires states { opened.now.node.states ≡ row_on (board_in tables.now.board) }
+    requires known { Known (board_in tables.now.offers.board) known.old }
+    requires states { opened.now.node.states ≡ row_on (board_in tables.now.offers.board) }
     requires mets_len { (length mets.old ≡ 256) × (opened.now.number < 4096)
-        × (opened.now.number * (40 + row_on (board_in tables.now.board)) + (40 + row_on (board_in tables.now.board)) ≤ length table.now) }
-    ensures { Known (board_in tables.now.board) known.new × (result ≤ 256)
-        × Useful (board_in tables.now.board) tables.now.effects.now opened.now.node.spot table.now opened.now.number opened.now.node.prices.now
+        × (opened.now.number * (40 + row_on (board_in tables.now.offers.board)) + (40 + row_on (board_in tables.now.offers.board)) ≤ length table.now) }
+    ensures { Known (board_in tables.now.offers.board) known.new × (result ≤ 256)
+        × Useful (board_in tables.now.offers.board) tables.now.effects.now opened.now.node.spot table.now opened.now.number opened.now.node.prices.now
         result (λ j. get_or mets.new j 0) }
 {
-    let board = &tables.board;
+    let board = &tables.offers.board;
     let many = list_mets(
         board,
-        tables.firsts,
+        tables.offers.firsts,
         opened.node.spot,
         class_of(opened.node.spot),
         known,
@@ -184,55 +195,56 @@ fn list_turns(
     )
 }
 
-// All actions of node u, whose key is given, by rising number. The words of the desk afterwards are left to the program, but for `Known`.
+// All actions of node u, whose key is given, by rising number; `list` is for the states that the node's prices reach, and `room` has recent numbers behind 1,024
+// words to work in (`offers::offer`). The words of these two afterwards are left to the program, their lengths stay; those of the desk too, but for `Known`.
 pub fn expand(
     tables: &SearchTables<'_>,
     u: usize,
     key: u64,
     desk: &mut Desk,
+    list: &mut [u16],
+    room: &mut [u16],
     table: &mut [u64],
     scan: &mut [u64; SCAN_WORDS],
     run: Run,
 ) -> Result<Run, Full>
-    requires known { Known (board_in tables.now.board) desk.old.bench.known }
+    requires known { Known (board_in tables.now.offers.board) desk.old.known }
     requires inside { u < run.count }
-    requires room { Room (row_on (board_in tables.now.board)) tables.now.nodes table.old scan.old run }
-    ensures grown { Grown (board_in tables.now.board) tables.now.nodes run table.new scan.new result }
-    ensures expanded { Done (board_in tables.now.board) tables.now.effects.now tables.now.goals.now tables.now.goal tables.now.nodes
+    requires long { (1024 ≤ length list.old) × (5120 ≤ length room.old) }
+    requires room { Room (row_on (board_in tables.now.offers.board)) tables.now.offers.nodes table.old scan.old run }
+    ensures grown { Grown (board_in tables.now.offers.board) tables.now.offers.nodes run table.new scan.new result }
+    ensures expanded { Done (board_in tables.now.offers.board) tables.now.effects.now tables.now.offers.goals.now tables.now.offers.goal tables.now.offers.nodes
         u key table.old scan.old run table.new scan.new result }
-    ensures known { Known (board_in tables.now.board) desk.new.bench.known }
+    ensures known { Known (board_in tables.now.offers.board) desk.new.known }
+    ensures lengths { (length list.new ≡ length list.old) × (length room.new ≡ length room.old) }
 {
-    let states = tables.board.states();
+    let states = tables.offers.board.states();
     let wide = 40 + states;
     let at = u * wide;
     let end = at + wide;
     copy_words(&table[at + 40..end], &mut desk.prices, states);
-    let reached = list_reached(states, &desk.prices, &mut desk.reached);
+    let reached = list_reached(states, &desk.prices, list);
     let node = Candidate {
         states,
         spot: read_spot(&table[at..end]),
         paid: table[at + 32],
         prices: &desk.prices,
         sign: table[at + 39],
-        list: &desk.reached[..reached],
+        list: &list[..reached],
     };
     let opened = Opened {
         number: u,
         key,
         node,
     };
-    let many = list_turns(
-        tables,
-        &opened,
-        table,
-        &mut desk.bench.known,
-        &mut desk.mets,
-    );
+    let many = list_turns(tables, &opened, table, &mut desk.known, &mut desk.mets);
     turns(
         tables,
         &opened,
         &desk.mets[..many],
-        &mut desk.bench,
+        &mut desk.known,
+        &mut desk.next,
+        room,
         table,
         scan,
         run,

@@ -25,7 +25,7 @@ use hops::{list_hops, list_ways};
 use keys::key_of;
 use layer::{first_conditions, first_layer};
 use leaf::MARK;
-use offers::{Bench, Full, Run, SearchTables, Successor, keep};
+use offers::{Full, OfferTables, Run, SearchTables, Successor, keep};
 use rows::class_of;
 use stills::{still_actions, still_leaves};
 use tables::TaskTables;
@@ -64,7 +64,7 @@ fn start(
     table: &mut [u64],
     scan: &mut [u64; SCAN_WORDS],
 ) -> Run
-    requires suits { Suits tables.now.task.now (board_in search.now.board) search.now.effects.now search.now.goals.now search.now.goal }
+    requires suits { Suits tables.now.task.now (board_in search.now.offers.board) search.now.effects.now search.now.offers.goals.now search.now.offers.goal }
     requires table { 40 + all_states tables.now.task.now ≤ length table.old }
     requires heads { (h : ℕ) → h < 1025 → get_or scan.old (6144 + h) 0 ≡ 0 }
     ensures { (search_of (all_states tables.now.task.now) table.new scan.new result ≡ start tables.now.task.now)
@@ -72,7 +72,7 @@ fn start(
         × Chained (all_states tables.now.task.now) table.new scan.new result.count }
 {
     fresh(scan);
-    let board = &search.board;
+    let board = &search.offers.board;
     let spot = Centre::default().after(board.factors, tables.task.initial);
     let mut prices = [MARK; 1024];
     first_layer(board, spot, tables.starts, &mut prices);
@@ -91,7 +91,7 @@ fn start(
         best_cost: MARK,
     };
     keep(
-        search,
+        &search.offers,
         first,
         class_of(spot),
         true,
@@ -109,22 +109,26 @@ fn is_spent(run: Run, budget: u32) -> bool
     run.begun == budget as usize
 }
 
-// One round: the least key is chosen, and where the budget is not used up its node is expanded. The recent numbers on the desk stay from round to round.
+// One round: the least key is chosen, and where the budget is not used up its node is expanded, with the desk and `list` to work in and `room`, whose recent
+// numbers stay from round to round.
 fn next_round(
     search: &SearchTables<'_>,
     budget: u32,
     desk: &mut Desk,
+    list: &mut [u16],
+    room: &mut [u16],
     table: &mut [u64],
     scan: &mut [u64; SCAN_WORDS],
     run: Run,
 ) -> Result<Run, Stop>
-    requires known { Known (board_in search.now.board) desk.old.bench.known }
+    requires known { Known (board_in search.now.offers.board) desk.old.known }
     requires begun { run.begun ≤ 4096 }
-    requires room { Room (row_on (board_in search.now.board)) search.now.nodes table.old scan.old run }
-    ensures rounded { (t : Task) → Suits t (board_in search.now.board) search.now.effects.now search.now.goals.now search.now.goal
-        → Ahead t search.now.nodes budget (all_states t) table.old scan.old run
-        → Rounded t search.now.nodes budget run.begun (all_states t) table.new scan.new result }
-    ensures known { Known (board_in search.now.board) desk.new.bench.known }
+    requires long { (1024 ≤ length list.old) × (5120 ≤ length room.old) }
+    requires room { Room (row_on (board_in search.now.offers.board)) search.now.offers.nodes table.old scan.old run }
+    ensures rounded { (t : Task) → Suits t (board_in search.now.offers.board) search.now.effects.now search.now.offers.goals.now search.now.offers.goal
+        → Ahead t search.now.offers.nodes budget (all_states t) table.old scan.old run
+        → Rounded t search.now.offers.nodes budget run.begun (all_states t) table.new scan.new result }
+    ensures known { Known (board_in search.now.offers.board) desk.new.known }
 {
     let Some(u) = choose(scan, run.count, run.best_cost) else {
         return Err(Stop {
@@ -142,7 +146,7 @@ fn next_round(
     retire(scan, u, run.count);
     let more = run.begun + 1;
     let begun = Run { begun: more, ..run };
-    Ok(expand(search, u, key, desk, table, scan, begun)?)
+    Ok(expand(search, u, key, desk, list, room, table, scan, begun)?)
 }
 
 // Rounds from the start to the search's end.
@@ -153,29 +157,59 @@ fn rounds(
     table: &mut [u64],
     scan: &mut [u64; SCAN_WORDS],
 ) -> Stop
-    requires suits { Suits tables.now.task.now (board_in search.now.board) search.now.effects.now search.now.goals.now search.now.goal }
-    requires nodes { (1 ≤ search.now.nodes) × (search.now.nodes ≤ 4096) × ((search.now.nodes + 1) * (40 + all_states tables.now.task.now) ≤ length table.old) }
+    requires suits { Suits tables.now.task.now (board_in search.now.offers.board) search.now.effects.now search.now.offers.goals.now search.now.offers.goal }
+    requires nodes { (1 ≤ search.now.offers.nodes) × (search.now.offers.nodes ≤ 4096) × ((search.now.offers.nodes + 1) * (40 + all_states tables.now.task.now) ≤ length table.old) }
     requires heads { (h : ℕ) → h < 1025 → get_or scan.old (6144 + h) 0 ≡ 0 }
-    ensures { (stopped_of (all_states tables.now.task.now) table.new scan.new result ≡ explored tables.now.task.now search.now.nodes budget)
+    ensures { (stopped_of (all_states tables.now.task.now) table.new scan.new result ≡ explored tables.now.task.now search.now.offers.nodes budget)
         × Cached tables.now.task.now (all_states tables.now.task.now) table.new scan.new result.run }
 {
     let mut run = start(tables, search, table, scan);
     let mut desk = Desk {
-        bench: Bench {
-            known: [0; 36864],
-            next: [MARK; 1024],
-            room: [0; 5120],
-        },
+        known: [0; 36864],
         mets: [0; 256],
         prices: [MARK; 1024],
-        reached: [0; 1024],
+        next: [MARK; 1024],
     };
+    let mut list = [0u16; 1024];
+    let mut room = [0u16; 5120];
     loop {
-        match next_round(search, budget, &mut desk, table, scan, run) {
+        match next_round(
+            search, budget, &mut desk, &mut list, &mut room, table, scan, run,
+        ) {
             Ok(after) => run = after,
             Err(stop) => return stop,
         }
     }
+}
+
+// The exploration with the tables that an offer reads, which are the task's: the search's other tables are made, and its rounds run.
+fn explore_with(
+    tables: &TaskTables<'_>,
+    offers: &OfferTables<'_>,
+    budget: u32,
+    table: &mut [u64],
+    scan: &mut [u64; SCAN_WORDS],
+) -> Stop
+    requires suits { Suits tables.now.task.now (board_in offers.now.board) tables.now.task.now.effects offers.now.goals.now offers.now.goal }
+    requires nodes { (1 ≤ offers.now.nodes) × (offers.now.nodes ≤ 4096) × ((offers.now.nodes + 1) * (40 + all_states tables.now.task.now) ≤ length table.old) }
+    requires heads { (h : ℕ) → h < 1025 → get_or scan.old (6144 + h) 0 ≡ 0 }
+    ensures { (stopped_of (all_states tables.now.task.now) table.new scan.new result ≡ explored tables.now.task.now offers.now.nodes budget)
+        × Cached tables.now.task.now (all_states tables.now.task.now) table.new scan.new result.run }
+{
+    let board = offers.board;
+    let stills = still_leaves(&board);
+    let still = still_actions(&board, &stills);
+    let hops = list_hops(&board, &tables.task.effects, offers.firsts, &still);
+    let ways = list_ways(board.actions, &hops);
+    let search = SearchTables {
+        offers: *offers,
+        still: &still,
+        stills: &stills,
+        hops: &hops,
+        ways: &ways,
+        effects: &tables.task.effects,
+    };
+    rounds(tables, &search, budget, table, scan)
 }
 
 // The whole exploration of a task that the reader accepted. The table and the scan words hold the search it ends with; what else stands in them is left to the
@@ -198,24 +232,14 @@ pub fn explore(
         × Cached tables.now.task.now (all_states tables.now.task.now) table.new scan.new result.run }
     ensures lengths { length table.new ≡ length table.old }
 {
-    let board = tables.board;
-    let stills = still_leaves(&board);
-    let still = still_actions(&board, &stills);
-    let firsts = first_conditions(&board);
-    let hops = list_hops(&board, &tables.task.effects, &firsts, &still);
-    let ways = list_ways(board.actions, &hops);
-    let search = SearchTables {
-        board,
+    let firsts = first_conditions(&tables.board);
+    let offers = OfferTables {
+        board: tables.board,
         edges: *edges,
-        still: &still,
-        stills: &stills,
         firsts: &firsts,
-        hops: &hops,
-        ways: &ways,
-        effects: &tables.task.effects,
         goals,
         goal: tables.task.goal,
         nodes,
     };
-    rounds(tables, &search, budget, table, scan)
+    explore_with(tables, &offers, budget, table, scan)
 }

@@ -6,7 +6,7 @@ ghost use Rattle.fields.specs.Fields.{width, field_of, next_field, ends_at, fill
 ghost use Rattle.fields.specs.Answers.{number_of, told};
 
 // The width of every field in bits, by its kind.
-const WIDTHS: [usize; 11] = [5, 3, 8, 4, 4, 4, 6, 12, 10, 5, 4];
+pub const WIDTHS: [usize; 11] = [5, 3, 8, 4, 4, 4, 6, 12, 10, 5, 4];
 
 // The kinds of fields, in the order in which a record first has them.
 #[derive(Clone, Copy, PartialEq, Eq)]

@@ -7,7 +7,7 @@ use Rattle.task.specs.Meaning.{free}
 use Rattle.task.specs.Factors.{holds_in}
 use Rattle.task.specs.Centre.{value_in, centre_meets}
 use Rattle.layer.specs.Board.{Board, met_on}
-use Rattle.layer.specs.Lent.{tests_of}
+use Rattle.layer.specs.Lent.{board_of, tests_of}
 
 -- v is a centre variable that the conditions of action a name, or 32
 pub record First (factors conditions : List ℕ) (a v : ℕ) : Type 0 where
@@ -20,6 +20,14 @@ pub record Firsts (b : Board) (firsts : List ℕ) : Type 0 where
   pub inside : (a : ℕ) → a < b.actions → get_or firsts a 0 ≤ 32
   pub named : (a : ℕ) → a < b.actions → get_or firsts a 0 < 32
       → (get_or b.factors (get_or firsts a 0) 0 ≡ 0) × (get_or b.conditions (a * 32 + get_or firsts a 0) 0 ≡ free → ⊥)
+
+-- the parts of a Board that say which centre conditions its actions have
+abbrev pub asks_of : ℕ → List ℕ → List ℕ → Board
+asks_of actions factors conditions = board_of 0 actions [] [] [] [] factors conditions
+
+-- only these parts count
+pub firsts_part : (b : Board) (firsts : List ℕ) → Firsts (asks_of b.actions b.factors b.conditions) firsts → Firsts b firsts
+firsts_part b firsts f = record { long = f.long; inside = f.inside; named = f.named }
 
 -- a turn of the loop: the entry of one more action is stored
 pub first_more : (factors conditions firsts : List ℕ) (n v : ℕ) → n < length firsts

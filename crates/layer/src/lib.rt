@@ -110,24 +110,25 @@ pub fn first_conditions(board: &Board<'_>) -> [u8; 256]
 // Whether the centre conditions of an action hold, where one of them is tested first: most actions fail there. `values` are the centre's, lent so
 // that no copy is made for each action.
 pub fn met_by(
-    board: &Board<'_>,
     firsts: &[u8],
     values: &[u8],
+    factors: [u8; 32],
+    conditions: &[u8],
     centre: Centre,
     action: usize,
 ) -> bool
-    requires action { (action < 256) × (action < length firsts.now) }
-    requires first { First board.now.factors board.now.conditions.now action (get_or firsts.now action 0) }
+    requires action { (action < length firsts.now) × (action * 32 + 32 ≤ length conditions.now) }
+    requires first { First factors conditions.now action (get_or firsts.now action 0) }
     requires values { (values.now ≡ centre.values) × (length values.now ≡ 32) }
-    ensures { result ≡ met_on (board_in board.now) centre action }
+    ensures { result ≡ met_on (tests_of [] factors conditions.now) centre action }
 {
     let v = firsts[action] as usize;
     if v < 32 {
-        if board.conditions[action * 32 + v] != values[v] {
+        if conditions[action * 32 + v] != values[v] {
             return false;
         }
     }
-    is_met(board.factors, board.conditions, centre, action)
+    is_met(factors, conditions, centre, action)
 }
 
 // Whether an action is a leaf action of the leaf behind i leaves, and its centre conditions hold.

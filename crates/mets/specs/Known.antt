@@ -1,15 +1,16 @@
 -- The known words: slots of 576 bytes that hold what is known of centre states met lately. In a slot stand 256 flags, the 32 values of the centre state, at 288 a 1
 -- once it is filled, at 289 how many actions are listed, and these from 320 on. Nobody but the code and its proof looks at these.
 use Rattle.std.specs.Prelude.{◌≡◌, refl, ◌⊎◌, Bool, true, false, cond, List, ◌++◌, ℕ, ◌+◌, ◌*◌, ◌-◌, ◌≤◌, ◌<◌, length, get_or, set, take, drop, replicate}
-use Rattle.std.proofs.Common.{sym, ap, ◌∙◌, inl, inr, arith, length-take, length-drop, length-append, get_or-set_other, get_or-take, get_or-drop, get_or-append-add}
+use Rattle.std.proofs.Common.{sym, ap, ◌∙◌, inl, inr, arith, length-set, length-take, length-drop, length-append, get_or-set_same, get_or-set_other, get_or-take, get_or-drop, get_or-append-add}
 use Rattle.std.proofs.Math.Decide.{dec_le, ℕ_discrete}
 use Rattle.std.proofs.lemmas.List.{get_or-replicate}
 use Rattle.std.proofs.Math.ListN.{get_or-append}
-use Rattle.loops.specs.Count.Laws.{all_ext}
+use Rattle.loops.specs.Count.Laws.{all_ext, below_cases}
 use Rattle.task.specs.declared.Centre.{Centre}
 use Rattle.task.specs.Factors.{holds_in}
 use Rattle.task.specs.Centre.{value_in, centre_meets}
 use Rattle.layer.specs.Board.{Board, met_on}
+use Rattle.layer.specs.First.{Firsts, asks_of}
 use Rattle.mets.specs.Mets.{Mets}
 use Rattle.mets.specs.Listed.{Listed, listed_ext}
 
@@ -45,6 +46,30 @@ known_none b =
       long = refl;
       slots = λ s l d. absurd (d (get_or-replicate {A = ℕ} 36864 (s * 576 + 288) 0 0 (omega arith)));
     }
+
+-- what is stored one by one
+pub stored_none : (at : ℕ) (xs K : List ℕ) → Stored at 0 xs K K
+stored_none at xs K = record { long = refl; inside = λ j l. absurd (omega (arith, l)); outside = λ k _. refl }
+
+pub stored_more : (at n : ℕ) (xs K K' : List ℕ) → at + n < length K → Stored at n xs K K' → Stored at (n + 1) xs K (set K' (at + n) (get_or xs n 0))
+stored_more at n xs K K' h s =
+    record {
+      long = length-set K' (at + n) (get_or xs n 0) ∙ s.long;
+      inside = λ j l. inside j (below_cases (omega arith));
+      outside = λ k o. get_or-set_other K' (at + n) k (get_or xs n 0) 0 (apart k o) ∙ s.outside k (wider k o);
+    }
+  where
+    inside : (j : ℕ) → (j < n) ⊎ (j ≡ n) → get_or (set K' (at + n) (get_or xs n 0)) (at + j) 0 ≡ get_or xs j 0
+    inside j (inl l) = get_or-set_other K' (at + n) (at + j) (get_or xs n 0) 0 (λ e. omega arith) ∙ s.inside j l
+    inside j (inr e) = rw (e, get_or-set_same K' (at + n) (get_or xs n 0) 0 (omega (arith, s.long)))
+
+    apart : (k : ℕ) → (k < at) ⊎ (at + (n + 1) ≤ k) → k ≡ at + n → ⊥
+    apart k (inl l) e = omega arith
+    apart k (inr l) e = omega arith
+
+    wider : (k : ℕ) → (k < at) ⊎ (at + (n + 1) ≤ k) → (k < at) ⊎ (at + n ≤ k)
+    wider k (inl l) = inl l
+    wider k (inr l) = inr (omega arith)
 
 -- a flag of 0 or 1 tells whether the conditions hold
 flag_unmet : (m : Bool) (f : ℕ) → f ≡ cond m 1 0 → f ≡ 0 → m ≡ false
@@ -243,3 +268,22 @@ list_copied b c K L L' at count t many copied =
         ∙ copied.inside j l
         ∙ lent_at K (at + 320) (at + 320 + count) j (omega arith)
         ∙ ap (λ k. get_or K k 0) z
+
+-- ---- only the parts of a Board that say which conditions its actions have count
+
+module _ (b : Board) where
+  -- those parts
+  abbrev pub asks : Board
+  asks = asks_of b.actions b.factors b.conditions
+
+  pub firsts_asks : (firsts : List ℕ) → Firsts b firsts → Firsts asks firsts
+  firsts_asks firsts f = record { long = f.long; inside = f.inside; named = f.named }
+
+  pub known_asks : (K : List ℕ) → Known b K → Known asks K
+  known_asks K k = record { long = k.long; slots = λ s l d c v. let t = k.slots s l d c v in record { right = t.right; listed = t.listed } }
+
+  pub asks_known : (K : List ℕ) → Known asks K → Known b K
+  asks_known K k = record { long = k.long; slots = λ s l d c v. let t = k.slots s l d c v in record { right = t.right; listed = t.listed } }
+
+  pub asks_told : (c : Centre) (f : ℕ → ℕ) → Told asks c f → Told b c f
+  asks_told c f t = record { right = t.right; listed = t.listed }

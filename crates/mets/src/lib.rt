@@ -7,23 +7,42 @@
 
 ghost use Rattle.std.specs.Prelude.{◌≡◌, Bool, cond, true, ℕ, ◌+◌, ◌≤◌, ◌<◌, length, get_or};
 ghost use Rattle.layer.specs.Board.{met_on};
-ghost use Rattle.layer.specs.First.{Firsts};
+ghost use Rattle.layer.specs.First.{Firsts, asks_of};
 ghost use Rattle.layer.specs.Held.{board_in};
 ghost use Rattle.mets.specs.Listed.{Listed};
-ghost use Rattle.mets.specs.Known.{Flagged, Told, Slot, Known};
+ghost use Rattle.mets.specs.Known.{Flagged, Stored, Told, Slot, Known};
 
 use layer::{Board, met_by};
 use task::Centre;
 
+// The first `count` bytes of `from`, in `into` from `at` on. A loop, since `copy_from_slice` asks whoever links the library for a `memmove`.
+fn store(from: &[u8], into: &mut [u8], at: usize, count: usize)
+    requires { (count ≤ length from.now) × (at + count ≤ length into.old) }
+    ensures { Stored at count from.now into.old into.new }
+{
+    for j in 0..count {
+        into[at + j] = from[j];
+    }
+}
+
 // The flags of all actions, at the front of `flags`.
-fn find(board: &Board<'_>, firsts: &[u8], values: &[u8], centre: Centre, flags: &mut [u8])
-    requires firsts { Firsts (board_in board.now) firsts.now }
+fn find(
+    actions: usize,
+    firsts: &[u8],
+    values: &[u8],
+    factors: [u8; 32],
+    conditions: &[u8],
+    centre: Centre,
+    flags: &mut [u8],
+)
+    requires conditions { (actions ≤ 255) × (length conditions.now ≡ 8192) }
+    requires firsts { Firsts (asks_of actions factors conditions.now) firsts.now }
     requires values { (values.now ≡ centre.values) × (length values.now ≡ 32) }
     requires flags { length flags.old ≡ 256 }
-    ensures { Flagged (board_in board.now) centre board.now.actions flags.new }
+    ensures { Flagged (asks_of actions factors conditions.now) centre actions flags.new }
 {
-    for (a, flag) in flags[..board.actions].iter_mut().enumerate() {
-        *flag = u8::from(met_by(board, firsts, values, centre, a));
+    for (a, flag) in flags[..actions].iter_mut().enumerate() {
+        *flag = u8::from(met_by(firsts, values, factors, conditions, centre, a));
     }
 }
 
@@ -69,34 +88,47 @@ fn slot_of(class: usize) -> usize
 }
 
 // A slot is filled with what holds in a centre state, whose values are given.
-fn fill(board: &Board<'_>, firsts: &[u8], values: &[u8], centre: Centre, slot: &mut [u8])
-    requires firsts { Firsts (board_in board.now) firsts.now }
+fn fill(
+    actions: usize,
+    firsts: &[u8],
+    values: &[u8],
+    factors: [u8; 32],
+    conditions: &[u8],
+    centre: Centre,
+    slot: &mut [u8],
+)
+    requires conditions { (actions ≤ 255) × (length conditions.now ≡ 8192) }
+    requires firsts { Firsts (asks_of actions factors conditions.now) firsts.now }
     requires values { (values.now ≡ centre.values) × (length values.now ≡ 32) }
     requires slot { length slot.old ≡ 576 }
-    ensures slot { Slot (board_in board.now) (λ i. get_or slot.new i 0) }
-    ensures told { Told (board_in board.now) centre (λ i. get_or slot.new i 0) }
+    ensures slot { Slot (asks_of actions factors conditions.now) (λ i. get_or slot.new i 0) }
+    ensures told { Told (asks_of actions factors conditions.now) centre (λ i. get_or slot.new i 0) }
 {
-    find(board, firsts, values, centre, &mut slot[0..256]);
+    let flags = &mut slot[0..256];
+    find(actions, firsts, values, factors, conditions, centre, flags);
     slot[256..288].copy_from_slice(values);
     slot[288] = 1;
-    list_flagged(board.actions, slot);
+    list_flagged(actions, slot);
 }
 
 // Where the slot begins that holds what is known of a centre state of this class; it is filled where it holds another. Which slot that is, and so the words
 // of `known` afterwards, is left to the program: what each slot holds is right (`Known`), and this one holds what is asked for (`Told`).
 pub fn slot_for(
-    board: &Board<'_>,
+    actions: usize,
     firsts: &[u8],
+    factors: [u8; 32],
+    conditions: &[u8],
     centre: Centre,
     class: usize,
     known: &mut [u8],
 ) -> usize
-    requires firsts { Firsts (board_in board.now) firsts.now }
+    requires conditions { (actions ≤ 255) × (length conditions.now ≡ 8192) }
+    requires firsts { Firsts (asks_of actions factors conditions.now) firsts.now }
     requires class { class < 4096 }
-    requires known { Known (board_in board.now) known.old }
+    requires known { Known (asks_of actions factors conditions.now) known.old }
     ensures inside { result + 576 ≤ 36864 }
-    ensures known { Known (board_in board.now) known.new }
-    ensures told { Told (board_in board.now) centre (λ i. get_or known.new (result + i) 0) }
+    ensures known { Known (asks_of actions factors conditions.now) known.new }
+    ensures told { Told (asks_of actions factors conditions.now) centre (λ i. get_or known.new (result + i) 0) }
 {
     let values = centre.values;
     let at = slot_of(class) * 576;
@@ -104,7 +136,15 @@ pub fn slot_for(
     if is_known(&known[at..end], &values) {
         return at;
     }
-    fill(board, firsts, &values, centre, &mut known[at..end]);
+    fill(
+        actions,
+        firsts,
+        &values,
+        factors,
+        conditions,
+        centre,
+        &mut known[at..end],
+    );
     at
 }
 
@@ -128,10 +168,18 @@ pub fn list_mets(
     ensures behind { (k : ℕ) → result ≤ k → get_or list.new k 0 ≡ get_or list.old k 0 }
     ensures lengths { length list.new ≡ length list.old }
 {
-    let at = slot_for(board, firsts, centre, class, known);
+    let at = slot_for(
+        board.actions,
+        firsts,
+        board.factors,
+        board.conditions,
+        centre,
+        class,
+        known,
+    );
     let count = known[at + 289] as usize;
     let from = at + 320;
     let end = from + count;
-    list[..count].copy_from_slice(&known[from..end]);
+    store(&known[from..end], list, 0, count);
     count
 }

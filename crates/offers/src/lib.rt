@@ -6,7 +6,7 @@ ghost use Rattle.layer.specs.Board.{base_on, row_on, states_on, settled_on};
 ghost use Rattle.layer.specs.Held.{board_in};
 ghost use Rattle.mets.specs.Known.{Known};
 ghost use Rattle.rows.specs.Begun.{read_from, begun_words};
-ghost use Rattle.rows.specs.Reach.{ReachesIn};
+ghost use Rattle.rows.specs.Reach.{Reaches, ReachesIn};
 ghost use Rattle.rows.specs.Row.{node_with};
 ghost use Rattle.keys.specs.Scan.{goal_cost_by};
 ghost use Rattle.rows.specs.Sign.{class_of, sign_of};
@@ -24,7 +24,7 @@ use words::copy_words;
 
 mod held;
 
-pub use held::{Opened, SearchTables};
+pub use held::{OfferTables, Opened, Origin, SearchTables};
 
 // The search beside its table: nodes kept, expansions begun, best's node, best's goal cost (the mark for none).
 #[derive(Clone, Copy, PartialEq, Eq)]
@@ -48,15 +48,6 @@ pub struct Successor {
     pub action: usize,
     pub key: u64,
     pub sign: u64,
-}
-
-// What an offer works in: what is known of centre states, the prices of a layer's begin and of its layer, and room for a list of states that has the recent
-// numbers behind its first 1,024 words.
-#[derive(Drop)]
-pub struct Bench {
-    pub known: [u8; 36864],
-    pub next: [u64; 1024],
-    pub room: [u16; 5120],
 }
 
 // The signature of a layer whose begin has the signature `sign`: the same where no leaf was swept.
@@ -92,7 +83,7 @@ fn counted(run: Run, cost: u64) -> Run
 // A node under the next number: its row, its scan words (key, links), and the new best. `class` is its centre state's class, and its prices begin `prices`, whose
 // signature it has.
 fn keep_signed(
-    tables: &SearchTables<'_>,
+    tables: &OfferTables<'_>,
     made: Successor,
     class: usize,
     prices: &[u64],
@@ -140,7 +131,7 @@ fn keep_signed(
 // The same of a node with the signature of its layer's begin, where no leaf was swept since; where one was, its signature is found. The scan words behind the keys are left to
 // the program: they chain the nodes (`Kept`). So are the words of the table that hold no node.
 pub fn keep(
-    tables: &SearchTables<'_>,
+    tables: &OfferTables<'_>,
     made: Successor,
     class: usize,
     swept: bool,
@@ -166,7 +157,7 @@ pub fn keep(
 
 // A layer's begin settles; `spot` is its centre state, of this class. Whether a leaf was swept: else all is as it was.
 fn settle_begin(
-    tables: &SearchTables<'_>,
+    tables: &OfferTables<'_>,
     spot: Centre,
     class: usize,
     begin: &mut [u64],
@@ -179,7 +170,15 @@ fn settle_begin(
         × (result ≡ false → begin.new ≡ begin.old) }
 {
     let board = &tables.board;
-    let slot = slot_for(board, tables.firsts, spot, class, known);
+    let slot = slot_for(
+        board.actions,
+        tables.firsts,
+        board.factors,
+        board.conditions,
+        spot,
+        class,
+        known,
+    );
     let end = slot + 256;
     settle_edges(board, &known[slot..end], &tables.edges, spot, begin)
 }
@@ -234,40 +233,41 @@ fn recent_place(class: usize, sign: u64) -> usize
     1024 + slot_of(class, sign)
 }
 
-// Whether a node that is kept dominates a successor with its layer's begin, whose prices are those of `from` where `still` is not 0. The node that was found, or
-// else the next, is noted as recent. Of the bench only the room is written; its words are left to the program.
+// Whether a node that is kept dominates a successor with its layer's begin. The node that was found, or else the next, is noted as recent. The words of the
+// room are left to the program, its length stays.
 fn is_dominated(
-    tables: &SearchTables<'_>,
-    from: &Opened<'_>,
+    tables: &OfferTables<'_>,
+    from: &Origin<'_>,
     next: Successor,
-    still: u8,
-    bench: &mut Bench,
+    begin: &[u64],
+    room: &mut [u16],
     table: &[u64],
     scan: &[u64; SCAN_WORDS],
     run: Run,
 ) -> bool
-    requires states { from.now.node.states ≡ row_on (board_in tables.now.board) }
-    requires sign { next.sign ≡ sign_of (take (row_on (board_in tables.now.board)) (begun_words still (row_on (board_in tables.now.board)) from.now.node.prices.now bench.old.next)) }
+    requires old { (row_on (board_in tables.now.board) ≤ length from.now.prices.now)
+        × (128 ≤ row_on (board_in tables.now.board) → Reaches (row_on (board_in tables.now.board)) from.now.prices.now from.now.list.now) }
+    requires long { (row_on (board_in tables.now.board) ≤ length begin.now) × (5120 ≤ length room.old) }
+    requires sign { next.sign ≡ sign_of (take (row_on (board_in tables.now.board)) (begun_words from.now.still (row_on (board_in tables.now.board)) from.now.prices.now begin.now)) }
     requires room { Room (row_on (board_in tables.now.board)) tables.now.nodes table.now scan.now run }
-    ensures dominated { result ≡ is_beaten (row_on (board_in tables.now.board)) table.now run next.spot next.paid
-        (begun_words still (row_on (board_in tables.now.board)) from.now.node.prices.now bench.old.next) }
-    ensures lent { (bench.new.known ≡ bench.old.known) × (bench.new.next ≡ bench.old.next) }
+    ensures { result ≡ is_beaten (row_on (board_in tables.now.board)) table.now run next.spot next.paid
+        (begun_words from.now.still (row_on (board_in tables.now.board)) from.now.prices.now begin.now) }
 {
     let states = tables.board.states();
     let class = class_of(next.spot);
-    let many = list_begin(states, &bench.next, &mut bench.room, still);
+    let many = list_begin(states, begin, room, from.still);
     let place = recent_place(class, next.sign);
-    let recent = bench.room[place] as usize;
+    let recent = room[place] as usize;
     let candidate = Candidate {
         states,
         spot: next.spot,
         paid: next.paid,
-        prices: read_from(from.node.prices, &bench.next, still),
+        prices: read_from(from.prices, begin, from.still),
         sign: next.sign,
-        list: read_from(from.node.list, &bench.room[..many], still),
+        list: read_from(from.list, &room[..many], from.still),
     };
     let found = dominator(table, run.count, scan, class, &candidate, recent);
-    bench.room[place] = recent_next(found, run.count);
+    room[place] = recent_next(found, run.count);
     found.is_some()
 }
 
@@ -278,31 +278,36 @@ fn is_full(run: Run, nodes: usize) -> bool
     run.count >= nodes
 }
 
-// A successor from its layer's begin, whose prices are those of `from` where `still` is not 0, else those that were made: dropped, refused for a full table, or
-// settled and kept under the next number. The words of the bench afterwards are left to the program, but for `Known`.
+// A successor from its layer's begin, whose prices are those of `from` where its action is still there, else those at the front of `begin`: dropped, refused for a
+// full table, or settled and kept under the next number. `room` is for a list of states, and has the recent numbers behind its first 1,024 words. The words of
+// `begin` and `room` afterwards are left to the program, their lengths stay; those of `known` too, of which `Known` holds.
 pub fn offer(
-    tables: &SearchTables<'_>,
-    from: &Opened<'_>,
+    tables: &OfferTables<'_>,
+    from: &Origin<'_>,
     next: Successor,
-    still: u8,
-    bench: &mut Bench,
+    known: &mut [u8],
+    begin: &mut [u64],
+    room: &mut [u16],
     table: &mut [u64],
     scan: &mut [u64; SCAN_WORDS],
     run: Run,
 ) -> Result<Run, Full>
-    requires known { Known (board_in tables.now.board) bench.old.known }
-    requires states { from.now.node.states ≡ row_on (board_in tables.now.board) }
-    requires sign { next.sign ≡ sign_of (take (row_on (board_in tables.now.board)) (begun_words still (row_on (board_in tables.now.board)) from.now.node.prices.now bench.old.next)) }
+    requires known { Known (board_in tables.now.board) known.old }
+    requires old { (row_on (board_in tables.now.board) ≤ length from.now.prices.now)
+        × (128 ≤ row_on (board_in tables.now.board) → Reaches (row_on (board_in tables.now.board)) from.now.prices.now from.now.list.now) }
+    requires long { (row_on (board_in tables.now.board) ≤ length begin.old) × (5120 ≤ length room.old) }
+    requires sign { next.sign ≡ sign_of (take (row_on (board_in tables.now.board)) (begun_words from.now.still (row_on (board_in tables.now.board)) from.now.prices.now begin.old)) }
     requires room { Room (row_on (board_in tables.now.board)) tables.now.nodes table.old scan.old run }
     ensures offered { Offered (board_in tables.now.board) tables.now.goals.now tables.now.goal tables.now.nodes table.old scan.old run next.spot next.paid
-        (begun_words still (row_on (board_in tables.now.board)) from.now.node.prices.now bench.old.next) next.parent next.action next.key
+        (begun_words from.now.still (row_on (board_in tables.now.board)) from.now.prices.now begin.old) next.parent next.action next.key
         table.new scan.new result }
-    ensures known { Known (board_in tables.now.board) bench.new.known }
+    ensures known { Known (board_in tables.now.board) known.new }
+    ensures lengths { (length begin.new ≡ length begin.old) × (length room.new ≡ length room.old) }
 {
     if next.key >= run.best_cost {
         return Ok(run);
     }
-    if is_dominated(tables, from, next, still, bench, table, scan, run) {
+    if is_dominated(tables, from, next, begin, room, table, scan, run) {
         return Ok(run);
     }
     if is_full(run, tables.nodes) {
@@ -310,7 +315,7 @@ pub fn offer(
     }
     let states = tables.board.states();
     let class = class_of(next.spot);
-    fill_begin(from.node.prices, &mut bench.next, still, states);
-    let swept = settle_begin(tables, next.spot, class, &mut bench.next, &mut bench.known);
-    Ok(keep(tables, next, class, swept, &bench.next, table, scan, run))
+    fill_begin(from.prices, begin, from.still, states);
+    let swept = settle_begin(tables, next.spot, class, begin, known);
+    Ok(keep(tables, next, class, swept, begin, table, scan, run))
 }

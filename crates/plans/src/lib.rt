@@ -27,6 +27,7 @@ use keys::least_goal;
 use layer::{Board, enabled};
 use leaf::{MARK, pass};
 use rows::read_spot;
+use settle::ListedActions;
 use tables::TaskTables;
 use wayback::{PlanBuffer, first_depth, leaf_back, lowest_over};
 
@@ -153,20 +154,18 @@ fn leaf_walk(
     if first_depth(begins, prices, state) == 0 {
         return state;
     }
-    let spot = read_spot(row_of(table, board.states(), node));
+    let states = board.states();
+    let spot = read_spot(row_of(table, states, node));
     let mut acts = [0u8; 256];
     let count = enabled(board, spot, i, &mut acts);
-    leaf_back(
-        board,
-        i,
-        &acts[..count],
-        edges,
-        begins,
-        prices,
-        state,
-        tight,
-        out,
-    )
+    let actions = ListedActions {
+        moves: board.moves,
+        row: states,
+        at: board.leaf(i).start,
+        costs: board.costs,
+        acts: &acts[..count],
+    };
+    leaf_back(&actions, edges, begins, prices, state, tight, out)
 }
 
 // The leaf behind i leaves walks back inside a node's layer. The state where that ends.

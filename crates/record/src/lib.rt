@@ -3,7 +3,7 @@
 
 ghost use Rattle.std.specs.Prelude.{◌≡◌, ◌<◌, ◌≤◌, ◌^◌, IfOk};
 ghost use Rattle.task.specs.Valid.{Valid};
-ghost use Rattle.fields.specs.Answers.{told};
+ghost use Rattle.fields.specs.Answers.{told_in};
 ghost use Rattle.fields.specs.Fields.{next_field};
 ghost use Rattle.parts.specs.Grammar.{task_of};
 ghost use Rattle.record.specs.Record.{verdict_number, read_told, read_record};
@@ -14,10 +14,27 @@ use parts::{Actions, Variables, read_head, read_variables};
 use task::{FREE, Task};
 use whole::whole;
 
-// A whole task, field by field.
-fn read_task(r: &mut BitReader<'_>) -> Result<Task, Refusal>
+// A task in which nothing is read yet.
+fn blank_task() -> Task {
+    Task {
+        variables: 0,
+        leaves: 0,
+        actions: 0,
+        sizes: [0; 32],
+        factors: [0; 32],
+        initial: [0; 32],
+        goal: [FREE; 32],
+        handling: [0; 256],
+        distance: [0; 256],
+        conditions: [FREE; 8192],
+        effects: [FREE; 8192],
+    }
+}
+
+// A whole task, field by field; on a refusal `into` is as it was.
+fn read_task(r: &mut BitReader<'_>, into: &mut Task) -> Result<(), Refusal>
     requires { r.old.at < 2 ^ 10 }
-    ensures told { task_of (next_field r.old.bytes.now) r.old.at ≡ told result r.new.at }
+    ensures told { task_of (next_field r.old.bytes.now) r.old.at ≡ told_in into.new result r.new.at }
     ensures near { r.new.at < 2 ^ 31 }
     ensures same_record { r.new.bytes ≡ r.old.bytes }
 {
@@ -41,7 +58,7 @@ fn read_task(r: &mut BitReader<'_>) -> Result<Task, Refusal>
         conditions,
         effects,
     } = actions;
-    Ok(Task {
+    *into = Task {
         variables: head.variables,
         leaves: head.leaves,
         actions: head.actions,
@@ -53,7 +70,8 @@ fn read_task(r: &mut BitReader<'_>) -> Result<Task, Refusal>
         distance,
         conditions,
         effects,
-    })
+    };
+    Ok(())
 }
 
 // The task that a record writes down, or why it is refused.
@@ -63,7 +81,8 @@ pub fn read_record(rec: &[u8]) -> Result<Task, Refusal>
     ensures valid_task { IfOk result Valid }
 {
     let mut r = BitReader::new(rec);
-    let task = read_task(&mut r)?;
+    let mut task = blank_task();
+    read_task(&mut r, &mut task)?;
     if !r.ended() {
         return Err(Refusal::NotFilled);
     }

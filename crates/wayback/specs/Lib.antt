@@ -3,6 +3,7 @@ pub mod Lowest
 pub mod Sources
 pub mod Tight
 pub mod Woven
+pub mod Rows
 pub mod On
 pub mod Least
 pub mod Walked

@@ -4,8 +4,6 @@
 
 ghost use Rattle.std.specs.Prelude.{◌≡◌, ◌⊎◌, ◌↔◌, IsTrue, cond, ◌&&◌, ℕ, suc, ◌+◌, ◌*◌, ◌<◌, ◌≤◌, ltb, eqb, length, get_or, drop, replicate};
 ghost use Rattle.leaf.specs.Price.{mark};
-ghost use Rattle.layer.specs.Board.{base_on, row_on};
-ghost use Rattle.layer.specs.Held.{board_in};
 ghost use Rattle.edges.specs.Edges.{edges_at};
 ghost use Rattle.sweeps.specs.Sweeps.{Ways, Meant, Aims};
 ghost use Rattle.search.specs.Plan.{lowest};
@@ -17,8 +15,8 @@ ghost use Rattle.wayback.specs.Least.{EdgeMet, Guided};
 ghost use Rattle.wayback.specs.Held.{LegibleIn, edge_in, SpreadIn, ListedIn, LeadingIn, StateMetIn, AllMetIn, BackedIn, KeptIn, WalkedIn};
 
 use edges::EdgeTable;
-use layer::Board;
 use leaf::MARK;
+use settle::ListedActions;
 use sweeps::{LeafWays, settle_along};
 
 mod held;
@@ -300,12 +298,10 @@ fn ways_of<'a>(
     }
 }
 
-// From a state of the settled prices of the leaf behind i leaves back to one that has kept the price that the layer began with, by these actions. The state
-// where that ends. `tight` is lent to work in: its words afterwards are left to the program, its length stays.
+// From a state of the settled prices of a leaf back to one that has kept the price that the layer began with, by the actions of a list. The state where
+// that ends. `tight` is lent to work in: its words afterwards are left to the program, its length stays.
 pub fn leaf_back(
-    board: &Board<'_>,
-    i: usize,
-    acts: &[u8],
+    actions: &ListedActions<'_>,
     edges: &EdgeTable<'_>,
     begins: &[u64],
     prices: &[u64],
@@ -313,36 +309,32 @@ pub fn leaf_back(
     tight: &mut [u8],
     out: &mut PlanBuffer<'_>,
 ) -> usize
-    requires leaf { i < board.now.leaves }
-    requires walkable { Walkable board.now.moves.now (row_on (board_in board.now)) (base_on (board_in board.now) i) board.now.costs.now acts.now (length acts.now)
+    requires walkable { Walkable actions.now.moves.now actions.now.row actions.now.at actions.now.costs.now actions.now.acts.now (length actions.now.acts.now)
         begins.now prices.now state }
     requires place { out.old.place + 256 ≤ mark }
-    requires covers { Covers edges.now.list.now edges.now.ends.now board.now.moves.now (row_on (board_in board.now)) (base_on (board_in board.now) i) acts.now (length acts.now)
-        (length prices.now) }
-    requires spread { Spread edges.now.list.now edges.now.ends.now (base_on (board_in board.now) i) (length prices.now) (length tight.old) }
+    requires covers { Covers edges.now.list.now edges.now.ends.now actions.now.moves.now actions.now.row actions.now.at actions.now.acts.now
+        (length actions.now.acts.now) (length prices.now) }
+    requires spread { Spread edges.now.list.now edges.now.ends.now actions.now.at (length prices.now) (length tight.old) }
     ensures kept { KeptIn out.old out.new }
-    ensures walked { WalkedIn (table_back board.now.moves.now (row_on (board_in board.now)) (base_on (board_in board.now) i) board.now.costs.now acts.now (length acts.now)
-        begins.now prices.now state) out.old result out.new }
+    ensures walked { WalkedIn (table_back actions.now.moves.now actions.now.row actions.now.at actions.now.costs.now actions.now.acts.now
+        (length actions.now.acts.now) begins.now prices.now state) out.old result out.new }
     ensures lengths { length tight.new ≡ length tight.old }
 {
+    let ListedActions {
+        moves,
+        row,
+        at,
+        costs,
+        acts,
+    } = *actions;
     if acts.is_empty() {
         return state;
     }
     let index = index_of(acts);
-    let row = board.states();
-    let at = board.leaf(i).start;
-    let ways = ways_of(
-        board.moves,
-        row,
-        at,
-        board.costs,
-        &index,
-        edges.list,
-        edges.ends,
-    );
+    let ways = ways_of(moves, row, at, costs, &index, edges.list, edges.ends);
     let mut stops = [0usize; 257];
     tight_edges(prices, &ways, tight, &mut stops);
-    let listed = ways_of(board.moves, row, at, board.costs, &index, tight, &stops);
+    let listed = ways_of(moves, row, at, costs, &index, tight, &stops);
     let mut depths = [0u64; 256];
     tight_back(
         &listed,

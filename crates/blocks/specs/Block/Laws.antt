@@ -351,6 +351,15 @@ module _ (bound : ℕ) (K W : List ℕ) (m n : ℕ) (few : n ≤ 16 * m) (low : 
       },
     )
 
+  -- the same where k is the first of its keys that is the word, or as many as there are: one of them is the word
+  pub under_first : (b w k : ℕ) → Picked bound W m b → get_or W b 0 ≡ w → k ≤ block_size n b → NoneIs (drop (b * 16) K) k w
+      → (k < block_size n b → get_or (drop (b * 16) K) k 0 ≡ w) → (get_or K (b * 16 + k) 0 ≡ w) × Picked bound K n (b * 16 + k)
+  under_first b w k p e most before here = go (dec_lt k (block_size n b))
+    where
+      go : Dec (k < block_size n b) → (get_or K (b * 16 + k) 0 ≡ w) × Picked bound K n (b * 16 + k)
+      go (yes l) = under_found b w (b * 16 + k) p e (record { place = k; is = refl; first = record { inside = l; before = before; here = here l } })
+      go (no d) = absurd (picked_there b w p e (λ i l q. before i (omega arith) q))
+
 -- the word of a block is the mark if its keys are
 under_mark : (K W : List ℕ) (m n : ℕ) → Under K W m n → (b : ℕ) → b < m → ((u : ℕ) → u < n → u / 16 ≡ b → get_or K u 0 ≡ mark) → get_or W b 0 ≡ mark
 under_mark K W m n r b l all = go (r.held b l)
@@ -360,7 +369,7 @@ under_mark K W m n r b l all = go (r.held b l)
     go (inr h) = sym h.key ∙ all h.node h.inside h.block
 
 -- the choice among the upper words is that among those of the first n nodes: the others are the mark
-upper_fewer : (bound : ℕ) (C : List ℕ) (n : ℕ) → bound ≤ mark → n ≤ 4096 → Blocked C n
+pub upper_fewer : (bound : ℕ) (C : List ℕ) (n : ℕ) → bound ≤ mark → n ≤ 4096 → Blocked C n
     → choose_by bound (upper_words C) ((n + 255) / 256) ≡ choose_by bound (upper_words C) 16
 upper_fewer bound C n low few r =
     choose_fewer bound (upper_words C) ((n + 255) / 256) 16 (omega arith)

@@ -89,7 +89,7 @@ module _ (b : Board) (sound : Sound b) where
     each j x k m (inl f) = kept (base_on b j + x) f ∙ table.are j x k m f
     each j x k m (inr f) = let same = one_leaf i j s l k h g (omega arith) (omega arith) in rw (f, same) here
 
-    edges_more : EdgesTo b (s + 1) after (set ends (s + 1) end)
+    pub edges_more : EdgesTo b (s + 1) after (set ends (s + 1) end)
     edges_more =
         record {
           edges_long = rw wrote.kept table.edges_long;
@@ -100,7 +100,7 @@ module _ (b : Board) (sound : Sound b) where
         }
 
   -- where the edges of the next state begin, there is room for them
-  edges_room : (s : ℕ) (edges ends : List ℕ) → s < row_on b → EdgesTo b s edges ends → get_or ends s 0 + b.actions ≤ length edges
+  pub edges_room : (s : ℕ) (edges ends : List ℕ) → s < row_on b → EdgesTo b s edges ends → get_or ends s 0 + b.actions ≤ length edges
   edges_room s edges ends h table =
       omega (arith, table.room, suc-mul s b.actions, mul-le-mul_right b.actions h, table.edges_long)
 

@@ -101,7 +101,7 @@ pub front_none : (xs : List ℕ) → Front [] xs 0 xs
 front_none xs = record { many = refl; written = refl }
 
 -- one more entry is written
-front_more : {E xs acts : List ℕ} {n : ℕ} (a : ℕ) → n < length xs → Front E xs n acts → Front (E ++ (a ∷ [])) xs (n + 1) (set acts n a)
+pub front_more : {E xs acts : List ℕ} {n : ℕ} (a : ℕ) → n < length xs → Front E xs n acts → Front (E ++ (a ∷ [])) xs (n + 1) (set acts n a)
 front_more {E} {xs} {acts} {n} a h f =
     record { many = simp length-append (omega (arith, f.many)); written = rw f.written (push_more E xs n a f.many h) }
 

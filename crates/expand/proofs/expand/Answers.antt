@@ -12,13 +12,13 @@ use Rattle.expand.proofs.expand.Goals.{Start}
 
 -- the Board that is lent, and node u's row, which lies within the table
 abbrev board : Start → Board
-board s = board_in s.args.tables.now.board
+board s = board_in s.args.tables.now.offers.board
 
 row_fits : (s : Start) → s.args.u * (40 + row_on (board s)) + (40 + row_on (board s)) ≤ length s.args.table.now
 row_fits s =
     let room = s.requires.room in
-    let inside : s.args.u < s.args.tables.now.nodes + 1 = omega (arith, s.requires.inside, room.count_few) in
-    row_in_lem (row_on (board s)) (s.args.tables.now.nodes + 1) s.args.u s.args.table.now inside room.table_long
+    let inside : s.args.u < s.args.tables.now.offers.nodes + 1 = omega (arith, s.requires.inside, room.count_few) in
+    row_in_lem (row_on (board s)) (s.args.tables.now.offers.nodes + 1) s.args.u s.args.table.now inside room.table_long
 
 row_at : (s : Start) (n : ℕ) → n ≡ row_on (board s) → s.args.u * (40 + n) + (40 + n) ≤ length s.args.table.now
 row_at s n e = rw e (row_fits s)
@@ -44,8 +44,7 @@ invariant_of-node c =
     let r = c.list_reached-reached in
     let has = row_has n c.args.u c.args.table.now c.read_spot.result w.new.into _ (row_at s n is) c.read_spot.ensures w.ensures in
     let prices_long : length c.args.desk.now.prices ≡ 1024 = search rules in
-    let list_long : length c.args.desk.now.reached ≡ 1024 = search rules in
-    let listed_in : r.result ≤ length r.new.list = omega (arith, r.ensures.lengths, r.ensures.listed.0, list_long) in
+    let listed_in : r.result ≤ length r.new.list = omega (arith, r.ensures.lengths, r.ensures.listed.0, c.requires.long.0) in
     record {
       few = c.states-states.ensures.few;
       long = omega (arith, w.auto.into, prices_long, c.states-states.ensures.few);

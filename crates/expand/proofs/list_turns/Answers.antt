@@ -12,19 +12,19 @@ use Rattle.expand.proofs.list_turns.Goals.{Start}
 
 -- the Board that is lent
 abbrev board : Start → Board
-board s = board_in s.args.tables.now.board
+board s = board_in s.args.tables.now.offers.board
 
 -- what a hop's word tells of the node: it was made by that hop, and has its parent's prices
 hop : (s : Start) (word : ℕ)
-    → (let a = s.args in let o = a.opened.now in word ≡ hop_behind o.node.states a.tables.now.board.actions a.table.now a.tables.now.hops.now o.number o.node.prices.now)
+    → (let a = s.args in let o = a.opened.now in word ≡ hop_behind o.node.states a.tables.now.offers.board.actions a.table.now a.tables.now.hops.now o.number o.node.prices.now)
     → (word ≡ 0 → ⊥)
     → let a = s.args in let o = a.opened.now in let n = node_in (row_on (board s)) a.table.now o.number in
-    (n.parent < o.number) × (n.action < a.tables.now.board.actions) × (get_or a.tables.now.hops.now n.action 0 ≡ word)
+    (n.parent < o.number) × (n.action < a.tables.now.offers.board.actions) × (get_or a.tables.now.hops.now n.action 0 ≡ word)
     × ((node_in (row_on (board s)) a.table.now n.parent).prices ≡ take (row_on (board s)) o.node.prices.now)
 hop s word e d =
     let a = s.args in
     let o = a.opened.now in
-    hop_told (row_on (board s)) a.tables.now.board.actions a.table.now a.tables.now.hops.now o.number o.node.prices.now word
+    hop_told (row_on (board s)) a.tables.now.offers.board.actions a.table.now a.tables.now.hops.now o.number o.node.prices.now word
     s.requires.mets_len.2 (rw s.requires.states at o.node.long) (rw s.requires.states at e) d
 
 pub list_mets-many-requires-clause-class : goal.list_mets-many-requires-clause-class
@@ -41,7 +41,7 @@ pub cost_of-cost-requires : goal.cost_of-cost-requires
 cost_of-cost-requires c =
     let s = (goal.at.cost_of-cost-requires c).Start in
     let known = (hop s c.hop_behind-word.result c.hop_behind-word.ensures c.if-word-eq0.false).1 in
-    let sound = c.args.tables.now.board.sound in
+    let sound = c.args.tables.now.offers.board.sound in
     let below = rw (action_word (row_on (board s)) c.args.opened.now.number c.args.table.now) at known in
     let here = rw (← c.requires.states) at below in
     omega (arith, here, sound.few_actions, sound.few_leaves)
@@ -53,7 +53,7 @@ drop_detours-requires c =
     let made = hop s c.hop_behind-word.result c.hop_behind-word.ensures c.if-word-eq0.false in
     let few : c.hop_behind-word.result ≤ 8192 = rw made.2 at (t.hopped.few (node_in (row_on (board s)) c.args.table.now c.args.opened.now.number).action) in
     let m = c.list_mets-many.ensures in
-    (t.hopped.long, t.wayed.long, t.board.sound.costs_long, m.lengths ∙ c.requires.mets_len.0, m.few, few, c.if-word-eq0.false, t.hopped.few)
+    (t.hopped.long, t.wayed.long, t.offers.board.sound.costs_long, m.lengths ∙ c.requires.mets_len.0, m.few, few, c.if-word-eq0.false, t.hopped.few)
 
 pub returns : goal.returns
 returns c =
@@ -66,10 +66,10 @@ returns c =
     let made = hop s word c.hop_behind-word.ensures c.if-word-eq0.false in
     let m = c.list_mets-many in
     let d = rw (c.cost_of-cost.ensures, c.requires.states, ← action_word (row_on b) o.number T) at c.drop_detours.ensures in
-    let D : ℕ → Bool = detours t.hops.now t.ways.now t.board.costs.now word (get_or t.board.costs.now (node_in (row_on b) T o.number).action 0) in
+    let D : ℕ → Bool = detours t.hops.now t.ways.now t.offers.board.costs.now word (get_or t.offers.board.costs.now (node_in (row_on b) T o.number).action 0) in
     let xs = m.new.list in
     let long : m.result ≤ length xs = omega (arith, m.ensures.few, m.ensures.lengths, c.requires.mets_len.0) in
-    let kept = kept_listed D xs (met_on b o.node.spot) t.board.actions m.result long m.ensures.listed in
+    let kept = kept_listed D xs (met_on b o.node.spot) t.offers.board.actions m.result long m.ensures.listed in
     let listed = rw (← d.0, ← d.1) at kept in (
       m.ensures.known,
       omega (arith, d.0, kept_few D xs m.result, m.ensures.few),

@@ -1,5 +1,5 @@
 -- `expand::turns` meets its contract: what is left of the expansion is the whole, from turn to turn. Assumes nothing.
-use Rattle.std.proofs.Common.{◌≡◌, refl, Ok, Err, arith, length, get_or, rules}
+use Rattle.std.proofs.Common.{◌≡◌, refl, ◌∙◌, Ok, Err, arith, length, get_or, rules}
 use Rattle.std.proofs.lemmas.Result.{err_from_is_err_and}
 use Rattle.mets.specs.Listed.{past, past_more}
 use Rattle.expand.specs.Held.Turns.{passed_none, passed_more, passed_full, passed_next, passed_last, passed_all}
@@ -7,7 +7,7 @@ use Rattle.expand.proofs.turns.Goals as goal
 
 pub loop-a-init : goal.loop-a-init
 unfolding past
-loop-a-init c = (passed_none _ _ _ _ _ _ _ _ _ _ c.requires.room, c.requires.known)
+loop-a-init c = (passed_none _ _ _ _ _ _ _ _ _ _ c.requires.room, c.requires.known, refl, refl)
 
 pub turn-requires-clause-met : goal.turn-requires-clause-met
 turn-requires-clause-met c =
@@ -17,6 +17,11 @@ turn-requires-clause-met c =
 pub turn-requires-clause-inside : goal.turn-requires-clause-inside
 turn-requires-clause-inside c =
     (omega (arith, c.requires.inside, c.loop-a.invariant.0.more), c.requires.useful.listed.inside c.loop-a.a-index c.loop-a-test.true)
+
+pub turn-requires-clause-long : goal.turn-requires-clause-long
+turn-requires-clause-long c =
+    let l = c.loop-a in
+    (omega (arith, c.requires.long.0, l.invariant.2), omega (arith, c.requires.long.1, l.invariant.3))
 
 pub returns-in_err-going-clause-grown : goal.returns-in_err-going-clause-grown
 returns-in_err-going-clause-grown c =
@@ -57,7 +62,7 @@ loop-a-preserved c =
     passed_more _ _ _ _ _ _ _ _ _ _ n.spot n.paid n.prices.now c.requires.has c.requires.inside l.table l.scan l.going
     _ (useful.listed.inside l.a-index c.loop-a-test.true) reached c.turn.new.table c.turn.new.scan (Ok c.in_ok-going.going) c.in_ok-going.ensures.moved
     refl c.turn.auto.table long in
-    (rw (past_more (λ i. get_or c.args.mets.now i 0) l.a-index) passed, c.in_ok-going.ensures.known)
+    (rw (past_more (λ i. get_or c.args.mets.now i 0) l.a-index) passed, c.in_ok-going.ensures.known, c.turn.auto.begin ∙ l.invariant.2, c.turn.auto.room ∙ l.invariant.3)
 
 pub returns-clause-expanded : goal.returns-clause-expanded
 returns-clause-expanded c =

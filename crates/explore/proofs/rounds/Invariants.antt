@@ -9,9 +9,9 @@ use Rattle.explore.proofs.rounds.Given as goal
 abbrev pub invariant-loop-after : goal.invariant-loop-after
 invariant-loop-after l =
     let t = l.tables.task.now in
-    Ahead t l.search.nodes l.budget (all_states t) l.table l.scan l.run
-    × Known (board_in l.search.board) l.desk.bench.known
+    Ahead t l.search.offers.nodes l.budget (all_states t) l.table l.scan l.run
+    × Known (board_in l.search.offers.board) l.desk.known
     × (length l.table ≡ length l.initial.table)
 
 abbrev pub decreases-loop-after : goal.decreases-loop-after
-decreases-loop-after l = suc l.search.nodes - l.run.begun
+decreases-loop-after l = suc l.search.offers.nodes - l.run.begun

@@ -18,15 +18,15 @@ first_layer-requires c =
     let s = c.args.search.now in
     let suits = c.requires.suits in
     let h = t.tabled.is_starts in (
-      s.board.sound.few_all,
+      s.offers.board.sound.few_all,
       omega (arith, suits.valid.fields.few_leaves, h.long, suits.fits.leaves_is),
-      start_in t.task.now suits.valid (board_in s.board) suits.fits t.starts.now h,
-      take_replicate _ 1024 mark s.board.sound.few_all,
+      start_in t.task.now suits.valid (board_in s.offers.board) suits.fits t.starts.now h,
+      take_replicate _ 1024 mark s.offers.board.sound.few_all,
     )
 
 pub keep-requires-clause-room : goal.keep-requires-clause-room
 keep-requires-clause-room c =
-    let row = row_on_lem c.args.tables.now.task.now (board_in c.args.search.now.board) c.requires.suits.fits in
+    let row = row_on_lem c.args.tables.now.task.now (board_in c.args.search.now.offers.board) c.requires.suits.fits in
     (omega arith, omega (arith, row, c.requires.table))
 
 pub returns : goal.returns
@@ -38,7 +38,7 @@ returns c =
     let k = c.keep in
     let spot = rw suits.fits.factors_is at c.after-spot.ensures ∙ ap (centre_after (factor t) (initial t)) c.default.ensures ∙ initial_centre t suits.valid in
     let long : length c.args.scan.now ≡ 17696 = search rules in
-    start_is t (board_in s.board) s.effects.now s.goals.now s.goal suits c.args.tables.now.starts.now c.args.tables.now.tabled.is_starts
-    c.after-spot.result (drop (row_on (board_in s.board)) (replicate 1024 mark)) f.new.new
+    start_is t (board_in s.offers.board) s.effects.now s.offers.goals.now s.offers.goal suits c.args.tables.now.starts.now c.args.tables.now.tabled.is_starts
+    c.after-spot.result (drop (row_on (board_in s.offers.board)) (replicate 1024 mark)) f.new.new
     spot f.ensures c.args.table.now c.args.scan.now c.fresh.new.scan k.new.table k.new.scan k.result
     c.key_of.result long c.requires.heads c.fresh.ensures c.key_of.ensures k.ensures

@@ -11,10 +11,8 @@ use Rattle.std.proofs.Math.ListN.{get_or}
 use borrow.Author.Tests.{ltb-true, lt-ltb, le-ltb, eq-eqb, ne_eqb}
 use Rattle.loops.specs.Count.Laws.{list_length}
 use Rattle.task.specs.declared.Task.{Task}
-use Rattle.task.specs.Factors.{all_states}
 use Rattle.task.specs.Valid.{Valid}
 use Rattle.leaf.specs.Price.{mark}
-use Rattle.layer.specs.Board.{Board}
 use Rattle.search.specs.Node.{key}
 use Rattle.search.specs.Node.Laws.{list_entry}
 use Rattle.search.specs.Small.{made_key}
@@ -34,7 +32,7 @@ use Rattle.blocks.specs.Choice.{key_of, choose_by}
 use Rattle.offers.specs.declared.Run.{Run}
 use Rattle.offers.specs.declared.Full.{Full}
 use Rattle.explore.specs.declared.Stop.{Stop}
-use Rattle.expand.specs.Held.{Suits, expanded_of}
+use Rattle.expand.specs.Held.{expanded_of}
 use Rattle.explore.specs.Held.{stopped_of}
 use Rattle.offers.specs.Held.{best_number, search_of, run_of, Cached, Room}
 use Rattle.offers.specs.Held.Laws.{kept_length, node_at_lem, below_is, best_cap}

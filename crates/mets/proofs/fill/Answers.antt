@@ -20,14 +20,14 @@ behind f =
 pub list_flagged-requires-clause-flags : goal.list_flagged-requires-clause-flags
 list_flagged-requires-clause-flags c =
     let at = (goal.at.list_flagged-requires-clause-flags c).After-copy_from_slice in
-    let few = c.args.board.now.sound.few_actions in
+    let few = c.requires.conditions.0 in
     (few, flags_low _ c.args.centre _ _ _ _ _ few c.find.ensures (front at) (behind at))
 
 pub returns : goal.returns
 returns c =
     let at = (goal.at.returns c).After-copy_from_slice in
     let made = c.list_flagged.ensures in
-    let few = c.args.board.now.sound.few_actions in
+    let few = c.requires.conditions.0 in
     let right = flags_right _ c.args.centre _ _ _ _ _ few c.find.ensures (front at) (behind at) in
     let filled = slot_filled _ c.args.centre _ _ _ _ _ few c.find.ensures (front at) (behind at) c.list_flagged.new.slot (c.copy_from_slice.ensures.after ∙ c.requires.values.0) made.kept (made.listed _ right) in
     record { slot = filled.0; told = filled.1 }

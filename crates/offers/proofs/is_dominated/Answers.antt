@@ -1,5 +1,5 @@
 -- `offers::is_dominated` meets its contract: the prices are read where they stand, and a list for them. Assumes nothing.
-use Rattle.std.proofs.Common.{◌≡◌, sym, ap, ◌∙◌, List, ℕ, ◌≤◌, arith, length, take, rules}
+use Rattle.std.proofs.Common.{◌≡◌, sym, ap, ◌∙◌, List, ℕ, ◌≤◌, arith, length, take}
 use Rattle.layer.specs.Board.{row_on}
 use Rattle.layer.specs.Held.{board_in}
 use Rattle.rows.specs.Begun.{begun_words, read_from, read_begun, read_long, read_reaches}
@@ -16,18 +16,11 @@ abbrev S : Start → ℕ
 S s = row_on (board_in s.args.tables.now.board)
 
 abbrev begun : Start → List ℕ
-begun s = let a = s.args in begun_words a.still (S s) a.from.now.node.prices.now a.bench.now.next
-
--- both lists of prices that may be read are long enough
-old_long : (s : Start) → S s ≤ length s.args.from.now.node.prices.now
-old_long s = rw s.requires.states at s.args.from.now.node.long
-
-new_long : (s : Start) → S s ≤ length s.args.bench.now.next
-new_long s = let long : length s.args.bench.now.next ≡ 1024 = search rules in omega (arith, long, s.requires.room.few_states)
+begun s = let a = s.args in begun_words a.from.now.still (S s) a.from.now.prices.now a.begin.now
 
 -- the prices that are read are those of the begin
-read_take : (s : Start) (r : List ℕ) → r ≡ (let a = s.args in read_from a.still a.from.now.node.prices.now a.bench.now.next) → take (S s) r ≡ take (S s) (begun s)
-read_take s r e = let a = s.args in ap (take (S s)) e ∙ read_begun a.still (S s) a.from.now.node.prices.now a.bench.now.next (old_long s)
+read_take : (s : Start) (r : List ℕ) → r ≡ (let a = s.args in read_from a.from.now.still a.from.now.prices.now a.begin.now) → take (S s) r ≡ take (S s) (begun s)
+read_take s r e = let a = s.args in ap (take (S s)) e ∙ read_begun a.from.now.still (S s) a.from.now.prices.now a.begin.now s.requires.old.0
 
 pub recent_place-place-requires : goal.recent_place-place-requires
 recent_place-place-requires c = omega (arith, class_lt c.args.next.spot, c.class_of-class.ensures)
@@ -36,23 +29,22 @@ pub invariant_of-candidate : goal.invariant_of-candidate
 invariant_of-candidate c =
     let s = (goal.at.invariant_of-candidate c).Start in
     let a = c.args in
-    let old = a.from.now.node in
+    let old = a.from.now in
     let m = c.list_begin-many in
-    let long : length a.bench.now.room ≡ 5120 = search rules in
-    let made_in : m.result ≤ length m.new.room = omega (arith, m.ensures.0, m.auto.room, long) in
+    let made_in : m.result ≤ length m.new.room = omega (arith, m.ensures.0, m.auto.room, c.requires.long.1) in
     let is = c.states-states.ensures.is in
     let e = c.read_from.ensures in
     let f = c.read_from-2.ensures in
-    let prices = read_is a.still old.prices.now a.bench.now.next c.read_from.result.now e.moves e.stays in
-    let list = read_is a.still old.list.now (take m.result m.new.room) c.read_from-2.result.now f.moves f.stays in
+    let prices = read_is old.still old.prices.now a.begin.now c.read_from.result.now e.moves e.stays in
+    let list = read_is old.still old.list.now (take m.result m.new.room) c.read_from-2.result.now f.moves f.stays in
     let made = rw is at m.ensures.1 in
     record {
       few = c.states-states.ensures.few;
-      long = rw (is, prices) (read_long a.still (S s) old.prices.now a.bench.now.next (old_long s) (new_long s));
+      long = rw (is, prices) (read_long old.still (S s) old.prices.now a.begin.now c.requires.old.0 c.requires.long.0);
       signed = rw is (c.requires.sign ∙ ap sign_of (sym (read_take s c.read_from.result.now prices)));
       reached = rw (is, prices, list)
-          (read_reaches a.still (S s) old.prices.now a.bench.now.next old.list.now (take m.result m.new.room) (rw c.requires.states at old.reached)
-          (λ z l. reaches_front (S s) a.bench.now.next m.new.room m.result made_in (made z l)));
+          (read_reaches old.still (S s) old.prices.now a.begin.now old.list.now (take m.result m.new.room) c.requires.old.1
+          (λ z l. reaches_front (S s) a.begin.now m.new.room m.result made_in (made z l)));
     }
 
 pub dominator-found-requires-clause-chained : goal.dominator-found-requires-clause-chained
@@ -61,11 +53,11 @@ dominator-found-requires-clause-chained c =
     let is = c.states-states.ensures.is in
     (omega (arith, room.count_few, room.few_nodes), rw is (rows_fit room c.args.run.count (omega (arith, room.count_few))), rw is room.chained)
 
-pub returns-clause-dominated : goal.returns-clause-dominated
-returns-clause-dominated c =
-    let s = (goal.at.returns-clause-dominated c).Start in
+pub returns : goal.returns
+returns c =
+    let s = (goal.at.returns c).Start in
     let a = c.args in
     let e = c.read_from.ensures in
-    let prices = read_is a.still a.from.now.node.prices.now a.bench.now.next c.read_from.result.now e.moves e.stays in
+    let prices = read_is a.from.now.still a.from.now.prices.now a.begin.now c.read_from.result.now e.moves e.stays in
     let told = dominator_tells _ _ _ _ c.dominator-found.result c.dominator-found.ensures in
     c.is_some.ensures ∙ rw (c.states-states.ensures.is, read_take s c.read_from.result.now prices) at told

@@ -1,6 +1,6 @@
 -- Laws of rows and goal states by tables, as the code reads them. Assumes nothing.
 use Rattle.std.specs.Prelude.{◌≡◌, refl, cond, ◌&&◌, List, ℕ, zero, suc, ◌+◌, ◌-◌, ◌*◌, ◌≤◌, ◌<◌, ltb, eqb, length, get_or, set, take, drop, replicate}
-use Rattle.std.proofs.Common.{sym, ◌∙◌, not-suc-le-zero, mul-le-mul, mul-le-mul_left, arith, length-drop, length-take, drop-drop}
+use Rattle.std.proofs.Common.{sym, ◌∙◌, not-suc-le-zero, mul-le-mul, mul-le-mul_left, arith, length-drop, length-take, length-take-le, drop-drop}
 use Rattle.std.proofs.Math.Path.{ap}
 use Rattle.leaf.specs.Price.{mark}
 use Rattle.leaf.specs.Settle.Turns.{at_any}
@@ -45,6 +45,42 @@ pub spot_at : (S : ℕ) (T : List ℕ) (u : ℕ) {row : List ℕ} → row ≡ ro
 unfolding node_of
 spot_at S T u e = ap spot_of e
 
+-- ---- the same as parts of the table
+
+module _ (S : ℕ) (T : List ℕ) (u : ℕ) where
+  -- the centre state, from the words of row u
+  pub spot_of_row : (n : ℕ) → n ≡ 40 + S → spot_of (take n (drop (u * (40 + S)) T)) ≡ (node_in S T u).spot
+  unfolding node_of
+  spot_of_row n e = rw e
+
+  -- n prices of node u, from the m-th on
+  pub prices_of_part : (n m : ℕ) → m + n ≤ S → take n (drop m (node_in S T u).prices) ≡ take n (drop (u * (40 + S) + (40 + m)) T)
+  unfolding node_of
+  prices_of_part n m h =
+      part_take n m S (drop 40 (row_in S T u)) h
+      ∙ ap (take n) (drop-drop m 40 (row_in S T u))
+      ∙ part_take n (40 + m) (40 + S) (drop (u * (40 + S)) T) (omega arith)
+      ∙ ap (take n) (drop-drop (40 + m) (u * (40 + S)) T)
+
+-- all prices of a node
+pub row_prices_at : (S : ℕ) (T : List ℕ) (u n : ℕ) → n ≡ S → take n (drop (u * (40 + S) + 40) T) ≡ (node_in S T u).prices
+unfolding node_of
+row_prices_at S T u n e =
+    rw (e, ← drop-drop 40 (u * (40 + S)) T) (sym (part_take S 40 (40 + S) (drop (u * (40 + S)) T) (omega arith)))
+
+-- the prices of a leaf in row u
+abbrev pub slice_on : Board → List ℕ → ℕ → ℕ → List ℕ
+slice_on b T i u = take (states_on b i) (drop (u * (40 + row_on b) + (40 + base_on b i)) T)
+
+module _ (b : Board) (sound : Sound b) (T : List ℕ) (i u : ℕ) (l : i < b.leaves) where
+  -- they are those of the node
+  pub slice_is : slice_on b T i u ≡ prices_on b T i u
+  slice_is = sym (prices_of_part (row_on b) T u (states_on b i) (base_on b i) (omega (arith, sound.bases_rise i l, base_in b sound i l)))
+
+  -- and there is one for each state
+  pub slice_length : RowIn (row_on b) T u → length (slice_on b T i u) ≡ states_on b i
+  slice_length h = length-take-le (states_on b i) _ (simp length-drop (omega (arith, sound.bases_rise i l, base_in b sound i l)))
+
 -- ---- what a layer began with
 
 -- node 0: the mark at all states but the initial one
@@ -66,6 +102,14 @@ pub begins_passed : (b : Board) (starts T : List ℕ) (i u p a : ℕ) (P : List 
     → pass mark (length P) (λ x. get_or b.moves (a * row_on b + base_on b i + x) 0) P (length P) ≡ begins_on b starts T i u
 begins_passed b starts T i u p a P z e q prices many =
     leaf_passed b i a P many ∙ rw (prices, e, q) (sym (begins_later b starts T i u z))
+
+-- the same by the part of the table where the parent's prices stand
+pub begins_passed_at : (b : Board) (starts T : List ℕ) (i u p a : ℕ) → Sound b → i < b.leaves → 0 < u → RowIn (row_on b) T p
+    → p ≡ (node_on b T u).parent → a ≡ (node_on b T u).action
+    → pass mark (length (slice_on b T i p)) (λ x. get_or b.moves (a * row_on b + base_on b i + x) 0) (slice_on b T i p) (length (slice_on b T i p))
+    ≡ begins_on b starts T i u
+begins_passed_at b starts T i u p a sound l z row e q =
+    begins_passed b starts T i u p a (slice_on b T i p) z e q (slice_is b sound T i p l) (slice_length b sound T i p l row)
 
 -- ---- one leaf's walk
 
@@ -115,6 +159,13 @@ unfolding over_on
 over_here b T i u p a z price P Q e q f prices inside g =
     let own : price ≡ get_or (prices_on b T i u) z mark = g ∙ at_any Q z 0 mark inside ∙ ap (λ (R : List ℕ). get_or R z mark) prices in
     rw (f, own, e, q)
+
+-- the same of any state z, by its price
+pub over_at : (b : Board) (T : List ℕ) (i u p a z price : ℕ) (P : List ℕ) → p ≡ (node_on b T u).parent → a ≡ (node_on b T u).action → P ≡ prices_on b T i p
+    → price ≡ get_or (prices_on b T i u) z mark
+    → lowest (length P) (λ x. eqb (get_or b.moves (a * row_on b + base_on b i + x) 0) (suc z) && eqb (get_or P x mark) price) ≡ over_on b T i u z
+unfolding over_on
+over_at b T i u p a z price P e q f g = rw (f, g, e, q)
 
 -- ---- goal states
 

@@ -74,6 +74,10 @@ module _ (S paid : ℕ) (row P : List ℕ) (c : Centre) (long : length row ≡ 4
       let higher = all_not S (not_higher row P) k h.inside (lt-leb _ _ h.above) in
       dominates_is S paid row P c long many ∙ rw (higher, and-false (leb (get_or row 32 0) paid)) (and-false same)
 
+  -- the centre state is another
+  pub test_other : same ≡ false → dominates (node_of S row) (node_with c paid (take S P) 0 0) ≡ false
+  test_other e = dominates_is S paid row P c long many ∙ rw e refl
+
   -- neither is: the centre state tells
   pub test_spot : get_or row 32 0 ≤ paid → NotAbove row P S → dominates (node_of S row) (node_with c paid (take S P) 0 0) ≡ same
   test_spot p q =
