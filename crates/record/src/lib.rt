@@ -31,7 +31,7 @@ fn blank_task() -> Task {
     }
 }
 
-// A whole task, field by field; on a refusal `into` is as it was.
+// A whole task, field by field; what `into` holds on a refusal is left to the program.
 fn read_task(r: &mut BitReader<'_>, into: &mut Task) -> Result<(), Refusal>
     requires { r.old.at < 2 ^ 10 }
     ensures told { task_of (next_field r.old.bytes.now) r.old.at ≡ told_in into.new result r.new.at }

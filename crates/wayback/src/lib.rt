@@ -46,10 +46,18 @@ impl<'a> PlanBuffer<'a> {
         ensures place { self.new.place ≡ self.old.place + 1 }
         ensures plan { self.new.plan.now ≡ put self.old.total self.old.place action self.old.plan.now }
     {
-        if self.place < self.total {
-            self.plan[self.place] = action;
-        }
+        put(self.plan, self.total, self.place, action);
         self.place += 1;
+    }
+}
+
+// An action at a place of the plan, of which only the first `total` places may be written.
+pub fn put(plan: &mut [u8], total: usize, place: usize, action: u8)
+    requires { total ≤ length plan.old }
+    ensures { plan.new ≡ put total place action plan.old }
+{
+    if place < total {
+        plan[place] = action;
     }
 }
 
